@@ -1,4 +1,4 @@
-ghost use Rattle.std.specs.Prelude.{◌≡◌, ◌+◌, ◌<◌, IfOk, None};
+ghost use Rattle.std.specs.Prelude.{◌≡◌, ◌+◌, ◌<◌, IfOk, None, OnErr};
 ghost use Rattle.pa_trace.specs.Limits.{IsWithinLimits};
 ghost use Rattle.pa_record.specs.RunText.{IsPrintable};
 ghost use Rattle.pa_rules.specs.Verdicts.{IsVerdict, turn};
@@ -108,6 +108,7 @@ fn clause_of(at: u32) -> Clause
 }
 
 // The first line at which a clause fails, if those before it hold. If it doesn't fail, what it leaves for the report is known.
+// If memory runs out, what was known stays.
 fn clause_fails(
     alloc: Global,
     salt: Salt,
@@ -121,6 +122,7 @@ fn clause_fails(
     requires known { KnowsBefore (turn clause) trace.now run.now records.now known.old }
     ensures line { IfOk result (TellsLine clause trace.now run.now) }
     ensures known { IfOk result (λ line. line ≡ None → KnowsBefore (turn clause + 1) trace.now run.now records.now known.new) }
+    ensures same { OnErr result (known.new ≡ known.old) }
 {
     match clause {
         Clause::Lines => Ok(lines_fail(trace, run)),

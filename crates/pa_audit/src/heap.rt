@@ -1,4 +1,4 @@
-ghost use Rattle.std.specs.Prelude.{◌≡◌, IfOk, None};
+ghost use Rattle.std.specs.Prelude.{◌≡◌, IfOk, None, OnErr};
 ghost use Rattle.std.specs.Option.{option_map};
 ghost use Rattle.pa_record.specs.RunText.{journal_of};
 ghost use Rattle.pa_rules.specs.declared.verdict.Clause.TheVariants as clauses;
@@ -47,7 +47,7 @@ fn pool_place(at: Option<u32>) -> Option<Place>
 }
 
 /// The first line at which a journal isn't right: a record's that was refused and names no Full of its line, or an entry's. If there is
-/// none, it is known what each root has at the end of each phase.
+/// none, it is known what each root has at the end of each phase. If memory runs out, what was known stays.
 pub fn roots_fail(
     alloc: Global,
     trace: &Trace,
@@ -59,6 +59,7 @@ pub fn roots_fail(
     ensures line { IfOk result (TellsLine clauses.Roots trace.now run.now) }
     ensures censuses { IfOk result (λ line. line ≡ None → KnowsCensuses trace.now run.now records.now known.new) }
     ensures ends { known.new.ends.items ≡ known.old.ends.items }
+    ensures same { OnErr result (known.new ≡ known.old) }
 {
     let place = first_place(alloc, trace, run, records, &mut known.censuses)?;
     Ok(line_where(run, place))
@@ -77,6 +78,7 @@ fn first_place(
         (TellsPlace (RootsDemand trace.now.partitions records.now run.now.pool.items (journal_of run.now))) }
     ensures censuses { IfOk result (λ place. place ≡ None → HaveAllCensuses trace.now.partitions (phases_in trace.now.lines) records.now
         run.now.pool.items (journal_of run.now) censuses.new.items) }
+    ensures same { OnErr result (censuses.new ≡ censuses.old) }
 {
     match refusals_meet(records, run.roots()) {
         Some(at) => Ok(Some(Place::Record(at))),
@@ -103,6 +105,7 @@ fn first_entry(
         (TellsEntry (λ p j. RootsDemand trace.now.partitions records.now run.now.pool.items (journal_of run.now) (places.Root p j))) }
     ensures censuses { IfOk result (λ entry. entry ≡ None → HaveAllCensuses trace.now.partitions (phases_in trace.now.lines) records.now
         run.now.pool.items (journal_of run.now) censuses.new.items) }
+    ensures same { OnErr result (censuses.new ≡ censuses.old) }
 {
     let pools = run.pool();
     let roots = run.roots();

@@ -1,4 +1,4 @@
-ghost use Rattle.std.specs.Prelude.{◌≡◌, IfOk, None};
+ghost use Rattle.std.specs.Prelude.{◌≡◌, IfOk, None, OnErr};
 ghost use Rattle.pa_rules.specs.declared.verdict.Clause.TheVariants as clauses;
 ghost use Rattle.pa_audit_report.specs.Known.{KnowsEnds, KnowsLists};
 ghost use Rattle.pa_audit.specs.Lined.{CanBeAudited, TellsLine};
@@ -30,7 +30,7 @@ pub fn holders_fail(
 }
 
 /// The first line at which the threads' lists of free slots require another answer or other entries. If there is none, it is
-/// known what the lists have at the end of each phase, and which home each slot has.
+/// known what the lists have at the end of each phase, and which home each slot has. If memory runs out, what was known stays.
 pub fn caches_fail(
     alloc: Global,
     salt: Salt,
@@ -45,10 +45,14 @@ pub fn caches_fail(
     ensures lists { IfOk result (λ line. line ≡ None → KnowsLists trace.now run.now records.now known.new) }
     ensures ends { known.new.ends.items ≡ known.old.ends.items }
     ensures censuses { known.new.censuses.items ≡ known.old.censuses.items }
+    ensures same { OnErr result (known.new ≡ known.old) }
 {
-    known.homes = homes_of(alloc, salt, run.roots())?;
-    let books = Books::of(alloc, trace.partitions, records, run.roots(), &known.homes)?;
-    let found = caches_meet(alloc, &books, trace.threads, known.ends.as_slice())?;
+    let homes = homes_of(alloc, salt, run.roots())?;
+    let found = {
+        let books = Books::of(alloc, trace.partitions, records, run.roots(), &homes)?;
+        caches_meet(alloc, &books, trace.threads, known.ends.as_slice())?
+    };
+    known.homes = homes;
     known.cached = found.cached;
     Ok(record_line(found.misfit))
 }

@@ -1,4 +1,4 @@
-ghost use Rattle.std.specs.Prelude.{◌≡◌, OnOk, []};
+ghost use Rattle.std.specs.Prelude.{◌≡◌, ℕ, ◌<◌, OnErr, OnOk, []};
 ghost use Rattle.pa_record.specs.Census.{census};
 ghost use Rattle.pa_audit_heap.specs.Walking.{AreFilledUp};
 
@@ -41,7 +41,8 @@ impl Censuses {
 
     // What the root has now, for each phase up to this one that has no census yet. It is counted only if there is one.
     pub(crate) fn fill_up(&mut self, root: &Placement, to: u32) -> Result<(), OutOfMemory>
-        ensures { OnOk result (AreFilledUp (census root.now) to self.old self.new) }
+        ensures filled { OnOk result (AreFilledUp (census root.now) to self.old self.new) }
+        ensures some { OnErr result ((count : ℕ) × (count < to) × AreFilledUp (census root.now) count self.old self.new) }
     {
         let from = self.items.len();
         let to = to as usize;

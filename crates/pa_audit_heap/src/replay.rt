@@ -1,4 +1,4 @@
-ghost use Rattle.std.specs.Prelude.{◌≡◌, ◌≢◌, ℕ, ◌-◌, ◌%◌, ◌<◌, ◌≤◌, ◌^◌, ◌↔◌, IfNone, IfOk, IfSome, IsTrue, All, AllPairs, Contains, length, map, take};
+ghost use Rattle.std.specs.Prelude.{◌≡◌, ◌≢◌, ℕ, ◌-◌, ◌%◌, ◌<◌, ◌≤◌, ◌^◌, ◌↔◌, IfNone, IfOk, IfSome, IsTrue, OnErr, All, AllPairs, Contains, length, map, take};
 ghost use Rattle.pa_layout.specs.Limits.{most_supers};
 ghost use Rattle.pa_dense.specs.Act.{act_of};
 ghost use Rattle.pa_layout.specs.Pages.{supers_for};
@@ -41,7 +41,7 @@ impl Replay {
     }
 
     // Whether the entry fits. If it does, it is played. The entry of the pool that it names, if any, comes no earlier than
-    // those that the plan has.
+    // those that the plan has. If memory runs out, the root is as before.
     pub(crate) fn play(&mut self, pools: &[PoolEntry], act: Act<'_>) -> Result<bool, OutOfMemory>
         requires pool { DoAllFit self.old.plan.supers pools.now }
         requires few { length pools.now < 2 ^ 32 - 1 }
@@ -49,7 +49,8 @@ impl Replay {
         requires turn { self.old.root.turn < 2 ^ 62 }
         requires size { HasMapSize (act_of act) }
         requires asks { AsksFrom self.old.plan.entries (asked_by (act_of act)) }
-        ensures { IfOk result (TellsPlay pools.now (act_of act.entry) self.old.plan self.old.root self.new.plan self.new.root) }
+        ensures plays { IfOk result (TellsPlay pools.now (act_of act.entry) self.old.plan self.old.root self.new.plan self.new.root) }
+        ensures root { OnErr result (self.new.root ≡ self.old.root) }
     {
         match act {
             Act::Fill { class, pool, slots } => match pool {
@@ -95,8 +96,9 @@ impl Replay {
         requires few { length pools.now < 2 ^ 32 - 1 }
         requires step { IsInStep pools.now self.old.plan self.old.root }
         requires turn { self.old.root.turn < 2 ^ 62 }
-        ensures { IfOk result
+        ensures plays { IfOk result
             (TellsPlay pools.now (RootAct.Fill class None slots.now) self.old.plan self.old.root self.new.plan self.new.root) }
+        ensures root { OnErr result (self.new.root ≡ self.old.root) }
     {
         let placed = self.root.fill(&mut self.plan, class, fill_count(class))?;
         Ok(placed.pool.is_none() && are_named(placed.titles.as_slice(), slots))
@@ -115,8 +117,9 @@ impl Replay {
         requires step { IsInStep pools.now self.old.plan self.old.root }
         requires turn { self.old.root.turn < 2 ^ 62 }
         requires ahead { self.old.plan.entries ≤ asked }
-        ensures { IfOk result
+        ensures plays { IfOk result
             (TellsPlay pools.now (RootAct.Fill class (Some asked) slots.now) self.old.plan self.old.root self.new.plan self.new.root) }
+        ensures root { OnErr result (self.new.root ≡ self.old.root) }
     {
         if found_run(pools, asked, 1).is_none() {
             return Ok(false);
@@ -141,8 +144,9 @@ impl Replay {
         requires some { 0 < len }
         requires supers { supers_for len ≤ most_supers }
         requires ahead { self.old.plan.entries ≤ asked }
-        ensures { IfOk result
+        ensures plays { IfOk result
             (TellsPlay pools.now (RootAct.Map asked slot len) self.old.plan self.old.root self.new.plan self.new.root) }
+        ensures root { OnErr result (self.new.root ≡ self.old.root) }
     {
         let supers = supers_for(len);
         let Some(first) = found_run(pools, asked, supers) else {
@@ -164,8 +168,9 @@ impl Replay {
         requires step { IsInStep pools.now self.old.plan self.old.root }
         requires turn { self.old.root.turn < 2 ^ 62 }
         requires ahead { self.old.plan.entries ≤ asked }
-        ensures { IfOk result
+        ensures plays { IfOk result
             (TellsPlay pools.now (RootAct.Full (Some class) asked) self.old.plan self.old.root self.new.plan self.new.root) }
+        ensures root { OnErr result (self.new.root ≡ self.old.root) }
     {
         if !found_none(pools, asked, 1) {
             return Ok(false);

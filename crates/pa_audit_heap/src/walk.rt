@@ -1,4 +1,4 @@
-ghost use Rattle.std.specs.Prelude.{◌≡◌, ℕ, ◌-◌, ◌<◌, ◌≤◌, ◌^◌, ◌↔◌, min, IfOk, IsTrue, List, length};
+ghost use Rattle.std.specs.Prelude.{◌≡◌, ℕ, ◌-◌, ◌<◌, ◌≤◌, ◌^◌, ◌↔◌, min, IfOk, IsTrue, List, OnErr, length};
 ghost use Rattle.pa_record.specs.declared.pool.PoolEntry.{PoolEntry as Taken};
 ghost use Rattle.pa_record.specs.declared.root.RootEntry.{RootEntry as Entry};
 ghost use Rattle.pa_record.specs.Sound.{AsksFrom, least_after};
@@ -66,7 +66,9 @@ impl Walk {
         requires entries { length journal.now < 2 ^ 32 }
         requires within { at < length journal.now }
         requires walked { IsWalked supers phases records.now pools.now journal.now at self.old }
-        ensures { IfOk result (TellsWalk supers partitions phases records.now pools.now partition journal.now at self.new) }
+        ensures walks { IfOk result (TellsWalk supers partitions phases records.now pools.now partition journal.now at self.new) }
+        ensures root { OnErr result (self.new.replay.root ≡ self.old.replay.root) }
+        ensures least { OnErr result (self.new.least ≡ self.old.least) }
     {
         let entry = &journal[at];
         let Some(found) = record_of(records, entry.line()) else {

@@ -17,7 +17,7 @@ abbrev pub from_place : List (List Numbered) → ℕ → ℕ → List Numbered
 from_place lists first class = get_or lists (first + class) []
 
 -- As many lists stay as there were. Those from the first place to another are empty, and the others are as they were; of the
--- partition's that are left, so many slots are.
+-- partition's that are left, this many slots are.
 pub record AreEmptied (lists now : List (List Numbered)) (first at rest : ℕ) : Type 0 where
   pub many : length now ≡ length lists
   pub low : first ≤ at

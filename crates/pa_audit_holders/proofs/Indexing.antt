@@ -103,7 +103,7 @@ pub record HaveLinesTo (roots : List (List RootEntry)) (count : ℕ) (tables : L
 pub no_acts_past : (roots : List (List RootEntry)) (line p : ℕ) → length roots ≤ p → acts_of (journal_at roots) line p ≡ []
 no_acts_past roots line p past = ap (λ es. acts_on es line) (get_or_past roots p [] past)
 
--- the next entry, whose place comes after those of its line where the table has that
+-- the next entry, whose place comes after those of its line if the table has that
 pub lines_next : (journal : List RootEntry) (count : ℕ) (table : List (List ℕ)) (j place line : ℕ) (e : RootEntry) → AreOnLinesTo journal count table j → place ≡ j → slice_get journal j ≡ Some e → e.line ≡ line →
     AreOnLinesTo journal count (set table line (get_or table line [] ++ place ∷ [])) (j + 1)
 lines_next journal count table j place line e h same at is =

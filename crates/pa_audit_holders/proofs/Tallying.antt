@@ -21,7 +21,7 @@ cached_at partitions threads roots ps end all tallies h listed = record {
 
 -- ---- phase by phase
 
--- what is known at the end of a phase, whose records and those before it are the first so many
+-- what is known at the end of a phase, whose records and those before it are the first `count` ones
 pub record IsEnded (partitions threads : ℕ) (roots : Journals) (ps : List Played) (phase count : ℕ) (caches : List (List (List Numbered))) (tallies : List Tally) : Type 0 where
   pub low : IsLow (map (λ (x : Played). x.phase) ps) phase count
   pub sixteen : length caches ≡ 16

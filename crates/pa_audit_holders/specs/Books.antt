@@ -37,6 +37,7 @@ pub record RecordPage : Type 0 where
   pub roots : List (List RootEntry)
   pub told : Played
 
+-- the page of record x in the books
 abbrev pub page_of : RunBooks → Played → RecordPage
 page_of b x = record { partitions = b.partitions; roots = b.roots; told = x }
 

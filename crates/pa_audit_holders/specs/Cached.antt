@@ -16,11 +16,7 @@ use Rattle.pa_audit_records.specs.Cuts.{HasEach}
 abbrev pub HaveLed : ℕ → Journals → List Played → ℕ → Caches → Type 0
 HaveLed partitions roots ps end all = CachesTo partitions roots no_caches (take end ps) all
 
--- each record meets the clause of the caches
-abbrev pub MeetCaches : ℕ → Journals → List Played → Type 0
-MeetCaches partitions roots ps = (i : ℕ) → CachesDemand partitions roots ps (places.Record i)
-
--- each of the first records, this many of them, meets it, and they lead to these lists
+-- each of the first records, this many of them, meets the clause of the caches, and they lead to these lists
 pub record CachesSoFar (partitions : ℕ) (roots : Journals) (ps : List Played) (all : Caches) (end : ℕ) : Type 0 where
   pub met : (i : ℕ) → i < end → CachesDemand partitions roots ps (places.Record i)
   pub led : HaveLed partitions roots ps end all

@@ -15,6 +15,7 @@ TellsGives acts at xs None = (rest : List RootAct) → drop at acts ≡ gives xs
 unfoldable pub whole_purge : (ℕ → List Numbered) → List RootAct
 whole_purge lists = purge_acts lists 0 class_count
 
+-- how many slots a thread's lists of one partition have, of all classes
 unfoldable pub whole_count : (ℕ → List Numbered) → ℕ
 whole_count lists = listed_slots lists 0 class_count
 

@@ -28,6 +28,7 @@ pub record EntryMovesFit (ps : List Played) (before : List RootEntry) (e : RootE
   pub moves : AllFit ps (all_moves before) (moves_by e.line e.act)
   pub there : NamesNoneGone before e
 
+-- entry j of the journal is such a one, after those before it; past the end nothing is required
 abbrev pub EntryMovesFitAt : List Played → List RootEntry → ℕ → Type 0
 EntryMovesFitAt ps journal j = (e : RootEntry) → slice_get journal j ≡ Some e → EntryMovesFit ps (take j journal) e
 
@@ -55,10 +56,12 @@ pub record FoundIn (ps : List Played) (roots : Journals) (s : SlotName) (k n : �
   pub others : (q : ℕ) → q < n → (q ≡ partition → ⊥) → moves_at (roots q) s k ≡ []
   pub owner : TellsOwner ps (moves_at (roots partition) s k) s k o
 
+-- the slot's owner at the number by the one of the first n journals that moves it there; nothing if none does
 abbrev pub FoundSoFar : List Played → Journals → SlotName → ℕ → ℕ → Option Owner → Type 0
 FoundSoFar ps roots s k n None = (q : ℕ) → q < n → moves_at (roots q) s k ≡ []
 FoundSoFar ps roots s k n (Some o) = FoundIn ps roots s k n o
 
+-- the first owner if there is one, else the second
 abbrev pub either_of : Option Owner → Option Owner → Option Owner
 either_of (Some o) b = Some o
 either_of None b = b
@@ -88,6 +91,7 @@ first_in (Some place) partition at = Some place
 first_in None partition None = None
 first_in None partition (Some at) = Some (partition, at)
 
+-- the place of an entry, by its partition and its index in the journal
 abbrev pub entry_place : Option (ℕ × ℕ) → Option Place
 entry_place None = None
 entry_place (Some (p, j)) = Some (places.Root p j)

@@ -43,6 +43,7 @@ pub record IsHomeless (roots : Journals) (s : SlotName) : Type 0 where
   pub class : (p class : ℕ) → IsOfClass roots s p class → ⊥
   pub direct : (p : ℕ) → IsDirect roots s p → ⊥
 
+-- the slot has this home; if there is none, no entry of a journal handed it out
 abbrev pub TellsHome : Journals → SlotName → Option Home → Type 0
 TellsHome roots s None = IsHomeless roots s
 TellsHome roots s (Some h) = IsHomeOf roots s h

@@ -10,6 +10,7 @@ use Rattle.pa_rules.specs.Caches.{acts_of}
 abbrev pub no_entry : RootEntry
 no_entry = record { line = 0; act = Purge }
 
+-- what the entry at this index of the journal did
 abbrev pub did_at : List RootEntry → ℕ → RootAct
 did_at journal j = (slice_index_or journal j no_entry).act
 

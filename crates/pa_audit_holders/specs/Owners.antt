@@ -45,6 +45,7 @@ IsThreadsLine ps line thread = (x : Played) × IsOfLine ps line x × (thread ≡
 abbrev pub HolderNow : List Played → List Move → SlotName → ℕ → Holder → Type 0
 HolderNow ps own s k last = (h : Holder) × IsFirstHolder ps s k h × HolderAfter ps h own last
 
+-- the owner is that holder: the root or a thread; it is nobody if the slot has no holder there
 abbrev pub TellsOwner : List Played → List Move → SlotName → ℕ → Owner → Type 0
 TellsOwner ps own s k Nobody = (last : Holder) → HolderNow ps own s k last → ⊥
 TellsOwner ps own s k Root = HolderNow ps own s k InRoot
@@ -61,6 +62,7 @@ abbrev pub way_of : Course → Way
 way_of courses.Out = Out
 way_of courses.Back = Back
 
+-- the move of a slot at its number on this line, out of the root or back to it
 abbrev pub move_on : ℕ → Course → Numbered → Move
 move_on line course n = record { line = line; slot = n.slot; number = n.number; way = way_of course }
 
@@ -89,6 +91,7 @@ abbrev pub owner_after : Course → ℕ → Owner
 owner_after courses.Out thread = Thread thread
 owner_after courses.Back thread = Root
 
+-- the owner after a move; nobody if there was none before it, or if its line is of no record
 abbrev pub made_owner : Owner → Course → Option ℕ → Owner
 made_owner Nobody course thread = Nobody
 made_owner Root course None = Nobody
@@ -96,10 +99,12 @@ made_owner Root course (Some thread) = owner_after course thread
 made_owner (Thread t) course None = Nobody
 made_owner (Thread t) course (Some thread) = owner_after course thread
 
+-- the owner that a move on a line of this thread needs: the root if the slot goes out, the thread if it comes back
 abbrev pub needed_owner : Course → ℕ → Owner
 needed_owner courses.Out thread = Root
 needed_owner courses.Back thread = Thread thread
 
+-- this is the owner that a move needs; no owner is if its line is of no record
 abbrev pub IsNeeded : Owner → Course → Option ℕ → Type 0
 IsNeeded held course None = ⊥
 IsNeeded held course (Some thread) = held ≡ needed_owner course thread

@@ -31,7 +31,7 @@ BackRow roots line p class slot cache after =
     OnlyActs roots line p (gives (spilled class (slot ∷ cache p class)))
     × SameLists after (with_list cache p class (kept class (slot ∷ cache p class)))
 
--- the record is of one of 16 threads, and its op names one of four partitions
+-- a partition that the op names is one of four
 abbrev pub NamesPartition : Op → Type 0
 NamesPartition (ops.Alloc reg partition size) = partition < most_partitions
 NamesPartition (ops.Copy from to) = Unit {0}
@@ -42,6 +42,7 @@ NamesPartition (ops.Read reg place) = Unit {0}
 NamesPartition (ops.Swap cell reg) = Unit {0}
 NamesPartition ops.Purge = Unit {0}
 
+-- the record's thread is one of 16, and a partition that its op names is one of four
 abbrev pub IsOfThreads : Played → Type 0
 IsOfThreads x = (x.thread < most_threads) × NamesPartition x.op
 

@@ -15,7 +15,7 @@ use pa_rules::{Place, Played};
 use std::alloc::Global;
 
 /// The first place that doesn't meet what the clause `holders` asks of it: a record that made a slot which its thread doesn't
-/// have, or found a number at which its slot was gone for good; an entry of a journal that names a slot at a number where it
+/// have, or found a number at which its slot was gone for good; an entry of a journal that names a slot at a number at which it
 /// isn't free, whose holder isn't the one that the entry needs, or which was gone for good.
 pub fn holders_meet(
     alloc: Global,

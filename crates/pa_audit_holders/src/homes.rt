@@ -1,4 +1,4 @@
-ghost use Rattle.std.specs.Prelude.{◌≡◌, ℕ, ◌+◌, ◌*◌, ◌<◌, ◌^◌, [], ◌∷◌, Contains, IfOk, OnOk, length};
+ghost use Rattle.std.specs.Prelude.{◌≡◌, ℕ, ◌+◌, ◌*◌, ◌<◌, ◌^◌, [], ◌∷◌, Contains, IfOk, OnErr, OnOk, length};
 ghost use Rattle.pa_audit_records.specs.ByKeys.{value_at};
 ghost use Rattle.pa_machine.specs.declared.word.SlotName.{SlotName as Name};
 ghost use Rattle.pa_record.specs.Laws.{leaves_by};
@@ -59,7 +59,7 @@ fn enter_all(
     requires journal { journal_at roots.now partition ≡ journal.now }
     requires homes { HasHomes (journal_at roots.now) (value_at homes.old) }
     requires above { HasAbove (journal_at roots.now) partition 0 (value_at homes.old) }
-    ensures homes { OnOk result (HasHomes (journal_at roots.now) (value_at homes.new)) }
+    ensures homes { HasHomes (journal_at roots.now) (value_at homes.new) }
     ensures above { OnOk result (HasAbove (journal_at roots.now) (partition + 1) 0 (value_at homes.new)) }
 {
     for entry in journal.entries() {
@@ -77,7 +77,7 @@ fn enter_entry(
 ) -> Result<(), OutOfMemory>
     requires among { Contains (journal_at roots.now partition) entry.now }
     requires homes { HasHomes (journal_at roots.now) (value_at homes.old) }
-    ensures homes { OnOk result (HasHomes (journal_at roots.now) (value_at homes.new)) }
+    ensures homes { HasHomes (journal_at roots.now) (value_at homes.new) }
     ensures enters { OnOk result (EntersSlots (value_at homes.old) (value_at homes.new) (leaves_by entry.now.act)) }
 {
     match entry.act() {
@@ -110,7 +110,7 @@ fn enter_slots(
 ) -> Result<(), OutOfMemory>
     requires home { (s : Name) → Contains (names slots.now) s → IsHomeOf (journal_at roots.now) s home }
     requires homes { HasHomes (journal_at roots.now) (value_at homes.old) }
-    ensures homes { OnOk result (HasHomes (journal_at roots.now) (value_at homes.new)) }
+    ensures homes { HasHomes (journal_at roots.now) (value_at homes.new) }
     ensures enters { OnOk result (EntersSlots (value_at homes.old) (value_at homes.new) (names slots.now)) }
 {
     for slot in slots {
@@ -128,8 +128,9 @@ fn enter(
 ) -> Result<(), OutOfMemory>
     requires home { IsHomeOf (journal_at roots.now) slot home }
     requires homes { HasHomes (journal_at roots.now) (value_at homes.old) }
-    ensures homes { OnOk result (HasHomes (journal_at roots.now) (value_at homes.new)) }
+    ensures homes { HasHomes (journal_at roots.now) (value_at homes.new) }
     ensures enters { OnOk result (EntersSlots (value_at homes.old) (value_at homes.new) (slot ∷ [])) }
+    ensures same { OnErr result ((q : ℕ) → value_at homes.new q ≡ value_at homes.old q) }
 {
     homes.put(key(slot), home)?;
     Ok(())

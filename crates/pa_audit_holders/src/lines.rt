@@ -1,4 +1,4 @@
-ghost use Rattle.std.specs.Prelude.{◌≡◌, ℕ, ◌<◌, ◌++◌, [], ◌∷◌, All, IfOk, OnOk, length, slice_index_or, slice_set};
+ghost use Rattle.std.specs.Prelude.{◌≡◌, ℕ, ◌<◌, ◌++◌, [], ◌∷◌, All, IfOk, OnErr, OnOk, length, slice_index_or, slice_set};
 ghost use Rattle.pa_rules.specs.Roots.{journal_at};
 ghost use Rattle.pa_audit_holders.specs.Lines.{AreOnLines, HaveLines};
 
@@ -9,7 +9,7 @@ use smallvec::SmallVec;
 use std::alloc::Global;
 use std::marker::Model;
 
-// Indices into a journal, of which four need no memory of their own. They are seen as the list of them.
+// Indices into a journal. Four of them need no memory of their own. They are seen as the list of them.
 #[derive(Drop)]
 pub(crate) struct Places {
     of: SmallVec<u32, 4>,
@@ -33,7 +33,8 @@ impl Places {
     }
 
     fn push(&mut self, place: u32) -> Result<(), OutOfMemory>
-        ensures { OnOk result (self.new ≡ self.old ++ place ∷ []) }
+        ensures pushed { OnOk result (self.new ≡ self.old ++ place ∷ []) }
+        ensures same { OnErr result (self.new ≡ self.old) }
     {
         self.of.push(place)?;
         Ok(())
@@ -75,7 +76,8 @@ impl ByLine {
 
     // Appends an index to those of its line, if the line is there.
     fn enter(&mut self, line: usize, place: u32) -> Result<(), OutOfMemory>
-        ensures { OnOk result (self.new ≡ slice_set self.old line (slice_index_or self.old line [] ++ place ∷ [])) }
+        ensures entered { OnOk result (self.new ≡ slice_set self.old line (slice_index_or self.old line [] ++ place ∷ [])) }
+        ensures same { OnErr result (self.new ≡ self.old) }
     {
         if line < self.lines.len() {
             self.lines[line].push(place)?;

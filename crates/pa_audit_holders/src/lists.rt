@@ -51,7 +51,8 @@ impl FreeSlots {
 
     // Replaces these slots by others.
     pub(crate) fn refill(&mut self, slots: &[Numbered]) -> Result<(), OutOfMemory>
-        ensures { OnOk result (self.new ≡ slots.now) }
+        ensures slots { OnOk result (self.new ≡ slots.now) }
+        ensures none { OnErr result (self.new ≡ []) }
     {
         self.clear();
         self.slots.extend_from_slice(slots)?;
@@ -60,7 +61,8 @@ impl FreeSlots {
 
     // Puts a slot at the front.
     pub(crate) fn put_front(&mut self, slot: Numbered) -> Result<(), OutOfMemory>
-        ensures { OnOk result (self.new ≡ slot ∷ self.old) }
+        ensures put { OnOk result (self.new ≡ slot ∷ self.old) }
+        ensures same { OnErr result (self.new ≡ self.old) }
     {
         if self.unused == 0 {
             self.unused = put_unused(&mut self.slots)?;

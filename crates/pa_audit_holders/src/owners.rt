@@ -1,4 +1,4 @@
-ghost use Rattle.std.specs.Prelude.{◌≡◌, ℕ, ◌+◌, ◌*◌, ◌<◌, ◌↔◌, [], ◌∷◌, ◌++◌, IfNone, IfOk, IfSome, IsTrue, List, None, OnOk, Some, filter};
+ghost use Rattle.std.specs.Prelude.{◌≡◌, ℕ, ◌+◌, ◌*◌, ◌<◌, ◌↔◌, [], ◌∷◌, ◌++◌, IfNone, IfOk, IfSome, IsTrue, List, None, OnErr, OnOk, Some, filter};
 ghost use Rattle.pa_audit_records.specs.ByKeys.{value_at};
 ghost use Rattle.pa_machine.specs.declared.word.SlotName.{SlotName as Name};
 ghost use Rattle.pa_rules.specs.Holders.{Move, is_move_of};
@@ -84,7 +84,8 @@ pub(crate) fn returns_of(
 
 // Enters the thread of a record whose step returned a slot.
 fn enter_return(firsts: &mut ByKey<u32>, told: Played) -> Result<(), OutOfMemory>
-    ensures { OnOk result (EntersReturn told (value_at firsts.old) (value_at firsts.new)) }
+    ensures enters { OnOk result (EntersReturn told (value_at firsts.old) (value_at firsts.new)) }
+    ensures same { OnErr result ((q : ℕ) → value_at firsts.new q ≡ value_at firsts.old q) }
 {
     match returned(told) {
         Some(slot) => firsts.put(key_at(slot), told.thread),
@@ -192,6 +193,7 @@ pub(crate) fn move_slot(
         → HasOwners records.now (ms ++ move_on mover.line course slot ∷ []) (value_at owners.new)) }
     ensures fits { IfOk result (λ b. (ms : List Move) → HasOwners records.now ms (value_at owners.old)
         → IsTrue b ↔ MoveFits records.now ms (move_on mover.line course slot)) }
+    ensures same { OnErr result ((q : ℕ) → value_at owners.new q ≡ value_at owners.old q) }
 {
     let held = owner_now(records, firsts, owners, slot);
     owners.put(key_at(slot), made(held, course, mover.thread))?;

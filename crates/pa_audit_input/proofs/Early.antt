@@ -151,7 +151,7 @@ first_part : (e : TraceFault) (front back : List ℕ) → length front ≡ most_
 first_part e front back full (inl h) = h
 first_part e front back full (inr h) = absurd (let s = h.1.short in omega (arith, s, full))
 
--- the parts where the run's part has begun
+-- the parts if the run's part has begun
 begun_early : (e : TraceFault) (bytes more front back line : List ℕ) (lines : List (List ℕ)) → lines_of back ≡ line ∷ lines
     → length bytes ≡ most_audited + 1 → IsParted front back bytes → IsFirstOfParts e front back → IsFirstAuditFault e (bytes ++ more)
 begun_early e bytes more front back line lines some full parted fault =
@@ -174,7 +174,7 @@ begun_early e bytes more front back line lines some full parted fault =
       fault = begun_fault e front back more (ap length (sym parted.parts) ∙ full) fault;
     }
 
--- no line of a text is `run 1` where the text has one with some lines before it
+-- no line of a text is `run 1` if the text has one with some lines before it
 has_run : (xs : List (List ℕ)) (ys : List (List ℕ)) → AllByRecursion (λ line. line ≡ run_line → ⊥) (xs ++ run_line ∷ ys) → ⊥
 has_run [] ys h = h.0 refl
 has_run (x ∷ xs) ys h = has_run xs ys h.1
@@ -219,7 +219,7 @@ front_fault e bytes more front back full h none parted =
     (parted.parts ∙ ap (λ (z : List ℕ). z ++ back) p.2 ∙ append_assoc p.0 p.1 back) (let same = p.3 in omega (arith, same, full)) in
     shared_front e bytes front p.0 p.1 w.0 p.3 w.1 p.2 h
 
--- the parts where it hasn't
+-- the parts if it hasn't
 whole_early : (e : TraceFault) (bytes more : List ℕ) → length bytes ≡ most_audited + 1 → IsFirstFault e bytes
     → AllByRecursion (λ line. line ≡ run_line → ⊥) (lines_of bytes) → IsFirstAuditFault e (bytes ++ more)
 whole_early e bytes more full h none =

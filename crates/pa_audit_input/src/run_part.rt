@@ -13,7 +13,7 @@ use std::alloc::Global;
 /// The most bytes of a trace and a run.
 pub const MOST_AUDITED: usize = 134_217_728;
 
-// The run whose text these bytes are. So many bytes and lines come before it. They are the rest of the input, or of what was read
+// The run whose text these bytes are. `before` bytes and `lines` lines come before it. They are the rest of the input, or of what was read
 // of it, which is one byte more than it may have.
 pub fn run_behind(
     alloc: Global,

@@ -167,7 +167,7 @@ steps_in cells ps A k marked old new low high left adds h j (x, y, at, here, inr
 pub marked_at : (marked : List Bool) (i : ℕ) (d : Bool) → i < length marked → get_or marked i d ≡ true → IsMarked marked i
 marked_at marked i d below is = here_is marked i d below ∙ ap Some is
 
--- what was in stays in where the record is marked
+-- what was in stays in if the record is marked
 pub in_skip : (marked : List Bool) (rest : List ℕ) (k j : ℕ) → IsMarked marked k → IsTakenUp marked (rest ++ k ∷ []) j → IsTakenUp marked rest j
 in_skip marked rest k j is (inl there) = inl there
 in_skip marked rest k j is (inr among) = elim (Contains-push_cases rest k j among) [

@@ -87,7 +87,7 @@ making_fills x s n (seen, usable, answer, slot, number) = (seen, ap (seen_by Fil
 writing_fills : (x : Played) (s : SlotName) (n value : ℕ) → IsWriting x s n value → DoesAt Fill x s n
 writing_fills x s n value (seen, reg, op, answer, slot, number) = (seen, ap (λ o. seen_by Fill o x.answer) op ∙ ap (seen_by Fill (ops.Write reg value)) answer, slot, number)
 
--- a fill is one or the other, and puts so much
+-- a fill is one or the other, and puts this value
 abbrev IsEither : Op → Answer → Seen → Type 0
 IsEither op answer seen = ((usable : ℕ) × (answer ≡ Made seen usable) × (put_by op answer ≡ 0)) ⊎ ((reg value : ℕ) × (op ≡ ops.Write reg value) × (answer ≡ Done seen) × (put_by op answer ≡ value))
 

@@ -1,5 +1,5 @@
 -- The tables of the records that filled a slot, of those that made it and of those that freed it, by slot and number.
-use Rattle.std.proofs.Common.{◌≡◌, ℕ, ◌+◌, ◌<◌, false, List, [], ◌∷◌, get_or, length, Option, Some, None, refl, sym, ◌∙◌, ap, subst, arith, inl, inr}
+use Rattle.std.proofs.Common.{◌≡◌, ℕ, ◌+◌, ◌<◌, false, List, ◌∷◌, get_or, length, Option, Some, None, refl, sym, ◌∙◌, ap, subst, arith, inl, inr}
 use Rattle.std.specs.Prelude.{slice_get, Contains}
 use Rattle.std.specs.Ordering.{nat_cmp, is_eq}
 use Rattle.std.specs.Cmp.{nat_cmp_is}
@@ -10,19 +10,18 @@ use Rattle.pa_machine.specs.declared.word.Step.{Step}
 use Rattle.pa_machine.specs.declared.word.Step.TheVariants as steps
 use Rattle.pa_machine.specs.Count.{number_of}
 use Rattle.pa_machine.specs.Run.{Mark, IsFirstAt, IsRunFrom}
-use Rattle.pa_machine.proofs.Runs.{number_stepped}
 use Rattle.pa_trace.specs.declared.script.Op.{Op}
 use Rattle.pa_trace.specs.declared.script.Op.TheVariants as ops
 use Rattle.pa_record.specs.declared.entry.Seen.{Seen}
 use Rattle.pa_record.specs.declared.entry.Answer.{Answer}
 use Rattle.pa_record.specs.declared.entry.Answer.TheVariants.{Made, Done}
-use Rattle.pa_lists.proofs.Members.{in_cases, not_in_none, of_some, not_some}
+use Rattle.pa_lists.proofs.Members.{of_some, not_some}
 use Rattle.pa_rules.specs.declared.played.Played.{Played}
 use Rattle.pa_rules.specs.declared.verdict.Place.TheVariants as places
 use Rattle.pa_rules.specs.Played.{mark_of_answer, mark_at, marks_of}
 use Rattle.pa_rules.specs.RecordDemands.{IsRecord, SlotsDemand}
 use Rattle.pa_rules.proofs.Marking.{mark_line}
-use Rattle.pa_rules.proofs.Running.{one_mark, run_rises, marks_differ}
+use Rattle.pa_rules.proofs.Running.{one_mark, marks_differ, same_word}
 use Rattle.pa_verdict.proofs.Runs.{same_run}
 use Rattle.pa_audit_records.specs.Keys.{word_key}
 use Rattle.pa_audit_records.specs.Marks.{IsSized}
@@ -80,33 +79,6 @@ makes_step kind line op answer seen e = absurd (not_some seen e)
 
 -- ---- a slot has one step at each number
 
-one_word : (ms : List Mark) (s : SlotName) (u : ℕ) (vs : List ℕ) (x y : ℕ) → IsRunFrom ms s u vs → Contains (u ∷ vs) x → Contains (u ∷ vs) y → number_of x ≡ number_of y → x ≡ y
-one_word ms s u [] x y run a b same = elim (in_cases u x [] a) [
-  | inl here ↦ elim (in_cases u y [] b) [
-    | inl there ↦ sym here ∙ there
-    | inr none ↦ absurd (not_in_none y none)
-  ]
-  | inr none ↦ absurd (not_in_none x none)
-]
-one_word ms s u (v ∷ vs) x y (m, p, first, can, is, rest) a b same =
-    let up : number_of v ≡ number_of u + 1 = ap number_of is ∙ number_stepped p u can in
-    elim (in_cases u x (v ∷ vs) a) [
-      | inl here ↦ elim (in_cases u y (v ∷ vs) b) [
-        | inl there ↦ sym here ∙ there
-        | inr later ↦
-            let low = run_rises ms s v vs y rest later in
-            let at = ap number_of here in
-            absurd (omega (arith, up, low, at, same))
-      ]
-      | inr later ↦ elim (in_cases u y (v ∷ vs) b) [
-        | inl there ↦
-            let low = run_rises ms s v vs x rest later in
-            let at = ap number_of there in
-            absurd (omega (arith, up, low, at, same))
-        | inr later' ↦ one_word ms s v vs x y rest later later' same
-      ]
-    ]
-
 -- two records of one line are one
 pub one_place : (ps : List Played) (i j : ℕ) (x y : Played) → RiseByLine ps → IsRecord ps i x → IsRecord ps j y → x.line ≡ y.line → i ≡ j
 one_place ps i j x y rising at at' same = elim (cases_lt i j) [
@@ -153,7 +125,7 @@ one_at kind ps rising slots i j x y s n at at' does does' =
     let b = step_of_slot kind ps j y s n (slots j) at' does' in
     let words : a.words ≡ b.words = same_run ms s 0 0 a.words b.words differ refl a.run b.run in
     let among : Contains (0 ∷ b.words) a.mark.found = subst (λ zs. Contains (0 ∷ zs) a.mark.found) words a.among in
-    let word : a.mark.found ≡ b.mark.found = one_word ms s 0 b.words a.mark.found b.mark.found b.run among b.among (a.number ∙ sym b.number) in
+    let word : a.mark.found ≡ b.mark.found = same_word ms s 0 b.words a.mark.found b.mark.found b.run among b.among (a.number ∙ sym b.number) in
     let first = subst (λ z. IsFirstAt ms s z a.mark a.step) word a.first in
     let mark : a.mark ≡ b.mark = one_mark ms s b.mark.found a.mark b.mark a.step b.step differ first b.first in
     one_place ps i j x y rising at at' (sym a.line ∙ ap (λ (z : Mark). z.line) mark ∙ b.line)

@@ -1,4 +1,4 @@
-ghost use Rattle.std.specs.Prelude.{◌≡◌, ◌↔◌, ℕ, ◌+◌, ◌<◌, ◌≤◌, ◌^◌, List, [], ◌++◌, Bool, true, false, IfOk, IsTrue, None, Some, OnOk, length, replicate, set};
+ghost use Rattle.std.specs.Prelude.{◌≡◌, ◌↔◌, ℕ, ◌+◌, ◌<◌, ◌≤◌, ◌^◌, List, [], ◌++◌, Bool, true, false, Contains, IfOk, IsTrue, None, Some, OnErr, OnOk, length, replicate, set};
 ghost use Rattle.pa_audit_records.specs.ByKeys.{value_at};
 ghost use Rattle.pa_machine.specs.Run.{Mark};
 ghost use Rattle.pa_rules.specs.Cells.{history_at};
@@ -42,7 +42,8 @@ pub(crate) fn no_cut(alloc: Global, salt: Salt, length: usize) -> Result<Cut, Ou
 
 // Puts a record on the stack, if there is one.
 fn push(stack: &mut Vec<u32>, at: Option<u32>) -> Result<(), OutOfMemory>
-    ensures { OnOk result (stack.new.items ≡ stack.old.items ++ as_list at) }
+    ensures pushed { OnOk result (stack.new.items ≡ stack.old.items ++ as_list at) }
+    ensures same { OnErr result (stack.new.items ≡ stack.old.items) }
 {
     if let Some(at) = at {
         stack.push(at)?;
@@ -59,7 +60,8 @@ fn raise_floor(
 ) -> Result<(), OutOfMemory>
     requires few { length records.now < 2 ^ 32 }
     requires within { floor.old ≤ length records.now }
-    ensures { OnOk result (AddsAll records.now phase stack.old.items floor.old stack.new.items floor.new) }
+    ensures all { OnOk result (AddsAll records.now phase stack.old.items floor.old stack.new.items floor.new) }
+    ensures some { OnErr result (Adds records.now phase stack.old.items floor.old stack.new.items floor.new) }
 {
     while *floor < records.len() && records[*floor].phase < phase {
         stack.push(*floor as u32)?;
@@ -82,7 +84,8 @@ fn add_steps(
     requires ready { IsPrepared (history_at cells.now) records.now previous.now givers.now }
     requires at { at < length records.now }
     requires within { floor.old ≤ length records.now }
-    ensures { OnOk result (AddsSteps (history_at cells.now) records.now at stack.old.items floor.old stack.new.items floor.new) }
+    ensures adds { OnOk result (AddsSteps (history_at cells.now) records.now at stack.old.items floor.old stack.new.items floor.new) }
+    ensures kept { OnErr result ((j : ℕ) → Contains stack.old.items j → Contains stack.new.items j) }
 {
     let told = records[at as usize];
     push(stack, previous[at as usize])?;
@@ -101,8 +104,9 @@ fn mark(
     requires at { at < length records.now }
     requires long { length marked.old.items ≡ length records.now }
     requires left { AreLeft records.now marked.old.items (value_at left.old) }
-    ensures marked { OnOk result (marked.new.items ≡ set marked.old.items at true) }
+    ensures marked { marked.new.items ≡ set marked.old.items at true }
     ensures left { OnOk result (AreLeft records.now (set marked.old.items at true) (value_at left.new)) }
+    ensures same { OnErr result ((q : ℕ) → value_at left.new q ≡ value_at left.old q) }
 {
     marked[at as usize] = true;
     if let Some(look) = look_of(records[at as usize]) {

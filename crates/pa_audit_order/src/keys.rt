@@ -1,4 +1,4 @@
-ghost use Rattle.std.specs.Prelude.{◌≡◌, ◌+◌, IfSome, IfNone, OnOk};
+ghost use Rattle.std.specs.Prelude.{◌≡◌, ◌+◌, ℕ, IfSome, IfNone, OnErr, OnOk};
 ghost use Rattle.std.specs.Ordering.{nat_cmp};
 ghost use Rattle.std.specs.BTreeMap.{get};
 ghost use Rattle.pa_audit_records.specs.Keys.{word_key};
@@ -48,7 +48,8 @@ pub(crate) fn least(map: &BTreeMap<u128, u32>, low: u128, last: u128) -> Option<
 
 // Raises the value at a key to this value.
 pub(crate) fn raise(map: &mut ByKey<u64>, key: u128, value: u64) -> Result<(), OutOfMemory>
-    ensures { OnOk result (Raises (value_at map.old) (value_at map.new) key value) }
+    ensures raises { OnOk result (Raises (value_at map.old) (value_at map.new) key value) }
+    ensures same { OnErr result ((q : ℕ) → value_at map.new q ≡ value_at map.old q) }
 {
     if let Some(old) = map.find(key) {
         if old >= value {

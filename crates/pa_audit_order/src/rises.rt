@@ -16,7 +16,7 @@ pub(crate) fn has_no_exchange(cells: &[History]) -> bool
     cells.iter().all(|history| history.entries().is_empty())
 }
 
-// Whether no record finds a lower number of its slot than one above it left.
+// Whether no record finds a number below one that an earlier record of the same slot left.
 pub(crate) fn numbers_rise(
     alloc: Global,
     salt: Salt,

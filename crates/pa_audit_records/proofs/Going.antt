@@ -1,4 +1,4 @@
--- The words of the slots along the records: where each record finds its slot's word, each slot has one run.
+-- The words of the slots along the records: if each record finds its slot's word, each slot has one run.
 use Rattle.std.proofs.Common.{◌≡◌, ℕ, zero, suc, ◌+◌, ◌<◌, ◌≤◌, List, [], ◌∷◌, ◌++◌, take, get_or, length, Option, Some, None, refl, sym, ◌∙◌, ap, subst, arith, inl, inr, append-nil}
 use Rattle.std.specs.Prelude.{slice_get, Contains}
 use Rattle.std.specs.List.{cons_option}

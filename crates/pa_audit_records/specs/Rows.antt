@@ -49,6 +49,7 @@ abbrev pub AnswersOne : (SlotName → Answer → Type 0) → Result SlotName Ans
 AnswersOne goes (Ok s) answer = goes s answer
 AnswersOne goes (Err refusal) answer = answer ≡ refusal
 
+-- an op that its register refuses has that answer; else its step on the slot, or its look at it, says which it may have
 abbrev pub AnswersNext : (steps looks : SlotName → Answer → Type 0) → Next SlotName → Answer → Type 0
 AnswersNext steps looks (Refused refusal) answer = answer ≡ refusal
 AnswersNext steps looks (Step s) answer = steps s answer
@@ -66,6 +67,7 @@ AnswersReset holds answer = AnswersOne IsDoneAt (reset_next holds) answer
 abbrev pub IsLookedAt : (Seen → Answer) → SlotName → Answer → Type 0
 IsLookedAt looked s answer = (seen : Seen) × (seen.slot ≡ s) × (answer ≡ looked seen)
 
+-- a free, by what its register holds; through a raw_ptr it only looks
 abbrev pub AnswersFree : Reg → Answer → Type 0
 AnswersFree holds answer = AnswersNext IsDoneAt (IsLookedAt looked_free) (free_next holds) answer
 
@@ -75,6 +77,7 @@ AnswersOwnWrite s answer =
     (seen : Seen) × (seen.slot ≡ s)
     × (((0 < refs_of seen.found.0) × (answer ≡ Shared seen)) ⊎ ((refs_of seen.found.0 ≡ 0) × (answer ≡ Done seen)))
 
+-- a write, by what its register holds; through a raw_ptr it only looks
 abbrev pub AnswersWrite : Reg → Answer → Type 0
 AnswersWrite holds answer = AnswersNext AnswersOwnWrite (IsLookedAt looked_write) (write_next holds) answer
 

@@ -14,6 +14,7 @@ use Rattle.pa_audit_records.specs.Marks.{IsSized}
 abbrev pub IsStepOf : Played → ℕ → Type 0
 IsStepOf x q = (m : Mark) × (mark_of x ≡ Some m) × IsSome m.step × (word_key m.slot m.found ≡ q)
 
+-- record i made such a step
 abbrev pub IsStepAt : List Played → ℕ → ℕ → Type 0
 IsStepAt ps i q = (x : Played) × IsRecord ps i x × IsStepOf x q
 
@@ -28,6 +29,7 @@ pub record AreFirstsFrom (ps : List Played) (at : ℕ → Option ℕ) (k : ℕ) 
   pub miss : (q j : ℕ) → at q ≡ None → k ≤ j → IsStepAt ps j q → ⊥
   pub sized : (i : ℕ) (x : Played) → k ≤ i → IsRecord ps i x → IsSizedMark x
 
+-- the same of all records
 abbrev pub AreFirsts : List Played → (ℕ → Option ℕ) → Type 0
 AreFirsts ps at = AreFirstsFrom ps at 0
 
@@ -35,6 +37,7 @@ AreFirsts ps at = AreFirstsFrom ps at 0
 abbrev pub IsNextWord : List Played → SlotName → ℕ → ℕ → Type 0
 IsNextWord ps s w v = (m : Mark) × (p : Step) × IsFirstAt (marks_of ps) s w m p × CanStep p w × (v ≡ stepped p w)
 
+-- no step leads on from the word in the slot's run
 abbrev pub IsLastWord : List Played → SlotName → ℕ → Type 0
 IsLastWord ps s w = (m : Mark) (p : Step) → IsFirstAt (marks_of ps) s w m p → CanStep p w → ⊥
 

@@ -1,4 +1,4 @@
-ghost use Rattle.std.specs.Prelude.{◌≡◌, ℕ, None, IfOk, OnOk};
+ghost use Rattle.std.specs.Prelude.{◌≡◌, ℕ, None, IfOk, OnOk, OnErr};
 ghost use Rattle.pa_audit_records.specs.ByKeys.{value_at};
 ghost use Rattle.pa_audit_records.specs.Tables.{Puts};
 
@@ -26,18 +26,20 @@ impl<V: Copy> ByKey<V> {
         }
     }
 
-    /// Sets the value at a key.
+    /// Sets the value at a key. If memory runs out, the table is as it was.
     pub fn put(&mut self, key: u128, value: V) -> Result<(), OutOfMemory>
-        ensures { OnOk result (Puts (value_at self.old) (value_at self.new) key value) }
+        ensures puts { OnOk result (Puts (value_at self.old) (value_at self.new) key value) }
+        ensures same { OnErr result ((q : ℕ) → value_at self.new q ≡ value_at self.old q) }
     {
         self.replace(key, value)?;
         Ok(())
     }
 
-    /// Sets the value at a key, and returns the one that was there.
+    /// Sets the value at a key, and returns the one that was there. If memory runs out, the table is as it was.
     pub fn replace(&mut self, key: u128, value: V) -> Result<Option<V>, OutOfMemory>
         ensures old { IfOk result (λ old. old ≡ value_at self.old key) }
         ensures puts { OnOk result (Puts (value_at self.old) (value_at self.new) key value) }
+        ensures same { OnErr result ((q : ℕ) → value_at self.new q ≡ value_at self.old q) }
     {
         let old = self.values.insert(key ^ self.salt, value)?;
         Ok(old)

@@ -35,7 +35,7 @@ fn may_request(size: u32, answer: Answer) -> bool
     }
 }
 
-// Whether an allocation may have it, by what its register holds.
+// Whether an allocation may have this answer, by what its register holds.
 pub(crate) fn may_alloc(holds: Register<SlotName>, size: u32, answer: Answer) -> bool
     ensures { IsTrue result ↔ AnswersAlloc holds (usable_of size) size answer }
 {
@@ -46,7 +46,7 @@ pub(crate) fn may_alloc(holds: Register<SlotName>, size: u32, answer: Answer) ->
     }
 }
 
-// Whether a copy of a handle to the slot may have it, by what the second register holds.
+// Whether a copy of a handle to the slot may have this answer, by what the second register holds.
 fn may_copy_to(into: Register<SlotName>, slot: SlotName, answer: Answer) -> bool
     ensures { IsTrue result ↔ AnswersCopyTo into slot answer }
 {
@@ -57,7 +57,7 @@ fn may_copy_to(into: Register<SlotName>, slot: SlotName, answer: Answer) -> bool
     }
 }
 
-// Whether a copy may have it, by what both registers hold.
+// Whether a copy may have this answer, by what both registers hold.
 pub(crate) fn may_copy(holds: Register<SlotName>, into: Register<SlotName>, answer: Answer) -> bool
     ensures { IsTrue result ↔ AnswersCopy holds into answer }
 {
@@ -67,7 +67,7 @@ pub(crate) fn may_copy(holds: Register<SlotName>, into: Register<SlotName>, answ
     }
 }
 
-// Whether a reset may have it.
+// Whether a reset may have this answer.
 pub(crate) fn may_reset(holds: Register<SlotName>, answer: Answer) -> bool
     ensures { IsTrue result ↔ AnswersReset holds answer }
 {
@@ -77,7 +77,7 @@ pub(crate) fn may_reset(holds: Register<SlotName>, answer: Answer) -> bool
     }
 }
 
-// Whether a free may have it.
+// Whether a free may have this answer.
 pub(crate) fn may_free(holds: Register<SlotName>, answer: Answer) -> bool
     ensures { IsTrue result ↔ AnswersFree holds answer }
 {
@@ -88,7 +88,7 @@ pub(crate) fn may_free(holds: Register<SlotName>, answer: Answer) -> bool
     }
 }
 
-// Whether a free through a `raw_ptr` to the slot may have it.
+// Whether a free through a `raw_ptr` to the slot may have this answer.
 fn may_free_through(slot: SlotName, answer: Answer) -> bool
     ensures { IsTrue result ↔ IsLookedAt looked_free slot answer }
 {
@@ -101,7 +101,7 @@ fn may_free_through(slot: SlotName, answer: Answer) -> bool
     }
 }
 
-// Whether a write may have it.
+// Whether a write may have this answer.
 pub(crate) fn may_write(holds: Register<SlotName>, answer: Answer) -> bool
     ensures { IsTrue result ↔ AnswersWrite holds answer }
 {
@@ -112,7 +112,7 @@ pub(crate) fn may_write(holds: Register<SlotName>, answer: Answer) -> bool
     }
 }
 
-// Whether a write by the owner of the slot may have it.
+// Whether a write by the owner of the slot may have this answer.
 fn may_write_own(slot: SlotName, answer: Answer) -> bool
     ensures { IsTrue result ↔ AnswersOwnWrite slot answer }
 {
@@ -123,7 +123,7 @@ fn may_write_own(slot: SlotName, answer: Answer) -> bool
     }
 }
 
-// Whether a write through a `raw_ptr` to the slot may have it.
+// Whether a write through a `raw_ptr` to the slot may have this answer.
 fn may_write_through(slot: SlotName, answer: Answer) -> bool
     ensures { IsTrue result ↔ IsLookedAt looked_write slot answer }
 {
@@ -136,7 +136,7 @@ fn may_write_through(slot: SlotName, answer: Answer) -> bool
     }
 }
 
-// Whether a read of this word of the slot may have it, if that many bytes of the slot are usable.
+// Whether this answer is allowed for a read of word `place` of a slot with `usable` bytes.
 pub(crate) fn may_read_from(slot: SlotName, usable: u32, place: u32, answer: Answer) -> bool
     ensures { IsTrue result ↔ AnswersReadFrom slot usable place answer }
 {
@@ -184,7 +184,7 @@ pub fn exchange(cells: &[History], cell: u32, entry: u32) -> Option<CellEntry>
     }
 }
 
-// Whether an exchange with the cell may have it, by what the register holds.
+// Whether an exchange with the cell may have this answer, by what the register holds.
 pub(crate) fn may_swap(
     cells: &[History],
     cell: u32,

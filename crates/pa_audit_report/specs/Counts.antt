@@ -26,6 +26,7 @@ pub record IsTotal (test : Step → ℕ → Bool) (at : ℕ → Option Home) (p 
   pub few : tally.slots ≤ length xs
   pub small : tally.bytes ≤ 4294967296 * length xs
 
+-- the count has the slots of partition p that these records issued and freed, and those that entered and left the quarantine
 pub record HasCounted (at : ℕ → Option Home) (p : ℕ) (xs : List Played) (count : Count) : Type 0 where
   pub issued : IsTotal issues at p xs count.issued
   pub freed : IsTotal frees at p xs count.freed
@@ -37,6 +38,7 @@ abbrev pub mark_passes : (Step → ℕ → Bool) → Option Mark → Bool
 mark_passes test None = false
 mark_passes test (Some m) = at_step test m.found m.step
 
+-- whether the step of a record passes the test; a record without a step doesn't
 abbrev pub passes : (Step → ℕ → Bool) → Played → Bool
 passes test x = mark_passes test (mark_of x)
 
@@ -65,6 +67,7 @@ pub record IsDoneOf (op : Op) (seen : Seen) (z : Stepped) : Type 0 where
   pub enters_is : z.enters ≡ at_step enters seen.found.0 (step_of op)
   pub leaves_is : z.leaves ≡ at_step leaves seen.found.0 (step_of op)
 
+-- the step of the op, if it makes one, goes in no count, whatever word it finds
 pub record DoesNothing (op : Op) : Type 0 where
   pub issues_not : (w : ℕ) → at_step issues w (step_of op) ≡ false
   pub frees_not : (w : ℕ) → at_step frees w (step_of op) ≡ false
@@ -76,6 +79,7 @@ pub record IsBytesOf (at : ℕ → Option Home) (p : ℕ) (s : SlotName) (bytes 
   pub home : home_in at s ≡ p
   pub size : size_in at s ≡ bytes
 
+-- by the table the slot isn't of partition p
 abbrev pub IsOfOther : (ℕ → Option Home) → ℕ → SlotName → Type 0
 IsOfOther at p s = home_in at s ≢ p
 
@@ -88,6 +92,7 @@ tally_more t false bytes = t
 abbrev pub HasRoomFor : Tally → Type 0
 HasRoomFor t = (t.slots < 65536) × (t.bytes < 281474976710656)
 
+-- there is room for one more slot in all four tallies of the count
 pub record HasRoom (count : Count) : Type 0 where
   pub issued : HasRoomFor count.issued
   pub freed : HasRoomFor count.freed

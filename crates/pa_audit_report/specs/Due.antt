@@ -48,6 +48,7 @@ pub record AreColumns (phases partitions threads : ℕ) (ps : List Played) (pool
 abbrev pub phases_to : ℕ → ℕ → ℕ → List (ℕ × ℕ)
 phases_to partitions i p = phases_of partitions 1 i ++ partitions_of (i + 1) 0 p
 
+-- the lines are those of the first i phases and of the next one's first p partitions, in order, and each is right
 pub record IsReportTo (partitions threads : ℕ) (ps : List Played) (pools : List PoolEntry) (roots : Journals) (i p : ℕ)
     (lines : List ReportLine) : Type 0 where
   pub places : map (λ (l : ReportLine). (l.phase, l.partition)) lines ≡ phases_to partitions i p

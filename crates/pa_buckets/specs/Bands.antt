@@ -30,5 +30,6 @@ has_class c b = nat_le b.first c && nat_le c b.last
 unfoldable pub limit_of : ℕ → ℕ
 limit_of c = option_map_or (λ b. b.limit) (find (has_class c) bands) 0
 
+-- how many slots of a class a fill asks for; 0 for a number above 58
 unfoldable pub fill_of : ℕ → ℕ
 fill_of c = option_map_or (λ b. b.fill) (find (has_class c) bands) 0

@@ -28,6 +28,7 @@ pub record IsFirstTight (s n c : ℕ) : Type 0 where
 abbrev pub WastesLess : ℕ → ℕ → ℕ → Type 0
 WastesLess s c d = left_over s c * (4096 * d) < left_over s d * (4096 * c)
 
+-- c system pages and d system pages leave the same part of themselves over
 abbrev pub WastesAlike : ℕ → ℕ → ℕ → Type 0
 WastesAlike s c d = left_over s c * (4096 * d) ≡ left_over s d * (4096 * c)
 

@@ -90,15 +90,19 @@ row_of c = find (λ r. r.class == c) rows
 unfoldable pub slot_of : ℕ → ℕ
 slot_of c = option_map_or (λ r. r.slot) (row_of c) 0
 
+-- the partition pages of a class's span; 0 for a number above 58
 unfoldable pub pages_of : ℕ → ℕ
 pages_of c = option_map_or (λ r. r.pages) (row_of c) 0
 
+-- the system pages of 4,096 bytes that the slots of a class's span use; 0 for a number above 58
 unfoldable pub system_of : ℕ → ℕ
 system_of c = option_map_or (λ r. r.system) (row_of c) 0
 
+-- the slots of a class's span; 0 for a number above 58
 unfoldable pub slots_of : ℕ → ℕ
 slots_of c = option_map_or (λ r. r.slots) (row_of c) 0
 
+-- the bytes that the slots of a class's span leave over in its system pages; 0 for a number above 58
 unfoldable pub waste_of : ℕ → ℕ
 waste_of c = option_map_or (λ r. r.waste) (row_of c) 0
 

@@ -105,7 +105,7 @@ popped v c d out aware bounds has class size none pop =
       has = now.has;
     }
 
--- A push put a title in front.
+-- A push put a title at the front.
 pub record IsPushed (v w : View) (c d : CacheParts) (t : Title) : Type 0 where
   pub front : (list_in w d).titles ≡ t ∷ (list_in v c).titles
   pub has : HoldsList w d

@@ -4,7 +4,7 @@ use Rattle.std.specs.Prelude.{All, Contains, IsNone, map}
 use Rattle.std.proofs.lemmas.Bool.{false≢true, cases_eq}
 use Rattle.std.proofs.lemmas.List.{get_or-set_same, get_or-set_other, length-set, map-set}
 use Rattle.std.proofs.lemmas.List.Elements.{All-contains, Contains-get_or}
-use Rattle.pa_lists.proofs.Elements.{all_from_members, same_cons}
+use Rattle.pa_lists.proofs.Elements.{all_from_members, same_cons, map_alike}
 use Rattle.pa_machine.specs.declared.title.Title.{Title}
 use Rattle.pa_machine.specs.declared.word.SlotName.{SlotName}
 use Rattle.pa_machine.specs.Titles.{IsWellFormed}
@@ -21,7 +21,7 @@ use Rattle.pa_link.proofs.Gaps.{free_same}
 use Rattle.pa_cache.specs.Caches.{IsCache}
 use Rattle.pa_cache.specs.Chained.{CacheParts, KeepsBounds, HoldsList, ListsStay, OtherListsStay, list_in}
 
--- so many titles are along the links, whatever the words are
+-- this many titles are along the links, whatever the words are
 along_many : (words : List ℕ) (len n : ℕ) (front : Option SlotName) → (IsNone front → n ≡ 0) → length (titles_from words len n front) ≡ n
 unfolding titles_from
 along_many words len zero front none = refl
@@ -50,7 +50,7 @@ held v c ts bounds chain =
       e,
     )
 
--- one list stays where its titles are free and have the same first words
+-- one list stays if its titles are free and have the same first words
 one_stays : (v w : View) (c : CacheParts) → HoldsList v c →
     ((t : Title) → Contains (list_in v c).titles t →
     (0 < free_of w t) × (first_word w.words (name_of t) ≡ first_word v.words (name_of t))) →
@@ -68,12 +68,7 @@ one_stays v w c has same =
       ap (λ us. record { class = c.class; titles = us }) e,
     )
 
--- maps that are alike at each element, and at each but one
-map_alike : {A B : Type 0} (f g : A → B) (xs : List A) → All (λ x. f x ≡ g x) xs → map f xs ≡ map g xs
-map_alike f g [] same = refl
-map_alike f g (x ∷ xs) same =
-    same_cons (f x) (g x) (map f xs) (map g xs) (same 0 x (omega arith)) (map_alike f g xs (λ k d within. same (suc k) d (omega arith)))
-
+-- maps that are alike at each element but one
 map_alike_beside : {A B : Type 0} (f g : A → B) (xs : List A) (i : ℕ) (y : B) →
     ((k : ℕ) (d : A) → k < length xs → (k ≡ i → ⊥) → f (get_or xs k d) ≡ g (get_or xs k d)) → set (map f xs) i y ≡ set (map g xs) i y
 map_alike_beside f g [] i y same = refl

@@ -28,7 +28,7 @@ module _ {X : Type 0} where
   pub later_count : (k m : ℕ) (xs : List X) → k ≤ m → length (outside k m xs) - k ≡ length xs - m
   later_count k m xs le = sym (length-drop k (outside k m xs)) ∙ ap length (later_stay k m xs le) ∙ length-drop m xs
 
-  -- what holds of all pairs does of those at the front, and of those behind
+  -- what holds of all pairs does of those at the front, and of those after them
   pairs_head : (R : X → X → Type 0) (x : X) (xs : List X) → AllPairs R (x ∷ xs) → All (R x) xs
   pairs_head R x xs all = λ k d within. all 0 (suc k) d (omega arith) (omega arith)
 

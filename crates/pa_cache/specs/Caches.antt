@@ -35,5 +35,6 @@ pub record IsFreeAtItsNumber (v : View) (t : Title) : Type 0 where
 abbrev pub batch_after : ℕ → List Title → List Title
 batch_after keep ts = take 16 (drop keep ts)
 
+-- what is left without that batch: the first `keep` titles, and those after the 16 next ones
 abbrev pub rest_after : ℕ → List Title → List Title
 rest_after keep ts = take keep ts ++ drop (keep + 16) ts

@@ -50,6 +50,7 @@ pub record CellsHeld : Type 0 where
 abbrev pub cell_history : List (List CellEntry) → ℕ → List CellEntry
 cell_history histories k = slice_index_or histories k []
 
+-- what cell k holds: nothing if it is empty or isn't there
 abbrev pub cell_holds : List (Option ParkedHandle) → ℕ → Option ParkedHandle
 cell_holds parked k = slice_index_or parked k None
 

@@ -87,6 +87,7 @@ pub record LacksHandle (own : Bool) (t : Title) (v left : View) : Type 0 where
   pub stakes : left.stakes ≡ v.stakes
   pub lends : CanLend v → CanLend left
 
+-- a seat that holds a handle has this left after it handed it over, with any number of counted steps besides
 abbrev pub GiversLackHandles : Type 0
 GiversLackHandles =
     (own : Bool) (t : Title) (budget : ℕ) (v : View) → HoldsGiven (handle_item own t) v →
@@ -102,6 +103,7 @@ pub record TakesHandle (p : ParkedHandle) (v after : View) : Type 0 where
   pub lends : CanLend v → CanLend after
   pub made : HasSeenMade p.handle after
 
+-- a seat that takes in the note of a handle on its way has this after it, if the view of both is as a seat's must be
 abbrev pub TakersHaveHandles : Type 0
 TakersHaveHandles =
     (p : ParkedHandle) (v : View) → IsParked p → IsAware (united v p.note.view) → TakesHandle p v (united v p.note.view)

@@ -74,7 +74,7 @@ no_fault bytes of other fault before after same told input h =
 never_read : (of other : Needs) → of ≡ other → of.reads ≡ ReadsNothing → ReadsSome other.reads → ⊥
 never_read of other same none h = subst ReadsSome (ap (λ (x : Needs). x.reads) (sym same) ∙ none) h
 
--- a good input leads to Done, or of a run to NotLegal, or memory is wanting
+-- a good input leads to Done, or of a run to NotLegal, or memory has run out
 pub caused_completes : (status : Status) (c : Call) → Caused status c → Completes status c
 caused_completes Done c h = λ bytes command words told input calm quiet. inl refl
 caused_completes BadCommand c h = λ bytes command words told input calm quiet. absurd (h.0 (command, words))

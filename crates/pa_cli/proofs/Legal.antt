@@ -1,4 +1,4 @@
--- What is printed of a run, behind its trace, is an input that `audit` calls legal.
+-- What is printed of a run, after its trace, is an input that `audit` calls legal.
 use Rattle.std.proofs.Common.{◌≤◌, ℕ, List, ◌++◌, length, sym, subst}
 use Rattle.pa_trace.specs.declared.script.Trace.{Trace}
 use Rattle.pa_trace.specs.Limits.{IsInput}

@@ -50,7 +50,7 @@ told_all : (most : ℕ) (P : List ℕ → Type 0) (bytes : List ℕ) (before aft
 told_all most P bytes before after (inl whole) h early = told_whole P before.told bytes whole.all h
 told_all most P bytes before after (inr past) h early = told_past P before.told after.told bytes past.given (early past.past)
 
--- what was read has the fault, and so has all that the source told
+-- what was read has the fault, and so has all that the source exposed
 has_fault : (reads : Reading) (fault : TraceFault) (bytes : List ℕ) (before after : Stream) → IsRead (most_read reads) before after bytes
     → IsFaulty reads fault bytes → (length bytes ≡ most_read reads + 1 → (more : List ℕ) → IsFaulty reads fault (bytes ++ more))
     → HasFault reads fault before after

@@ -1,4 +1,4 @@
--- The causes of the statuses, and what each leaves behind.
+-- The causes of the statuses, and what each leaves.
 use Rattle.std.specs.Prelude.{◌≡◌, ◌↔◌, ℕ, ◌⊎◌, true, List, Some, IfSome, IsSome}
 use Rattle.std.specs.Io.KnownBytes.{Appends}
 use Rattle.pa_io.specs.Moves.{HasRisen, HasWrittenPart}
@@ -32,7 +32,7 @@ IsFaulty ReadsScript fault bytes = IsFirstScriptFault fault bytes
 IsFaulty ReadsRun fault bytes = IsFirstAuditFault fault bytes
 
 -- The input has this fault: it was read without a fault of the source, and the first faulty line of what was read has it, and so has
--- that of all that the source told.
+-- that of all that the source exposed.
 pub record HasFault (reads : Reading) (fault : TraceFault) (before after : Stream) : Type 0 where
   pub bytes : List ℕ
   pub read : IsRead (most_read reads) before after bytes
@@ -58,7 +58,7 @@ pub record IsRefuted (clause : Clause) (n : ℕ) (before after : Stream) : Type 
   pub read : IsReadWhole most_audited before after bytes
   pub refuted : IsRefutedInput clause n bytes
 
--- why a command that needs this has no output, by what the source tells before it and after it; the other statuses are no reason
+-- why a command that needs this has no output, by what the source exposes before it and after it; the other statuses are no reason
 abbrev pub IsRefusal : Status → Needs → Stream → Stream → Type 0
 IsRefusal Done of before after = ⊥
 IsRefusal BadCommand of before after = ⊥
@@ -109,12 +109,12 @@ IsInputFor ReadsTrace bytes = (trace : Trace) × IsInput trace bytes
 IsInputFor ReadsScript bytes = (script : Script) × IsScriptInput script bytes
 IsInputFor ReadsRun bytes = (trace : Trace) × (run : Run) × (lines : ℕ) × IsAudited trace run lines bytes
 
--- a run was read, and the status tells a clause and a line
+-- a run was read, and the status has a clause and a line
 abbrev pub RefutesBy : Reading → Status → Type 0
 RefutesBy reads status = (reads ≡ ReadsRun) × (clause : Clause) × (n : ℕ) × (status ≡ NotLegal clause n)
 
 -- an input for a command that reads, without a fault of source or sink, leads to Done, or of a trace and a run to NotLegal, unless
--- memory is wanting
+-- memory has run out
 abbrev pub Completes : Status → Call → Type 0
 Completes status c =
     (bytes : List ℕ) (command : Command) → AsksFor command c.words → c.source.told ≡ Some bytes → IsInputFor (needs_of command).reads bytes

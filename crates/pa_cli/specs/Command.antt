@@ -10,6 +10,7 @@ use Rattle.pa_cli.specs.declared.command.Command.TheVariants.{Replay, Model, Aud
 abbrev pub IsReplay : List (List ℕ) → Type 0
 IsReplay words = words ≡ codes "replay" ∷ []
 
+-- the one word `model`
 abbrev pub IsModel : List (List ℕ) → Type 0
 IsModel words = words ≡ codes "model" ∷ []
 
@@ -17,6 +18,7 @@ IsModel words = words ≡ codes "model" ∷ []
 abbrev pub IsAudit : List (List ℕ) → Type 0
 IsAudit words = words ≡ codes "audit" ∷ []
 
+-- the one word `dangling`
 abbrev pub IsDangling : List (List ℕ) → Type 0
 IsDangling words = words ≡ codes "dangling" ∷ []
 
@@ -24,6 +26,7 @@ IsDangling words = words ≡ codes "dangling" ∷ []
 abbrev pub IsResize : List (List ℕ) → Type 0
 IsResize words = words ≡ codes "resize" ∷ []
 
+-- the one word `verdicts`
 abbrev pub IsVerdicts : List (List ℕ) → Type 0
 IsVerdicts words = words ≡ codes "verdicts" ∷ []
 
@@ -50,6 +53,7 @@ IsGen rounds key words = IsDrawn (codes "gen") rounds key words
 abbrev pub IsHelp : List (List ℕ) → Type 0
 IsHelp words = words ≡ codes "--help" ∷ []
 
+-- the one word `--version`
 abbrev pub IsVersion : List (List ℕ) → Type 0
 IsVersion words = words ≡ codes "--version" ∷ []
 
@@ -105,6 +109,7 @@ pub record Needs : Type 0 where
   pub threads : Bool
   pub memory : Bool
 
+-- a command's needs: what it reads, whether it plays threads over a region, and whether it takes memory
 abbrev pub needing : Reading → Bool → Bool → Needs
 needing reads threads memory = record { reads = reads; threads = threads; memory = memory }
 

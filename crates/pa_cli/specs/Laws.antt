@@ -32,6 +32,7 @@ ModelledIsLegalInput =
     (t : Trace) (front text : List ℕ) → IsInput t front → IsModelText t text → length (front ++ text) ≤ most_audited
     → IsLegalInput (front ++ text)
 
+-- a trace with what `replay` prints of it is an input that `audit` calls legal, if it isn't too long for one
 abbrev pub ReplayedIsLegalInput : Type 0
 ReplayedIsLegalInput =
     (t : Trace) (run : Run) (words front text : List ℕ) → IsInput t front → IsReplayText t run words text

@@ -54,11 +54,11 @@ pub record IsTraceRead (trace : Trace) (before after : Stream) : Type 0 where
   pub read : IsReadWhole most_bytes before after bytes
   pub input : IsInput trace bytes
 
--- The run is a legal run of the trace, and the closed region holds it, whose words are those of its super pages. All its steps stand in
+-- The run is a legal run of the trace, and the closed region holds it, whose words are those of its super pages. All its steps are in
 -- one order in which it could have been played, one step after another: each number, list and cell was found as the steps before left it,
--- and each read gave what stood there. The words have the threads' lists, each linked through its free slots, and each partition's spans
--- as its journal replays: their records in the metadata pages, and their free slots, linked too. The text is that of this run. If the
--- trace has one thread, it is the sequential run, in the order of the lines.
+-- and each read gave what its word contained then. The words have the threads' lists, each linked through its free slots, and each
+-- partition's spans as its journal replays: their records in the metadata pages, and their free slots, linked too. The text is that of
+-- this run. If the trace has one thread, it is the sequential run, in the order of the lines.
 pub record IsReplayText (trace : Trace) (run : Run) (words text : List ℕ) : Type 0 where
   pub legal : IsLegal trace run
   pub ordered : HasTimeline trace (told_by run)
@@ -160,6 +160,7 @@ pub record IsResizeOutput (before after : Stream) (text : List ℕ) : Type 0 whe
   pub read : IsScriptRead script before after
   pub played : IsResizeText script text
 
+-- the output of `verdicts`: the text has what each resize of the script that was read came to
 pub record IsVerdictsOutput (before after : Stream) (text : List ℕ) : Type 0 where
   pub script : Script
   pub read : IsScriptRead script before after
@@ -172,7 +173,7 @@ pub record IsGeneratedText (rounds key : ℕ) (text : List ℕ) : Type 0 where
   pub printed : IsTraceText trace text
 
 -- The output of `gen`: the text is the summary of a run of the trace generated from this number of rounds and this key. The run is a legal
--- run of that trace, all its steps stand in one order as those of `replay` do, and the region that was closed after it holds it, whose
+-- run of that trace, all its steps are in one order as those of `replay` are, and the region that was closed after it holds it, whose
 -- words are those of its super pages and have the threads' lists and each partition's spans.
 pub record IsGenOutput (rounds key : ℕ) (out : Output) : Type 0 where
   pub trace : Trace

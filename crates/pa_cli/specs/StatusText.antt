@@ -59,6 +59,7 @@ abbrev pub status_of_input : InputFault → Status
 status_of_input inputs.ReadFault = ReadFault
 status_of_input inputs.OutOfMemory = OutOfMemory
 
+-- the status of an input that was read: for a bad line, for a line past a limit, or if memory ran out
 abbrev pub status_of_trace : TraceFault → Status
 status_of_trace (traces.BadLine n) = BadLine n
 status_of_trace (traces.Limit n) = Limit n

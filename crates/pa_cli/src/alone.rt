@@ -30,7 +30,7 @@ use std::alloc::Global;
 /// lines in their order and writes the text of that run; `audit` reads a trace and after it a run, and writes `legal` if that is a
 /// legal run of the trace; `dangling` reads the same, and writes each use in such a run of what was freed while `raw_ptr`s pointed to
 /// it; `resize` reads a script and writes the trace that it comes to and that trace's run, and `verdicts` what each resize came to;
-/// `layout SIZE` writes where a request of so many bytes is placed, `trace ROUNDS KEY` a generated trace, `--help` and `--version` their
+/// `layout SIZE` writes where a request of SIZE bytes is placed, `trace ROUNDS KEY` a generated trace, `--help` and `--version` their
 /// texts. The input is read to its end, or to one byte past the most that it may have.
 pub fn run_alone<S: Source, K: Sink>(
     alloc: Global,

@@ -58,7 +58,7 @@ pub fn help() -> &'static [u8]
     HELP
 }
 
-// The line of `layout` for a request of so many bytes.
+// The line of `layout` for a request of this many bytes.
 pub fn layout_line(size: u32) -> ArrayVec<u8, 128>
     ensures { IsLayoutText size result.items }
 {

@@ -129,7 +129,7 @@ pub fn plays_threads(words: &[String]) -> bool
     }
 }
 
-// The rounds that the word spells. `None` exactly where it spells no number from 1 to 800.
+// The rounds that the word spells. `None` exactly if it spells no number from 1 to 800.
 fn rounds_in(word: &String) -> Option<u32>
     ensures found { IfSome result (λ n. IsNumeral n (string_bytes word.now) × (1 ≤ n) × (n ≤ 800)) }
     ensures none { IfNone result ((n : ℕ) → IsNumeral n (string_bytes word.now) → 1 ≤ n → n ≤ 800 → ⊥) }

@@ -52,7 +52,7 @@ use Rattle.pa_machine.proofs.Holding.{free_title}
 
 module _ (a : Parts) (before rest : List Played) (x : Played) (h : IsFiled a) (parts : a.ps ≡ before ++ x ∷ rest) (st : Standing) (f : IsFrontOf a x.line before (x ∷ rest) st) (s : State)
     (shown : IsShown (titles_in a (root_at a x.line)) (a.threads + 1) (2097152 * a.supers) (ledger_of a.partitions st) s) where
-  -- what stands where the thread's lists are these
+  -- what holds if the thread's lists are these
   abbrev pub listing : Cache → Standing
   listing list = record st { caches = with_cache st.caches x.thread list }
 

@@ -1,4 +1,4 @@
--- A direct map that is there on a line was made by an entry of its journal; and which maps stay where one goes back.
+-- A direct map that is there on a line was made by an entry of its journal; and which maps stay when one goes back.
 use Rattle.std.proofs.Common.{◌≡◌, ℕ, ◌&&◌, eqb, List, [], ◌∷◌, Some, None, refl, sym, ◌∙◌, ap, subst, arith, ◌⊎◌, inl, inr}
 use Rattle.std.specs.Prelude.{Contains}
 use Rattle.std.proofs.lemmas.Bool.{cases_Bool, and_parts, eqb-true}

@@ -1,4 +1,4 @@
--- The core goes on showing the ledger where one title changes and the ledger with it.
+-- The core goes on showing the ledger when one title changes and the ledger with it.
 use Rattle.std.proofs.Common.{◌≡◌, ℕ, ◌*◌, ◌<◌, List, [], ◌∷◌, length, refl, sym, ◌∙◌, ap, subst, arith, ◌⊎◌, inl, inr}
 use Rattle.pa_machine.specs.declared.word.SlotName.{SlotName}
 use Rattle.pa_machine.specs.declared.title.Title.{Title}

@@ -1,4 +1,4 @@
--- Record by record: where each can be played, all are.
+-- Record by record: if each can be played, all are.
 use Rattle.std.proofs.Common.{◌≡◌, ℕ, ◌+◌, ◌*◌, ◌≤◌, List, [], ◌∷◌, ◌++◌, refl, sym, ◌∙◌, ap, subst, arith}
 use Rattle.std.specs.Prelude.{Contains}
 use Rattle.pa_machine.specs.declared.event.Event.{Event}

@@ -25,12 +25,15 @@ use Rattle.pa_core_run.specs.Standing.{Standing, ledger_of}
 abbrev pub MadeIn : Parts → Title → Type 0
 MadeIn a t = (p : ℕ) × IsMadeBy a.pools (a.roots p) t
 
+-- the title exists in one of these roots
 abbrev pub ThereIn : (ℕ → Root) → Title → Type 0
 ThereIn root t = (p : ℕ) × IsThere (root p) t
 
+-- one of these roots made the title, and its slot isn't out of it
 abbrev pub KeptIn : (ℕ → Root) → Title → Type 0
 KeptIn root t = (p : ℕ) × IsMade (root p) t × (IsNameOut (root p) (name_of t) → ⊥)
 
+-- the titles of a run: made by its journals, and there and kept by these roots
 abbrev pub titles_in : Parts → (ℕ → Root) → Titles
 titles_in a root = record { Made = MadeIn a; There = ThereIn root; Kept = KeptIn root }
 

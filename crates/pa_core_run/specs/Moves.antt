@@ -22,6 +22,7 @@ abbrev pub StandOnce : List Title → Type 0
 StandOnce [] = Unit {0}
 StandOnce (t ∷ ts) = (Contains ts t → ⊥) × StandOnce ts
 
+-- each of the titles lies apart from those after it
 abbrev pub AllApart : List Title → Type 0
 AllApart [] = Unit {0}
 AllApart (t ∷ ts) = ((u : Title) → Contains ts u → TitlesApart u t) × AllApart ts

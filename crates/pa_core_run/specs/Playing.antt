@@ -34,14 +34,17 @@ abbrev pub step_event : ℕ → Title → Option Step → Event
 step_event actor t None = Load actor (8 * count_place t)
 step_event actor t (Some step) = Count actor t step
 
+-- the load of the word of the content that was read, if one was
 abbrev pub read_events : ℕ → Title → Option (ℕ × ℕ) → List Event
 read_events actor t None = []
 read_events actor t (Some read) = Load actor (8 * content_place t read.0) ∷ []
 
+-- the step on the count word, or the look at it, and then the read; none if no slot is reported
 abbrev pub mark_events : ℕ → Title → Option Mark → Option (ℕ × ℕ) → List Event
 mark_events actor t None read = []
 mark_events actor t (Some mark) read = step_event actor t mark.step ∷ read_events actor t read
 
+-- the events that a record reports of a slot with this title, by the actor of its thread
 abbrev pub told_events : Played → Title → List Event
 told_events x t = mark_events (x.thread + 1) t (mark_of x) (read_by x.op x.answer)
 
@@ -59,6 +62,7 @@ Finds Made words t (Some mark) read = Made t × (name_of t ≡ mark.slot) × (co
 abbrev pub IsOfTwo : ℕ → ℕ → Type 0
 IsOfTwo actor other = (other ≡ 0) ⊎ (other ≡ actor)
 
+-- the event is no step on a count word, and is of this actor or of actor 0; so are both sides if something is handed over
 abbrev pub IsBeside : ℕ → Event → Type 0
 IsBeside actor (Count other t step) = ⊥
 IsBeside actor (Store other at value) = IsOfTwo actor other
@@ -68,6 +72,7 @@ IsBeside actor (Hand from to item) = IsOfTwo actor from × IsOfTwo actor to
 IsBeside actor (Cut other t) = IsOfTwo actor other
 IsBeside actor (Uncut other t) = IsOfTwo actor other
 
+-- each of the events is such a one
 abbrev pub AreBeside : ℕ → List Event → Type 0
 AreBeside actor [] = Unit {0}
 AreBeside actor (e ∷ es) = IsBeside actor e × AreBeside actor es

@@ -28,6 +28,8 @@ abbrev pub in_lists : ℕ → Standing → SlotName → ℕ → ℕ
 in_lists partitions st x zero = 0
 in_lists partitions st x (suc k) = over partitions (λ p. listed_times x (st.caches k p) 0 class_count)
 
+-- the ledger of such a state: by actor the owners, the raw_ptrs and the free slots that it has, and by slot the word and the
+-- content
 abbrev pub ledger_of : ℕ → Standing → Ledger
 ledger_of partitions st =
     record {

@@ -76,12 +76,14 @@ IssuesCanHappen =
 abbrev pub KeepsContentOf : State → State → Title → Type 0
 KeepsContentOf s after t = (value : ℕ) → HasContentFrom s.words t 0 value → HasContentFrom after.words t 0 value
 
+-- an actor that has a clean Own or a Ref of a slot gets one more Ref of it, and the content stays
 abbrev pub CopiesCanHappen : Type 0
 CopiesCanHappen =
     (s : State) (actor : ℕ) (t : Title) → IsGoodState s → HasActor s actor → Holds s actor (OwnAs t Clean) ⊎ Holds s actor (RefOf t) →
     CanStep Copy (count_word s.words t) →
     (after : State) × IsDone s actor t Copy [] (RefPiece t ∷ []) [] after × KeepsContentOf s after t
 
+-- an actor resets its Ref of a slot, gets the free slot if that was the last handle, and the content stays
 abbrev pub ResetsCanHappen : Type 0
 ResetsCanHappen =
     (s : State) (actor : ℕ) (t : Title) → IsGoodState s → HasActor s actor → Holds s actor (RefOf t) → CanStep Reset (count_word s.words t) →

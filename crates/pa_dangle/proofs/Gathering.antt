@@ -41,7 +41,7 @@ collected_skip cells ps pairs k d below none h = record {
   rise = h.rise;
 }
 
--- where no record is a use, there are no pairs
+-- if no record is a use, there are no pairs
 pub collected_none : (cells : Cells) (ps : List Played) (pairs : List Pair) → pairs ≡ [] → All IsNoUse ps → AreCollected cells ps pairs (length ps)
 collected_none cells ps pairs none h = rw none (record {
   each = λ p among. absurd (omega (arith, among.1));

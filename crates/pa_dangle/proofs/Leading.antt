@@ -145,7 +145,7 @@ ways_set cells ps ws i line h below leads =
 
 -- ---- a way is gone
 
--- after so many steps from one place the way has come to another, and each origin there is one here
+-- after this many steps from one place the way has come to another, and each origin there is one here
 pub record Goes (cells : Cells) (ps : List Played) (ws : List Way) (at now steps : ℕ) : Type 0 where
   pub below : now < length ps
   pub back : (x z : Played) (line : ℕ) → IsRecord ps at x → IsRecord ps now z → HasOrigin cells ps z line → HasOrigin cells ps x line

@@ -7,8 +7,7 @@ use Rattle.pa_machine.specs.declared.word.Step.TheVariants.{Free}
 use Rattle.pa_machine.specs.Count.{number_of}
 use Rattle.pa_machine.specs.Run.{Mark, IsFirstAt, IsQuarantined, Slots}
 use Rattle.pa_machine.proofs.Arith.{stepped_is}
-use Rattle.pa_rules.proofs.Running.{one_mark}
-use Rattle.pa_legal.proofs.Words.{same_word}
+use Rattle.pa_rules.proofs.Running.{one_mark, same_word}
 use Rattle.pa_dangle.specs.Uses.{IsUseOf, OwnLines, UsesArePaired}
 use Rattle.pa_dangle.proofs.Waiting.{Run, Waits, comes_of_free, waits_quarantined}
 

@@ -160,7 +160,7 @@ step_off cells ps x z line step origin = ByExchange step.put z step.reg step.fir
 
 -- ---- a way ends
 
--- so many steps lead from this place to a copy
+-- this many steps lead from this place to a copy
 abbrev pub Ends : List Way → ℕ → ℕ → Type 0
 Ends ws zero i = (line : ℕ) × (slice_get ws i ≡ Some (Copied line))
 Ends ws (suc n) i = (j : ℕ) × (slice_get ws i ≡ Some (Given j)) × Ends ws n j

@@ -12,8 +12,7 @@ use Rattle.pa_machine.proofs.Arith.{stepped_is}
 use Rattle.pa_machine.proofs.Runs.{number_stepped}
 use Rattle.pa_lists.proofs.Members.{first_in, later_in, in_cases, of_some}
 use Rattle.pa_lists.proofs.Elements.{in_one}
-use Rattle.pa_rules.proofs.Running.{OtherLine, run_rises, one_mark}
-use Rattle.pa_legal.proofs.Words.{same_word}
+use Rattle.pa_rules.proofs.Running.{OtherLine, run_rises, one_mark, same_word}
 use Rattle.pa_dangle.specs.Uses.{IsKeptFree, NoneReturned}
 
 -- the marks of one slot are one run, and no two have one line

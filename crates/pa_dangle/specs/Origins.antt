@@ -30,6 +30,7 @@ put_held reg Nothing = None
 put_held reg (Own s) = None
 put_held reg (Ref s) = Some reg
 
+-- the register of an exchange, if there is such an entry and what it found is a raw_ptr
 abbrev pub put_found : ℕ → Option CellEntry → Option ℕ
 put_found reg None = None
 put_found reg (Some e) = put_held reg e.found
@@ -49,6 +50,7 @@ pub record IsLastPut (cells : ℕ → List CellEntry) (ps : List Played) (x : Pl
   pub last : (z : Played) → Contains ps z → z.thread ≡ x.thread → y.line < z.line → z.line < x.line →
       put_into cells z.op z.answer ≡ Some reg → ⊥
 
+-- the record is of a copy
 abbrev pub IsCopy : Played → Type 0
 IsCopy y = (from : ℕ) × (to : ℕ) × (y.op ≡ ops.Copy from to)
 

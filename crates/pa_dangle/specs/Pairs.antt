@@ -65,9 +65,9 @@ uses_on line pairs = sum_by (λ pair. if pair.later == line then 1 else 0) pairs
 -- What was found in a run.
 --   each: each member is the pair of a free and a use
 --   whole: each use of what a free left has its pair
---   order: the pairs stand by their frees and then by their uses
+--   order: the pairs are in the order of their frees, and then of their uses
 --   once: no line is that of the use of two pairs
---   freed: so many frees found raw_ptrs
+--   freed: the number of frees that found raw_ptrs
 pub record AreFound (cells : ℕ → List CellEntry) (ps : List Played) (pairs : List Pair) (count : ℕ) : Type 0 where
   pub each : (pair : Pair) → Contains pairs pair → (f : Mark) × (u : Mark) × IsPairOf cells ps f u pair
   pub whole : (f u : Mark) → IsUseOf (marks_of ps) f u → (pair : Pair) × Contains pairs pair × IsPairOf cells ps f u pair

@@ -15,6 +15,7 @@ use Rattle.pa_audit_records.specs.Keys.{word_key}
 use Rattle.pa_dangle.specs.declared.numbers.Kind.{Kind}
 use Rattle.pa_dangle.specs.declared.numbers.Kind.TheVariants.{Issued, Freed}
 
+-- the step of a kind: an issue or a free
 abbrev pub step_of_kind : Kind → Step
 step_of_kind Issued = steps.Issue
 step_of_kind Freed = steps.Free

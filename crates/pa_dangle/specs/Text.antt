@@ -6,6 +6,7 @@ use Rattle.pa_dangle.specs.declared.found.Pair.{Pair}
 use Rattle.pa_dangle.specs.declared.found.Use.{Use}
 use Rattle.pa_dangle.specs.declared.found.Use.TheVariants.{Copied, WasReset, WasFreed, Written, WasRead}
 
+-- the word that says how a slot was used
 abbrev pub use_text : Use → List ℕ
 use_text Copied = codes "copy"
 use_text WasReset = codes "reset"
@@ -13,6 +14,7 @@ use_text WasFreed = codes "free"
 use_text Written = codes "write"
 use_text WasRead = codes "read"
 
+-- one line: the lines on which the slot was made, freed and used later, how it was used, and the line of its raw_ptr's copy
 abbrev pub pair_text : Pair → List ℕ
 pair_text p =
     codes "pair made " ++ decimal p.made ++ codes " free " ++ decimal p.free ++ codes " later " ++ decimal p.later ++ codes " "

@@ -174,7 +174,7 @@ fn uses_none(records: &[Played]) -> bool
     true
 }
 
-// The pairs by the lines of the uses. Where there are none, no table is made.
+// The pairs by the lines of the uses. If there are none, no table is made.
 fn collect(alloc: Global, records: &[Played], cells: &[History]) -> Result<Vec<Pair>, OutOfMemory>
     requires few { length records.now < 2 ^ 32 }
     requires within { All IsPlayedWithin records.now }

@@ -1,4 +1,4 @@
--- After each record each queue has at most so many bytes.
+-- After each record each queue has at most as many bytes as the limit says.
 use Rattle.std.proofs.Common.{◌≡◌, ℕ, List, [], ◌∷◌, ◌++◌, Option, Some, None, refl, sym, subst, arith, inl, inr}
 use Rattle.std.proofs.lemmas.Bool.{cases_eq, eq-eqb, ne_eqb}
 use Rattle.pa_machine.specs.declared.word.Step.{Step}

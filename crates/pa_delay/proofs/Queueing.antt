@@ -12,7 +12,7 @@ pub bytes_behind : (xs : List Freed) (s : Freed) → freed_bytes (xs ++ s ∷ []
 bytes_behind [] s = omega arith
 bytes_behind (x ∷ xs) s = let e = bytes_behind xs s in omega arith
 
--- the front goes where all have more than the limit
+-- the front goes if all have more than the limit
 pub front_goes : (q : QueueList) (s : Freed) (rest : List Freed) → q.slots ≡ s ∷ rest → q.limit < freed_bytes q.slots → GoesFirst q rest s
 front_goes q s rest whole many gone stays past = record {
   parts = whole ∙ ap (λ zs. s ∷ zs) past.parts;

@@ -1,4 +1,4 @@
--- A delayed run: each slot of a class that a step returned waits in a queue of its thread, first in, first out and within so many
+-- A delayed run: each slot of a class that a step returned waits in a queue of its thread, first in, first out and within a limit in
 -- bytes, before the thread's list sees it. All else is as in a run without queues.
 use Rattle.std.specs.Prelude.{◌≡◌, ℕ, ◌+◌, ◌<◌, ◌==◌, if◌then◌else◌, ◌⊎◌, List, [], ◌∷◌, ◌++◌, length, Option, Some, None}
 use Rattle.pa_machine.specs.declared.word.Step.{Step}
@@ -26,6 +26,7 @@ pub record Waiting : Type 0 where
 abbrev pub Queues : Type 0
 Queues = ℕ → List Numbered
 
+-- the threads' queues, of which one thread's is now this one
 abbrev pub with_queue : Queues → ℕ → List Numbered → Queues
 with_queue waiting thread queue t = if t == thread then queue else waiting t
 
@@ -42,6 +43,7 @@ Leaves roots s cache acts after =
     × ((q : ℕ) → acts q ≡ (if q == p then gives (spilled class (s ∷ cache p class)) else []))
     × SameLists after (with_list cache p class (kept class (s ∷ cache p class)))
 
+-- the slots leave one after another, and in each partition the acts of one come before those of the next
 abbrev pub AllLeave : Journals → List Numbered → Cache → (ℕ → List RootAct) → Cache → Type 0
 AllLeave roots [] cache acts after = ((q : ℕ) → acts q ≡ []) × SameLists after cache
 AllLeave roots (s ∷ ss) cache acts after =
@@ -53,7 +55,7 @@ abbrev pub StaysWaiting : Waiting → Waiting → Type 0
 StaysWaiting before after = SameLists after.lists before.lists × (after.queue ≡ before.queue)
 
 -- A step returned a slot, which it left at this number: the slot becomes the back of the queue, and the front of the queue leaves
--- it, as little as leaves at most so many bytes. A direct map goes back at once.
+-- it, as little as leaves at most as many bytes as the limit says. A direct map goes back at once.
 abbrev pub DelayedReturn : ℕ → Journals → Played → Numbered → Waiting → Waiting → Type 0
 DelayedReturn bytes roots x slot before after =
     ((p class : ℕ) × (gone : List Numbered) × (acts : ℕ → List RootAct) × IsOfClass roots slot.slot p class

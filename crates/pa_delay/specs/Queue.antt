@@ -1,10 +1,10 @@
--- A thread's queue of slots that were returned: first in, first out, within so many bytes.
+-- A thread's queue of slots that were returned: first in, first out, within a limit in bytes.
 use Rattle.std.specs.Prelude.{◌≡◌, ℕ, ◌+◌, ◌<◌, ◌≤◌, List, [], ◌∷◌, ◌++◌, All}
 use Rattle.pa_buckets.specs.Limits.{class_count}
 use Rattle.pa_buckets.specs.Table.{slot_of}
 use Rattle.pa_delay.specs.declared.queue.Freed.{Freed}
 
--- The front of a queue goes, as little of it as leaves at most so many bytes. `Have` says how many bytes slots have.
+-- The front of a queue goes, as little of it as leaves at most as many bytes as the limit says. `Have` says how many bytes slots have.
 pub record GoesPast {A : Type 0} (Have : List A → ℕ → Type 0) (bytes : ℕ) (queue gone stays : List A) : Type 0 where
   pub parts : queue ≡ gone ++ stays
   pub fits : (n : ℕ) × Have stays n × (n ≤ bytes)
@@ -15,6 +15,7 @@ abbrev pub freed_bytes : List Freed → ℕ
 freed_bytes [] = 0
 freed_bytes (s ∷ ss) = slot_of s.class + freed_bytes ss
 
+-- the slot sizes of these slots add up to n bytes
 abbrev pub AreBytes : List Freed → ℕ → Type 0
 AreBytes slots n = n ≡ freed_bytes slots
 
@@ -28,6 +29,7 @@ pub record QueueList : Type 0 where
   pub room : ℕ
   pub slots : List Freed
 
+-- the queue with these slots in place of those that it had
 abbrev pub with_freed : QueueList → List Freed → QueueList
 with_freed q slots = record { limit = q.limit; room = q.room; slots = slots }
 

@@ -31,6 +31,7 @@ QueuedOf roots p (s ∷ ss) n b =
     (q class m a : ℕ) × IsOfClass roots s.slot q class × QueuedOf roots p ss m a × (n ≡ (if q == p then suc m else m))
     × (b ≡ (if q == p then slot_of class + a else a))
 
+-- the queues of that many threads, from thread 0 on, have n slots of partition p, with b bytes
 abbrev pub AllQueued : Journals → ℕ → Queues → ℕ → ℕ → ℕ → Type 0
 AllQueued roots p waiting zero n b = (n ≡ 0) × (b ≡ 0)
 AllQueued roots p waiting (suc t) n b =
@@ -51,6 +52,7 @@ pub record IsDelayedLine (bytes partitions threads : ℕ) (ps : List Played) (po
   pub cached : IsDelayedTally bytes partitions threads roots (until l.phase ps) l.partition l.cached
   pub root : HasCensus ps pools roots l.phase l.partition (census_of l)
 
+-- the report of a delayed run has its phases and partitions in order, and each of its lines is right
 pub record IsDelayedReport (bytes phases partitions threads : ℕ) (ps : List Played) (pools : List PoolEntry) (roots : Journals)
     (report : List ReportLine) : Type 0 where
   pub places : map (λ (l : ReportLine). (l.phase, l.partition)) report ≡ phases_of partitions 1 phases
@@ -76,9 +78,10 @@ pub record IsDelayedBy (bytes : ℕ) (t : Trace) (r : Told) (ps : List Played) :
   pub seen : IsSeenInOrder r.cells ps
   pub report : IsDelayedReport bytes (phases_in t.lines) t.partitions t.threads ps r.pools r.roots r.report
 
--- the delayed run of the trace for so many bytes: with these clauses, and in the order of the trace's lines
+-- the delayed run of the trace for this limit in bytes: with these clauses, and in the order of the trace's lines
 abbrev pub IsDelayedTold : ℕ → Trace → Told → Type 0
 IsDelayedTold bytes t r = IsDelayedBy bytes t r (records_of t r) × IsInFileOrder (records_of t r) r.pools r.roots r.cells
 
+-- the run is the delayed run of the trace for that many bytes
 abbrev pub IsDelayedRun : ℕ → Trace → Run → Type 0
 IsDelayedRun bytes t r = IsDelayedTold bytes t (told_by r)

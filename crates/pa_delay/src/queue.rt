@@ -69,7 +69,7 @@ impl Delay {
         self.slots.len() >= self.room as usize
     }
 
-    /// Puts a slot at the back. There must be room for one: `is_full` tells.
+    /// Puts a slot at the back. There must be room for one: `is_full` says whether there is.
     pub fn push(&mut self, slot: Freed)
         requires room { length self.old.slots < self.old.room }
         ensures back { self.new ≡ with_freed self.old (self.old.slots ++ slot ∷ []) }

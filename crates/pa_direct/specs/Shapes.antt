@@ -20,6 +20,7 @@ shape_of size = record { slot = slot_for (size + 8); supers = supers_for (slot_f
 abbrev pub greatest_size : ℕ
 greatest_size = 33521656
 
+-- the greatest request that a class serves, in bytes
 abbrev pub greatest_in_class : ℕ
 greatest_in_class = 917496
 

@@ -1,4 +1,3 @@
 pub mod worked
 pub mod wrong
 pub mod told
-pub mod order

@@ -6,6 +6,5 @@ pub mod WorkedHeld
 pub mod WorkedKnown
 pub mod WorkedEarly
 pub mod WorkedPlayed
-pub mod WorkedOrder
 pub mod WrongRuns
 pub mod told

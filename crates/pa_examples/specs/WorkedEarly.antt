@@ -37,6 +37,7 @@ early_read_trace =
           ∷ [];
     }
 
+-- its eight records beside their ops
 abbrev pub early_read_records : List Played
 early_read_records =
     record { line = 2; thread = 0; phase = 1; op = ops.Alloc 0 0 8; answer = answers.Made (seen_at 16384 0 0) 8 }
@@ -56,18 +57,21 @@ there_history =
     ∷ record { line = 6; gave = held.Nothing; found = held.Ref (record { start = 16384; born = 0 }) }
     ∷ []
 
+-- the second cell's history: on line 8 the raw_ptr is put in, on line 9 it is taken out
 abbrev pub back_history : List CellEntry
 back_history =
     record { line = 8; gave = held.Ref (record { start = 16384; born = 0 }); found = held.Nothing }
     ∷ record { line = 9; gave = held.Nothing; found = held.Ref (record { start = 16384; born = 0 }) }
     ∷ []
 
+-- a line for each phase: the slot is live after the first and quarantined after the second, and seven others are cached
 abbrev pub early_read_report : List ReportLine
 early_read_report =
     report_line 1 (tally 1 16) (tally 0 0) (tally 7 112) two_threads_census
     ∷ report_line 2 (tally 0 0) (tally 1 16) (tally 7 112) two_threads_census
     ∷ []
 
+-- the trace is within the limits and has a run with these lists
 abbrev pub EarlyReadIsTold : Type 0
 EarlyReadIsTold =
     IsTold early_read_trace (map entry_of early_read_records) (two_threads_journal ∷ []) two_threads_pool

@@ -36,6 +36,7 @@ held_trace =
 abbrev pub second_slot : ℕ → Seen
 second_slot word = record { slot = record { start = 16400; born = 0 }; found = record { 0 = word } }
 
+-- its five records beside their ops
 abbrev pub held_records : List Played
 held_records =
     of_first_thread 2 (ops.Alloc 0 0 8) (answers.Made (first_slot 0) 8)
@@ -45,9 +46,11 @@ held_records =
     ∷ of_first_thread 6 (ops.Free 1) (answers.Done (second_slot 0x2000003))
     ∷ []
 
+-- its root's journal: on line 2 a fill of eight slots, 16 bytes apart from byte 16384 on
 abbrev pub held_journal : List RootEntry
 held_journal = fill 2 0 (Some 0) (slots 0 0 (16384 ∷ 16400 ∷ 16416 ∷ 16432 ∷ 16448 ∷ 16464 ∷ 16480 ∷ 16496 ∷ [])) ∷ []
 
+-- the run's lists: its records, that journal and a take of super page 0, with no exchanges and no report
 abbrev pub held_told : Told
 held_told =
     record {
@@ -72,7 +75,7 @@ pub record WordsAreHeld : Type 0 where
   pub some : (words : List ℕ) × (length words ≡ 262144) × HasWords words
   pub held : (words : List ℕ) → HasWords words → IsHeldIn held_trace held_told words
 
--- The worked run of direct maps has these lists. Only its last map stands, which is live and was never written to; the two that
+-- The worked run of direct maps has these lists. Only its last map exists, which is live and was never written to; the two that
 -- went back began at the same byte.
 abbrev pub direct_map_told : Told
 direct_map_told =
@@ -89,6 +92,7 @@ pub record HasMapWords (words : List ℕ) : Type 0 where
   pub live : slice_index words 252415 ≡ 0x1000001
   pub others : (i : ℕ) → 2048 ≤ i → i < 252415 → slice_index words i ≡ 0
 
+-- A region of one super page has such words, and if it has them the run of direct maps is held in it.
 pub record MapIsHeld : Type 0 where
   pub some : (words : List ℕ) × (length words ≡ 262144) × HasMapWords words
   pub held : (words : List ℕ) → HasMapWords words → IsHeldIn direct_map_trace direct_map_told words

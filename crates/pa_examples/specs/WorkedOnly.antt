@@ -31,12 +31,15 @@ pub record Tells (r : Run) (told : List Entry) (journals : List (List RootEntry)
 abbrev pub IsOnlyRun : Trace → List Entry → List (List RootEntry) → List PoolEntry → List (List CellEntry) → List ReportLine → Type 0
 IsOnlyRun t told journals pools exchanged lines = (r : Run) → IsLegal t r → Tells r told journals pools exchanged lines
 
+-- each legal run of the trace of direct maps has the lists of the worked one
 abbrev pub OnlyDirectMaps : Type 0
 OnlyDirectMaps = IsOnlyRun direct_map_trace (map entry_of direct_map_records)
     (direct_map_again_journal ∷ []) direct_map_again_pool [] direct_map_report
 
+-- each legal run of the trace with writes has the lists of the worked one
 abbrev pub OnlyWrites : Type 0
 OnlyWrites = IsOnlyRun writes_trace (map entry_of writes_records) (writes_journal ∷ []) writes_pool [] writes_report
 
+-- each legal run of the trace with a purge has the lists of the worked one
 abbrev pub OnlyPurge : Type 0
 OnlyPurge = IsOnlyRun purge_trace (map entry_of purge_records) (purge_journal ∷ []) purge_pool [] purge_report

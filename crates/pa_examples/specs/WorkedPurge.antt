@@ -26,9 +26,11 @@ purge_trace =
           ∷ [];
     }
 
+-- its report: one line, with one live slot of 16 bytes, none quarantined and seven cached
 abbrev pub purge_report : List ReportLine
 purge_report = report_line 1 (tally 1 16) (tally 0 0) (tally 7 112) purge_census ∷ []
 
+-- the trace is within the limits and has a run with these lists
 abbrev pub PurgeIsTold : Type 0
 PurgeIsTold = IsTold purge_trace (map entry_of purge_records) (purge_journal ∷ []) purge_pool [] purge_report
 

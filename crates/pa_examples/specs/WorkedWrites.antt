@@ -51,12 +51,15 @@ writes_records =
 abbrev pub writes_journal : List RootEntry
 writes_journal = two_threads_journal
 
+-- the pool's one entry: on line 2 partition 0 took super page 0
 abbrev pub writes_pool : List PoolEntry
 writes_pool = two_threads_pool
 
+-- its report: one line, with one live slot of 16 bytes, none quarantined and seven cached
 abbrev pub writes_report : List ReportLine
 writes_report = report_line 1 (tally 1 16) (tally 0 0) (tally 7 112) (census_of 248 3968 4096 2097152 0 1 0 0) ∷ []
 
+-- the trace is within the limits and has a run with these lists
 abbrev pub WritesAreTold : Type 0
 WritesAreTold = IsTold writes_trace (map entry_of writes_records) (writes_journal ∷ []) writes_pool [] writes_report
 

@@ -21,6 +21,7 @@ use Rattle.pa_examples.specs.Worked.{seen_at}
 abbrev pub made : ℕ → Seen → ℕ → Entry
 made line seen usable = record { line = line; thread = 0; answer = answers.Made seen usable }
 
+-- a record of thread 0 that made a step, and what that found
 abbrev pub stepped : ℕ → Seen → Entry
 stepped line seen = record { line = line; thread = 0; answer = answers.Done seen }
 
@@ -38,6 +39,7 @@ maps_trace = record {
   lines = Do 0 (ops.Alloc 0 0 2000000) ∷ Do 0 (ops.Free 0) ∷ Do 0 (ops.Alloc 0 0 2000000) ∷ Do 0 (ops.Free 0) ∷ [];
 }
 
+-- that run's lists: both allocations got the slot at byte 16384, and the journal has one Map and one Unmap, this at number 4 and not 2
 abbrev pub maps_told : Told
 maps_told =
     telling
@@ -54,9 +56,11 @@ MapsFail = (r : Run) → told_by r ≡ maps_told → FailsAt clauses.Caches maps
 abbrev pub refused_trace : Trace
 refused_trace = record { region = 1; partitions = 1; threads = 1; lines = Do 0 (ops.Alloc 0 0 1) ∷ Do 0 (ops.Free 0) ∷ [] }
 
+-- where eight slots start: 16 bytes apart from byte 16384 on, in super page 0
 abbrev pub first_slots : List ℕ
 first_slots = 16384 ∷ 16400 ∷ 16416 ∷ 16432 ∷ 16448 ∷ 16464 ∷ 16480 ∷ 16496 ∷ []
 
+-- that run's lists: a fill, and two refusals that name entry 7 of the pool, which has only entry 0
 abbrev pub refused_told : Told
 refused_told =
     telling
@@ -73,9 +77,11 @@ RefusedFails =
 abbrev pub astray_trace : Trace
 astray_trace = record { region = 2; partitions = 2; threads = 1; lines = Do 0 (ops.Alloc 0 0 8) ∷ Do 0 (ops.Alloc 1 1 8) ∷ [] }
 
+-- where eight slots start: 16 bytes apart from byte 2113536 on, in super page 1
 abbrev pub second_slots : List ℕ
 second_slots = 2113536 ∷ 2113552 ∷ 2113568 ∷ 2113584 ∷ 2113600 ∷ 2113616 ∷ 2113632 ∷ 2113648 ∷ []
 
+-- that run's lists: each partition fills eight slots, and the slot of line 3 is the second of partition 0
 abbrev pub astray_told : Told
 astray_told =
     telling

@@ -3,7 +3,6 @@ ghost use Rattle.pa_examples.specs.WorkedEarly.{EarlyReadIsLegal, EarlyReadIsTol
 ghost use Rattle.pa_examples.specs.WorkedHeld.{MapIsHeld, WordsAreHeld};
 ghost use Rattle.pa_examples.specs.WorkedKnown.{DirectMapIsKnown, TwoThreadsAreKnown};
 ghost use Rattle.pa_examples.specs.WorkedOnly.{OnlyDirectMaps, OnlyPurge, OnlyWrites};
-ghost use Rattle.pa_examples.specs.WorkedOrder.{CopiedHasNone, GonePoisonHasNone, SecondWordHasNone};
 ghost use Rattle.pa_examples.specs.WorkedPlayed.{WorkedRunsArePlayed};
 ghost use Rattle.pa_examples.specs.WorkedPurge.{PurgeIsFiled, PurgeIsTold};
 ghost use Rattle.pa_examples.specs.WorkedWrites.{WritesAreFiled, WritesAreTold};
@@ -77,24 +76,6 @@ pub fn worked_runs_are_known()
 /// Three runs of one thread, which were worked out by hand, have one.
 pub fn worked_runs_are_played()
     ensures { WorkedRunsArePlayed }
-{}
-
-/// A run of two threads has no timeline: one reads a content word that the other's free poisons, and finds poison and then the content.
-/// Poison stays.
-pub fn poison_then_content_has_no_timeline()
-    ensures { GonePoisonHasNone }
-{}
-
-/// A run of two threads has no timeline: one finds poison in the second content word of a slot that the other frees, and then the content
-/// in the first. A free poisons the first word before the second.
-pub fn second_word_first_has_no_timeline()
-    ensures { SecondWordHasNone }
-{}
-
-/// A run of two threads has no timeline: one reads poison and then copies its raw_ptr, the other copies and then frees the slot, and by the
-/// slot's numbers the copy of the one came before the other's. So the read was over before the free began.
-pub fn read_before_copies_has_no_timeline()
-    ensures { CopiedHasNone }
 {}
 
 /// A run that was worked out by hand, in which a direct map is said to come again, fails caches at the record that says so.

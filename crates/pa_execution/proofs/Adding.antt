@@ -43,7 +43,7 @@ sum_past f m (suc n) low none = elim (cases_lt n m) [
       omega arith
 ]
 
--- one number has so much more
+-- one number has this much more
 sum_more : (f g : ℕ → ℕ) (more m n : ℕ) → m < n → f m ≡ more + g m → ((k : ℕ) → (k ≡ m → ⊥) → f k ≡ g k) → sum_over f n ≡ more + sum_over g n
 sum_more f g more m zero low here same = absurd (omega arith)
 sum_more f g more m (suc n) low here same = elim (cases_eq m n) [
@@ -96,7 +96,7 @@ added_same v w aware stakes logs k =
     let c = sum_same (λ r. sum_by (added_to k) (log_of r v)) (λ r. sum_by (added_to k) (log_of r w)) 16 (λ r low. ap (sum_by (added_to k)) (logs r)) in
     b ∙ (c ∙ sym a)
 
--- and where no thread past the first has a log, it is what these logs add up to
+-- and if no thread past the first has a log, it is what these logs add up to
 pub added_by_threads : (v : View) (threads k : ℕ) → IsAware v → threads ≤ 16 → ((r : ℕ) → threads ≤ r → log_of r v ≡ []) →
     added_in v k ≡ sum_over (λ r. sum_by (added_to k) (log_of r v)) threads
 added_by_threads v threads k aware few idle =

@@ -1,12 +1,10 @@
 -- The journals give each slot one length and one partition, by themselves and the pool's entries that they name.
 use Rattle.std.proofs.Common.{◌≡◌, ℕ, zero, suc, ◌<◌, ◌≤◌, List, [], ◌∷◌, Option, Some, None, slice_get, refl, sym, ◌∙◌, ap, subst, arith, inl, inr}
 use Rattle.std.specs.Prelude.{Contains}
-use Rattle.std.specs.List.{list_any}
-use Rattle.std.proofs.lemmas.Bool.{cases_Bool, cases_lt, cases_eq, both_ways}
+use Rattle.std.proofs.lemmas.Bool.{cases_lt, cases_eq}
 use Rattle.std.proofs.lemmas.List.Elements.{Contains-append_left, Contains-append_right, Contains-append_cases}
 use Rattle.pa_machine.specs.declared.title.Title.{Title}
 use Rattle.pa_machine.specs.declared.word.SlotName.{SlotName}
-use Rattle.pa_machine.specs.Run.{same_slot}
 use Rattle.pa_buckets.specs.Table.{slot_of}
 use Rattle.pa_buckets.proofs.Facts.{IsRow-of}
 use Rattle.pa_record.specs.declared.pool.PoolEntry.{PoolEntry}
@@ -29,7 +27,7 @@ use Rattle.pa_logs.specs.Lengths.{titles_by, titles_of, lengths_by}
 use Rattle.pa_logs.specs.Homes.{homes_by}
 use Rattle.pa_logs.proofs.Filters.{place_at}
 use Rattle.pa_logs.proofs.Sizing.{made_listed, listed_made, length_is}
-use Rattle.pa_logs.proofs.Homing.{named_there, there_named}
+use Rattle.pa_logs.proofs.Homing.{home_is}
 
 -- the entry of the pool that a direct map names is that of its slot
 map_asked : (pools : List PoolEntry) (es : List RootEntry) (r : Root) (e : RootEntry) (asked len : ℕ) (slot : SlotName) → RootReplays pools es r → Contains es e →
@@ -46,19 +44,6 @@ map_asked pools (f ∷ es) r e asked len slot fits among act = elim (in_cases f 
 
 map_len : (asked len asked' len' : ℕ) (slot slot' : SlotName) → Map asked slot len ≡ Map asked' slot' len' → len ≡ len'
 map_len asked len asked' len' slot slot' e = cc
-
-module _ (pools : List PoolEntry) (roots : Journals) where
-  -- if no other partition makes a title of the name
-  home_is : (n p : ℕ) (s : SlotName) (t : Title) → p < n → IsMadeBy pools (roots p) t → name_of t ≡ s →
-      ((q : ℕ) (u : Title) → IsMadeBy pools (roots q) u → name_of u ≡ s → q ≡ p) → homes_by n pools roots s ≡ p
-  home_is zero p s t below made is only = absurd (omega arith)
-  home_is (suc n) p s t below made is only = elim (cases_Bool (list_any (λ (t : Title). same_slot (name_of t) s) (titles_by pools (roots n)))) [
-    | inl y ↦ let (u, among, named) = named_there (titles_by pools (roots n)) s y in rw y (only n u (listed_made pools (roots n) u among) named)
-    | inr none ↦ rw none (elim (cases_eq p n) [
-      | inl same ↦ absurd (both_ways _ none (there_named (titles_by pools (roots n)) s t (subst (λ q. Contains (titles_by pools (roots q)) t) same (made_listed pools (roots p) t made)) is))
-      | inr other ↦ home_is n p s t (omega arith) made is only
-    ])
-  ]
 
 module _ (partitions : ℕ) (pools : List PoolEntry) (roots : Journals) (journals : (p : ℕ) → IsJournal pools (roots p)) (none_past : (p : ℕ) → partitions ≤ p → roots p ≡ [])
     (once : (j p q i k : ℕ) (e : PoolEntry) → slice_get pools j ≡ Some e → Names roots p i j → Names roots q k j → (p ≡ q) × (i ≡ k)) where

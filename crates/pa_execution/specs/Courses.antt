@@ -28,6 +28,7 @@ pub record Course : Type 0 where
 abbrev pub is_line_of : ℕ → ℕ → OpLine → Bool
 is_line_of n k o = (o.phase == n) && (o.thread == k)
 
+-- the ops of thread k in phase n, in order; the trace's ops are on lines from 2 on, in phases from 1 on
 abbrev pub lines_in : List Line → ℕ → ℕ → List OpLine
 lines_in ls n k = filter (is_line_of n k) (op_lines 2 1 ls)
 

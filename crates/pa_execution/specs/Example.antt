@@ -22,6 +22,7 @@ use Rattle.pa_execution.specs.Merged.{told_in, lists_at}
 use Rattle.pa_execution.specs.Telling.{IsWholeRun}
 use Rattle.pa_execution.specs.Lines.{IsLineBy}
 
+-- its trace: one super page, one partition and one thread, with a copy in each of two phases
 abbrev pub small_trace : Trace
 small_trace = record {
   region = 1;
@@ -48,6 +49,7 @@ small_view = record {
   seen_lists = [];
 }
 
+-- the state of thread 0: one partition, this view, no registers and no caches
 abbrev pub small_stock : StockValue
 small_stock = record { thread = 0; partitions = 1; view = small_view; registers = []; caches = [] }
 
@@ -59,9 +61,11 @@ small_worker es = record { stock = small_stock; records = es; room = 2; stopped 
 abbrev pub small_line : ℕ → ℕ
 small_line n = if n == 1 then 2 else 4
 
+-- the record of phase n, without its op: thread 0 got the answer Nothing
 abbrev pub small_entry : ℕ → Entry
 small_entry n = record { line = small_line n; thread = 0; answer = Nothing }
 
+-- the record of phase n with its op: its log segment is empty, and nothing was seen before it or handed on
 abbrev pub small_record : ℕ → ToldRecord
 small_record n = record {
   played = record { line = small_line n; thread = 0; phase = n; op = Copy 0 1; answer = Nothing };
@@ -74,6 +78,7 @@ small_record n = record {
 abbrev pub small_before : ℕ → List Entry
 small_before n = if n == 1 then [] else small_entry 1 ∷ []
 
+-- the records up to the end of phase n: one, or both
 abbrev pub small_until : ℕ → List Entry
 small_until n = if n == 1 then small_entry 1 ∷ [] else small_entry 1 ∷ small_entry 2 ∷ []
 
@@ -81,6 +86,7 @@ small_until n = if n == 1 then small_entry 1 ∷ [] else small_entry 1 ∷ small
 abbrev pub small_seat : View
 small_seat = first_view 262144 0
 
+-- how the run went: in each phase the worker plays that phase's one record, and the main seat stays as it is
 abbrev pub small_course : Course
 small_course = record {
   starts = λ n k. small_worker (small_before n);

@@ -38,6 +38,7 @@ abbrev pub IsLiveOf : (p threads : ℕ) → (ℕ → WorkerValue) → View → T
 IsLiveOf p threads workers seat tally =
     IsLeftOf (λ (n : Count). n.issued) (λ (n : Count). n.freed) 0 1 p threads workers seat tally
 
+-- the tally of partition p's quarantined slots is what entered its quarantine less what left it
 abbrev pub IsQuarantinedOf : (p threads : ℕ) → (ℕ → WorkerValue) → View → Tally → Type 0
 IsQuarantinedOf p threads workers seat tally =
     IsLeftOf (λ (n : Count). n.entered) (λ (n : Count). n.left) 2 3 p threads workers seat tally

@@ -29,19 +29,23 @@ CoursesTellHeap =
     (t : Trace) (r : Told) (c : Course) (v : View) (xs : List Exchange) → IsWholeRun t r c v xs →
     HeapTells t r (told_in t c) (lists_at t c)
 
+-- the runner meets its obligations in each whole run
 abbrev pub CoursesTellRunner : Type 0
 CoursesTellRunner =
     (t : Trace) (r : Told) (c : Course) (v : View) (xs : List Exchange) → IsWholeRun t r c v xs →
     RunnerSays t r v (told_in t c) c.seats
 
+-- the pool meets its obligations in each whole run
 abbrev pub CoursesTellPool : Type 0
 CoursesTellPool =
     (t : Trace) (r : Told) (c : Course) (v : View) (xs : List Exchange) → IsWholeRun t r c v xs → PoolTells t r v (told_in t c)
 
+-- the roots meet their obligations in each whole run
 abbrev pub CoursesTellRoots : Type 0
 CoursesTellRoots =
     (t : Trace) (r : Told) (c : Course) (v : View) (xs : List Exchange) → IsWholeRun t r c v xs → RootsTell t r v (told_in t c)
 
+-- the cells meet their obligations in each whole run, with the exchanges that are in the closing seat's list of them
 abbrev pub CoursesTellCells : Type 0
 CoursesTellCells =
     (t : Trace) (r : Told) (c : Course) (v : View) (xs : List Exchange) → IsWholeRun t r c v xs →
@@ -60,6 +64,7 @@ pub record HaveTheirs (t : Trace) (c : Course) : Type 0 where
       (c.ends n k).records ≡ map entry_of (played_in (filter (is_of_thread k) (told_until n (told_in t c))))
   pub unmaps : OnlyUnmapsUncut (told_in t c)
 
+-- so it is in each execution through all phases of a trace that is within the limits
 abbrev pub WorkersHaveTheirs : Type 0
 WorkersHaveTheirs = (t : Trace) (c : Course) → IsWithinLimits t → IsCourse t (phases_in t.lines) c → HaveTheirs t c
 

@@ -37,8 +37,8 @@ pub fn courses_tell_all()
     ensures { CoursesTellAll }
 {}
 
-/// An execution with a right report has a timeline, if the closing seat has no Own that isn't clean: all its steps stand in one order, in
-/// which each found what the steps before it left, and each read gave what stood there.
+/// An execution with a right report has a timeline, if the closing seat has no Own that isn't clean: all its steps are in one order, in
+/// which each found what the steps before it left, and each read gave what its word contained then.
 pub fn courses_tell_timeline()
     ensures { CoursesTellTimeline }
 {}

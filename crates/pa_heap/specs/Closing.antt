@@ -85,6 +85,7 @@ HasTold w = (k : ℕ) → stake_of w.stock.view k ≡ 0
 abbrev pub journal_left : Left → ℕ → List RootEntry
 journal_left l p = slice_index_or l.roots p []
 
+-- the history of cell k at the end; empty if the cell isn't there
 abbrev pub history_left : Left → ℕ → List CellEntry
 history_left l k = slice_index_or l.cells.items k []
 

@@ -1,4 +1,4 @@
--- When an allocation may run out of memory, and what stands of a worker's thread state after a reset, a free or a purge that did.
+-- When an allocation may run out of memory, and what is left of a worker's thread state after a reset, a free or a purge that did.
 use Rattle.std.specs.Prelude.{◌≡◌, ℕ, zero, suc, ◌+◌, ◌<◌, ◌≤◌, [], max}
 use Rattle.pa_machine.specs.declared.word.Step.TheVariants as steps
 use Rattle.pa_buckets.specs.Classes.{IsClassOf}
@@ -29,7 +29,7 @@ StopsFree line reg before after =
     (h : Handle) × (register_in before.registers reg ≡ registers.Own h)
     × StopsRelease line steps.Free h reg registers.Freed (poisoned h.title before.view) before after
 
--- so many partitions were purged whole, one after the other
+-- the first `partitions` partitions were purged whole, one after the other
 abbrev pub PurgesFirst : (line partitions : ℕ) → (before after : StockValue) → Type 0
 PurgesFirst line zero before after = after ≡ before
 PurgesFirst line (suc n) before after =

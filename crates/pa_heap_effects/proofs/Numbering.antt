@@ -1,5 +1,5 @@
 -- The numbers at which a root hands slots out and takes them back, from its journal: a slot leaves it where it has it, and
--- comes back where it is out.
+-- comes back when it is out.
 use Rattle.std.proofs.Common.{◌≡◌, ℕ, ◌+◌, ◌≤◌, Bool, true, cond, List, [], ◌∷◌, ◌++◌, filter, Option, Some, None, refl, sym, ◌∙◌, ap, subst, arith, ◌⊎◌, inl, inr}
 use Rattle.std.specs.Prelude.{Contains}
 use Rattle.std.proofs.lemmas.List.{append-nil}

@@ -20,9 +20,11 @@ use Rattle.pa_legal.specs.Known.{UnmapsNext}
 abbrev pub Acts : Type 0
 Acts = ℕ → List RootAct
 
+-- the entries of these acts, all on one line
 abbrev pub entries_at : ℕ → List RootAct → List RootEntry
 entries_at line acts = map (λ (a : RootAct). record { line = line; act = a }) acts
 
+-- the journals with the acts of a line at the end of each
 abbrev pub grown : Journals → ℕ → Acts → Journals
 grown roots line acts p = roots p ++ entries_at line (acts p)
 
@@ -35,6 +37,7 @@ abbrev pub root_after : List PoolEntry → List RootAct → Root → Root
 root_after pools [] r = r
 root_after pools (a ∷ acts) r = root_after pools acts (root_next pools a r)
 
+-- each act fits the root after those before it, and the entries of the pool that they name rise, from number `least` on
 abbrev pub ActsFit : List PoolEntry → ℕ → List RootAct → Root → Type 0
 ActsFit pools least [] r = Unit {0}
 ActsFit pools least (a ∷ acts) r =

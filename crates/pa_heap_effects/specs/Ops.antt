@@ -40,6 +40,7 @@ use Rattle.pa_heap_effects.specs.Pooled.{pool_at, IsPooledTo, IsDone, IsSoFar}
 abbrev pub no_acts : Acts
 no_acts q = []
 
+-- these acts in partition p, and none in any other
 abbrev pub only_in : ℕ → List RootAct → Acts
 only_in p acts q = if q == p then acts else []
 
@@ -61,6 +62,7 @@ KeepsLists op (answers.Purged slots) = ⊥
 KeepsLists op (answers.Done seen) = (step : Step) → step_of op ≡ Some step → IsReturning step seen.found.0 → ⊥
 KeepsLists op answer = Unit {0}
 
+-- such an answer makes no act and no entry of the pool, and the lists of its thread stay
 abbrev pub NothingMoves : Type 0
 NothingMoves =
     (supers partitions n : ℕ) (ps : List Played) (x : Played) (pools : List PoolEntry) (roots : Journals) (all : Caches) →
@@ -83,6 +85,8 @@ abbrev pub found_by : List Title → Option ℕ
 found_by [] = None
 found_by (t ∷ ts) = Some (super_page_at t.start)
 
+-- the entry that line n made of the pool, if it asked: a take of `count` super pages for partition p, which found those of
+-- the titles
 abbrev pub asked_for : ℕ → ℕ → ℕ → List Title → Option ℕ → List PoolEntry
 asked_for n p count titles None = []
 asked_for n p count titles (Some asked) = record { line = n; partition = p; act = pool.Take count (found_by titles) } ∷ []
@@ -130,6 +134,7 @@ MapIsDone =
     (Map asked seen.slot (shape_of size).slot ∷ [])
     (all x.thread) (all x.thread) after plan
 
+-- a direct map that got no room makes one Full, and the lists of its thread stay
 abbrev pub FullMapIsDone : Type 0
 FullMapIsDone =
     (supers partitions n p size asked j : ℕ) (ps : List Played) (x : Played) (pools : List PoolEntry) (roots : Journals) (all : Caches)
@@ -180,6 +185,8 @@ MapsAreTaken =
 abbrev pub unmap_made : ℕ → ℕ → Title → PoolEntry
 unmap_made n p t = record { line = n; partition = p; act = pool.Give (supers_for t.len) (super_page_at t.start) }
 
+-- a step that returns a direct map makes one Unmap, at the number that it left, and one give of its super pages to the pool;
+-- the lists of its thread stay
 abbrev pub UnmapIsDone : Type 0
 UnmapIsDone =
     (supers partitions n p : ℕ) (ps : List Played) (x : Played) (pools : List PoolEntry) (roots : Journals) (all : Caches) (seen : Seen)
@@ -207,6 +214,7 @@ ListsAreOut =
     (supers partitions n p t : ℕ) (ls : List Line) (ps : List Played) (pools : List PoolEntry) (roots : Journals) (all : Caches) →
     IsSoFar supers partitions n ls ps pools roots all → AreOut (root_at pools roots p) (all_of (all t p) 0 class_count)
 
+-- a purge empties the lists of its thread: their slots go back to the root of each partition, which is purged then
 abbrev pub PurgeIsDone : Type 0
 PurgeIsDone =
     (supers partitions n : ℕ) (ls : List Line) (ps : List Played) (x : Played) (pools : List PoolEntry) (roots : Journals) (all : Caches) →

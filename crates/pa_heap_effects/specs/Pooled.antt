@@ -36,6 +36,7 @@ pub record IsPooledTo (supers n : ℕ) (pools : List PoolEntry) (roots : Journal
 abbrev pub AsksNone : Acts → Type 0
 AsksNone acts = (p : ℕ) (a : RootAct) → Contains (acts p) a → asked_by a ≡ None
 
+-- entry e of the pool is the line's and fits; the line has one act in its partition, which names it, and none in any other
 pub record AsksOnce (supers n : ℕ) (pools : List PoolEntry) (e : PoolEntry) (acts : Acts) : Type 0 where
   pub line : e.line ≡ n
   pub fits : PoolActFits pools e.partition e.act (pool_at supers pools)

@@ -1,4 +1,4 @@
--- A root's numbers go on where its journal grows.
+-- A root's numbers go on when its journal grows.
 use Rattle.std.proofs.Common.{◌≡◌, ℕ, List, [], ◌∷◌, ◌++◌, Option, filter, refl, sym, ◌∙◌, ap, append_assoc, cond, arith}
 use Rattle.std.proofs.lemmas.List.Elements.{filter-append}
 use Rattle.pa_machine.specs.declared.word.SlotName.{SlotName}

@@ -12,32 +12,10 @@ use Rattle.pa_lists.proofs.Members.{first_in, later_in, in_cases, of_some}
 use Rattle.pa_rules.specs.declared.played.Played.{Played}
 use Rattle.pa_rules.specs.Played.{mark_of, marks_of}
 use Rattle.pa_rules.proofs.Marking.{mark_line}
-use Rattle.pa_rules.proofs.Running.{OtherLine, OtherRecord, run_rises, one_mark, first_line}
+use Rattle.pa_rules.proofs.Running.{OtherLine, OtherRecord, run_rises, one_mark, first_line, same_word}
 use Rattle.pa_rules.proofs.Phases.{mark_in}
 use Rattle.pa_rules.proofs.ByLines.{same_record}
 use Rattle.pa_lists.proofs.Elements.{in_one}
-
--- the words are determined by their numbers
-pub same_word : (ms : List Mark) (s : SlotName) (u : ℕ) (vs : List ℕ) (x y : ℕ) → IsRunFrom ms s u vs → Contains (u ∷ vs) x → Contains (u ∷ vs) y → number_of x ≡ number_of y → x ≡ y
-same_word ms s u [] x y run first second e = sym (in_one u x first) ∙ in_one u y second
-same_word ms s u (v ∷ vs) x y (m, p, at, can, is, rest) first second e =
-    let up : number_of v ≡ number_of u + 1 = ap number_of is ∙ number_stepped p u can in
-    elim (in_cases u x (v ∷ vs) first) [
-      | inl f ↦ elim (in_cases u y (v ∷ vs) second) [
-        | inl g ↦ sym f ∙ g
-        | inr after ↦
-            let more = run_rises ms s v vs y rest after in
-            let same : number_of u ≡ number_of x = ap number_of f in
-            absurd (omega arith)
-      ]
-      | inr before ↦ elim (in_cases u y (v ∷ vs) second) [
-        | inl g ↦
-            let more = run_rises ms s v vs x rest before in
-            let same : number_of u ≡ number_of y = ap number_of g in
-            absurd (omega arith)
-        | inr after ↦ same_word ms s v vs x y rest before after e
-      ]
-    ]
 
 -- if a step was made at a word of the run, the next word is one of the run
 pub goes_on : (ms : List Mark) (s : SlotName) (u : ℕ) (vs : List ℕ) (w : ℕ) (m : Mark) (p : Step) → AllPairs OtherLine ms → IsRunFrom ms s u vs → Contains (u ∷ vs) w → IsFirstAt ms s w m p → CanStep p w →

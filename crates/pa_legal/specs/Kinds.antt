@@ -18,6 +18,7 @@ pub record HasOneKind (roots : Journals) (s : SlotName) : Type 0 where
   pub either : (p q c : ℕ) → IsOfClass roots s p c → IsDirect roots s q → ⊥
   pub size : (p q len more : ℕ) → HasSize roots p s len → HasSize roots q s more → (p ≡ q) × (len ≡ more)
 
+-- every slot has one kind, if the journals and the pool are those of some records
 abbrev pub OneKind : Type 0
 OneKind =
     (supers partitions : ℕ) (ps : List Played) (pools : List PoolEntry) (roots : Journals) (s : SlotName) →

@@ -21,9 +21,11 @@ use Rattle.pa_rules.specs.Holders.{Way, Out, Back, Move, moves_by}
 abbrev pub all_moves : List RootEntry → List Move
 all_moves journal = flat_map (λ (e : RootEntry). moves_by e.line e.act) journal
 
+-- the test whether a move is of slot s
 abbrev pub is_of : SlotName → Move → Bool
 is_of s m = same_slot m.slot s
 
+-- what a journal does with slot s, in order
 abbrev pub moves_of : List RootEntry → SlotName → List Move
 moves_of journal s = filter (is_of s) (all_moves journal)
 
@@ -38,6 +40,7 @@ abbrev pub at_after : Way → ℕ → Option ℕ
 at_after Out n = None
 at_after Back n = Some n
 
+-- from `at` on, each move takes the slot out at the number at which the root has it, or brings it back while it is out
 abbrev pub IsNumbered : Option ℕ → List Move → Type 0
 IsNumbered at [] = Unit {0}
 IsNumbered at (m ∷ ms) = HasAt at m.way m.number × IsNumbered (at_after m.way m.number) ms

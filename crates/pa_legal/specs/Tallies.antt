@@ -24,6 +24,7 @@ AreHomes roots home size ms = (m : Mark) → Contains ms m → HasSize roots (ho
 abbrev pub one_of : (SlotName → ℕ) → ℕ → SlotName → ℕ
 one_of home p s = if home s == p then 1 else 0
 
+-- the bytes of a slot of partition p, and 0 for any other
 abbrev pub bytes_of : (SlotName → ℕ) → (SlotName → ℕ) → ℕ → SlotName → ℕ
 bytes_of home size p s = if home s == p then size s else 0
 

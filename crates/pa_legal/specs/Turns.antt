@@ -7,10 +7,12 @@ pub record Turn : Type 0 where
   pub way : Way
   pub thread : ℕ
 
+-- the test whether a slot goes out of the root
 abbrev pub is_out : Way → Bool
 is_out Out = true
 is_out Back = false
 
+-- the test whether a thread has the slot
 abbrev pub is_with : Holder → Bool
 is_with InRoot = false
 is_with (WithThread t) = true
@@ -20,6 +22,7 @@ abbrev pub needs : Way → ℕ → Holder
 needs Out t = InRoot
 needs Back t = WithThread t
 
+-- the holder after a turn of thread t: the thread if it took the slot out, the root if it gave it back
 abbrev pub makes : Way → ℕ → Holder
 makes Out t = WithThread t
 makes Back t = InRoot
@@ -44,9 +47,11 @@ abbrev pub has : ℕ → Holder → ℕ
 has t InRoot = 0
 has t (WithThread u) = if u == t then 1 else 0
 
+-- how many of the turns are those by which thread t takes the slot out
 abbrev pub takes_of : ℕ → List Turn → ℕ
 takes_of t us = count_by (λ (u : Turn). is_out u.way && (u.thread == t)) us
 
+-- how many of the turns are those by which thread t gives the slot back
 abbrev pub backs_of : ℕ → List Turn → ℕ
 backs_of t us = count_by (λ (u : Turn). not (is_out u.way) && (u.thread == t)) us
 

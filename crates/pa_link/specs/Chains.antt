@@ -11,10 +11,11 @@ use Rattle.pa_region.specs.Views.{free_of}
 use Rattle.pa_region.specs.Aware.{IsAware}
 use Rattle.pa_link.specs.declared.chain.ChainParts.{ChainParts}
 
--- the title of so many bytes that has this name; the names of titles, in their order
+-- the title of this many bytes that has this name; the names of titles, in their order
 abbrev pub title_named : ℕ → SlotName → Title
 title_named slot_len s = record { start = s.start; len = slot_len; born = s.born }
 
+-- the names of these titles, in their order
 abbrev pub slot_names : List Title → List SlotName
 slot_names ts = map name_of ts
 
@@ -39,7 +40,7 @@ pub record IsSkipped (v : View) (c : ChainParts) (count : ℕ) (last : Option Ti
   pub none : IsNone last → count ≡ 0
   pub chain : IsChain v c rest
 
--- so many titles along the links in the words, from the front on
+-- the first n titles along the links in the words, from the front on
 unfoldable pub titles_from : List ℕ → ℕ → ℕ → Option SlotName → List Title
 titles_from words slot_len zero front = []
 titles_from words slot_len (suc n) None = []

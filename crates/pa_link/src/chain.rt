@@ -42,7 +42,7 @@ impl Model for Chain {
 }
 
 impl Chain {
-    /// A chain without slots, for slots of so many bytes.
+    /// A chain without slots, for slots of this many bytes.
     pub fn new(slot_len: u32) -> Chain
         ensures { result ≡ record { slot_len = slot_len; head = None; len = 0 } }
     {
@@ -62,7 +62,7 @@ impl Chain {
         self.parts.len
     }
 
-    /// Its parts. It has no front exactly where its length is 0.
+    /// Its parts. It has no front exactly if its length is 0.
     pub fn parts(&self) -> ChainParts
         ensures same { result ≡ self.now }
         ensures none { IsNone result.head ↔ (result.len ≡ 0) }
@@ -78,7 +78,7 @@ impl Chain {
         Chain { parts }
     }
 
-    /// Puts a free title in front: the link to the former front is stored in its first content word.
+    /// Puts a free title at the front: the link to the former front is stored in its first content word.
     pub fn push(&mut self, region: &Region, seat: &mut Seat, title: Title)
         requires region { seat.old.region ≡ region.now }
         requires able { 0 < free_of seat.old.view title }
@@ -104,7 +104,7 @@ impl Chain {
         };
     }
 
-    /// Takes the front. `None` exactly where there is none.
+    /// Takes the front. `None` exactly if there is none.
     pub fn pop(&mut self, region: &Region, seat: &mut Seat) -> Option<Title>
         requires region { seat.old.region ≡ region.now }
         requires chain { (ts : List Title) × IsChain seat.old.view self.old ts }
@@ -136,7 +136,7 @@ impl Chain {
         }
     }
 
-    /// Takes out the titles after the first `keep`, in order, at most 16. They are none where it has no more than `keep`. It
+    /// Takes out the titles after the first `keep`, in order, at most 16. They are none if it has no more than `keep`. It
     /// goes along `keep` links and at most 16 more, and stores one.
     pub fn take_after(&mut self, region: &Region, seat: &mut Seat, keep: u32) -> ArrayVec<Title, 16>
         requires region { seat.old.region ≡ region.now }
@@ -172,7 +172,7 @@ impl Chain {
     }
 }
 
-// The front of a chain that has so many slots after this one.
+// The front of a chain that has this many slots after this one.
 fn next_front(region: &Region, seat: &mut Seat, title: Title, rest: u32) -> Option<SlotName>
     requires region { seat.old.region ≡ region.now }
     requires able { 0 < free_of seat.old.view title }
@@ -187,7 +187,7 @@ fn next_front(region: &Region, seat: &mut Seat, title: Title, rest: u32) -> Opti
     }
 }
 
-// Takes so many titles off the front of a chain that has as many, and answers the last of them.
+// Takes this many titles off the front of a chain that has as many, and answers the last of them.
 fn skip(chain: &mut Chain, region: &Region, seat: &mut Seat, count: u32) -> Option<Title>
     requires region { seat.old.region ≡ region.now }
     requires chain { (ts : List Title) × IsChain seat.old.view chain.old ts }

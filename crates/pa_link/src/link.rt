@@ -7,7 +7,7 @@ ghost use Rattle.pa_link.specs.Chains.{after_link};
 use pa_machine::{SlotName, Title};
 use pa_region::{Region, Seat};
 
-// The link to the front of a list: 0 where there is none.
+// The link to the front of a list: 0 if there is none.
 pub(crate) fn link_of(front: Option<SlotName>) -> u64
     ensures { result ≡ link_to front }
 {

@@ -1,5 +1,5 @@
 -- Lists and options of any type: members and their places, parts of a list, pairs in order, and elements that a value tells apart.
-use Rattle.std.proofs.Common.{◌≡◌, ℕ, List, [], ◌∷◌, ◌++◌, map, take, drop, Option, Some, None, refl, sym, ◌∙◌, ap, subst, inl, inr, length, suc, get_or, Bool, true, ◌+◌}
+use Rattle.std.proofs.Common.{◌≡◌, ℕ, List, [], ◌∷◌, ◌++◌, map, take, drop, Option, Some, None, refl, sym, ◌∙◌, ap, subst, inl, inr, length, suc, get_or, Bool, true, ◌+◌, arith}
 use Rattle.std.specs.Prelude.{Contains, All, AllPairs}
 use Rattle.std.proofs.lemmas.List.{take-append-drop}
 use Rattle.std.proofs.lemmas.List.Elements.{All-nil, All-cons, All-head, All-tail, Contains-append_left, Contains-append_right, Contains-get_or, All-contains}
@@ -48,6 +48,9 @@ pub pairs_front : {A : Type 0} (R : A → A → Type 0) (xs ys : List A) → All
 pairs_front R [] ys h = pairs_none R
 pairs_front R (x ∷ xs) ys h = pairs_cons R x xs (λ y among. pairs_head R x y (xs ++ ys) h (Contains-append_left xs ys y among)) (pairs_front R xs ys (pairs_tail R x (xs ++ ys) h))
 
+pub same_cons : {A : Type 0} (x y : A) (xs ys : List A) → x ≡ y → xs ≡ ys → x ∷ xs ≡ y ∷ ys
+same_cons x y xs ys e f = cc
+
 -- ---- maps
 
 -- a list of which one value comes has one element
@@ -79,6 +82,19 @@ pub length_map : {A B : Type 0} (f : A → B) (xs : List A) → length (map f xs
 length_map f [] = refl
 length_map f (x ∷ xs) = ap suc (length_map f xs)
 
+pub length_same : {A B : Type 0} (f : A → B) (xs : List A) (ys : List B) → map f xs ≡ ys → length ys ≡ length xs
+length_same f xs ys e = sym (ap (λ zs. length zs) e) ∙ length_map f xs
+
+-- maps that are alike at each element
+pub map_alike : {A B : Type 0} (f g : A → B) (xs : List A) → All (λ x. f x ≡ g x) xs → map f xs ≡ map g xs
+map_alike f g [] same = refl
+map_alike f g (x ∷ xs) same =
+    same_cons (f x) (g x) (map f xs) (map g xs) (same 0 x (omega arith)) (map_alike f g xs (λ k d within. same (suc k) d (omega arith)))
+
+pub map_both : {A B C : Type 0} (f : B → C) (g : A → B) (xs : List A) → map f (map g xs) ≡ map (λ x. f (g x)) xs
+map_both f g [] = refl
+map_both f g (x ∷ xs) = ap (λ ys. f (g x) ∷ ys) (map_both f g xs)
+
 -- what holds of all members holds of each
 pub all_from_members : {A : Type 0} (P : A → Type 0) (xs : List A) → ((x : A) → Contains xs x → P x) → All P xs
 all_from_members P xs h k d below = h (get_or xs k d) (Contains-get_or xs k d below)
@@ -90,6 +106,3 @@ passes test xs x h among = All-contains (λ y. test y ≡ true) xs x (AllPass-fr
 pub all_more : {X : Type 0} (P : X → Type 0) (xs : List X) (x : X) → AllByRecursion P xs → P x → AllByRecursion P (xs ++ x ∷ [])
 all_more P [] x h hx = (hx, tt)
 all_more P (y ∷ ys) x h hx = (h.0, all_more P ys x h.1 hx)
-
-pub same_cons : {A : Type 0} (x y : A) (xs ys : List A) → x ≡ y → xs ≡ ys → x ∷ xs ≡ y ∷ ys
-same_cons x y xs ys e f = cc

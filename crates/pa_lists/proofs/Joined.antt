@@ -1,5 +1,5 @@
 -- The members of mapped, filtered and joined lists, and what holds of each two of them.
-use Rattle.std.proofs.Common.{◌≡◌, Bool, true, List, [], ◌∷◌, ◌++◌, map, filter, flat_map, sym, subst, inl, inr}
+use Rattle.std.proofs.Common.{◌≡◌, Bool, true, List, [], ◌∷◌, ◌++◌, map, filter, flat_map, refl, sym, subst, inl, inr}
 use Rattle.std.specs.Prelude.{Contains, AllPairs}
 use Rattle.std.proofs.lemmas.Bool.{cases_Bool, both_ways}
 use Rattle.std.proofs.lemmas.List.Elements.{Contains-append_left, Contains-append_right, Contains-append_cases}
@@ -42,6 +42,9 @@ filter_in test (y ∷ ys) x among passes = elim (cases_Bool (test y)) [
     | inr rest ↦ rw miss (filter_in test ys x rest passes)
   ]
 ]
+
+pub filter_here : {A : Type 0} (test : A → Bool) (x : A) (xs : List A) → test x ≡ true → filter test (x ∷ xs) ≡ x ∷ filter test xs
+filter_here test x xs is = rw is refl
 
 pub flat_cases : {A B : Type 0} (f : A → List B) (xs : List A) (y : B) → Contains (flat_map f xs) y → (x : A) × Contains xs x × Contains (f x) y
 flat_cases f [] y among = absurd (not_in_none y among)

@@ -7,3 +7,4 @@ pub mod Indexed
 pub mod Elements
 pub mod Tests
 pub mod Options
+pub mod Cuts

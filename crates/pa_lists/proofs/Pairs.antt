@@ -29,3 +29,11 @@ pairs_push R (x ∷ xs) y h hs =
       | inr last ↦ subst (λ u. R x u) last (hs x (first_in x xs))
     ])
     (pairs_push R xs y (pairs_tail R x xs h) (λ z among. hs z (later_in x z xs among)))
+
+-- what holds of each two members that a relation relates
+pub pairs_give : {A : Type 0} (R S : A → A → Type 0) (xs : List A) → AllPairs R xs →
+    ((x y : A) → Contains xs x → Contains xs y → R x y → S x y) → AllPairs S xs
+pairs_give R S [] pairs h = pairs_none S
+pairs_give R S (x ∷ xs) pairs h =
+    pairs_cons S x xs (λ y among. h x y (first_in x xs) (later_in x y xs among) (pairs_head R x y xs pairs among))
+    (pairs_give R S xs (pairs_tail R x xs pairs) (λ y z first second. h y z (later_in x y xs first) (later_in x z xs second)))

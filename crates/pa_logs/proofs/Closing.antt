@@ -42,7 +42,7 @@ ends_so words v t history clean is = record {
   live = λ live. is.content live (none_unclean v t clean);
 }
 
--- a title that stands is named, or held by the seat
+-- a title that exists is named, or held by the seat
 ends_told : (words : List ℕ) (v : View) (t : Title) → (end : IsEnd words v) → uncut_of v t ≡ 0 → (logged_of v (names t) ≡ 0 → HasTitle v t) → RegionEndsWith words v t (end.logs.history t)
 ends_told words v t end cut kept = elim (cases_lt 0 (logged_of v (names t))) [
   | inl named ↦ end.named t named cut

@@ -57,7 +57,7 @@ there_named (u ∷ us) s t among is = elim (cases_Bool (same_slot (name_of u) s)
 
 module _ (pools : List PoolEntry) (roots : Journals) where
   -- if no other partition makes a title of the name
-  home_is : (n p : ℕ) (s : SlotName) (t : Title) → p < n → IsMadeBy pools (roots p) t → name_of t ≡ s →
+  pub home_is : (n p : ℕ) (s : SlotName) (t : Title) → p < n → IsMadeBy pools (roots p) t → name_of t ≡ s →
       ((q : ℕ) (u : Title) → IsMadeBy pools (roots q) u → name_of u ≡ s → q ≡ p) → homes_by n pools roots s ≡ p
   home_is zero p s t below made is only = absurd (omega arith)
   home_is (suc n) p s t below made is only = elim (cases_Bool (list_any (λ (t : Title). same_slot (name_of t) s) (titles_by pools (roots n)))) [

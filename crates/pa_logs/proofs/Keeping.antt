@@ -1,4 +1,4 @@
--- A title that stands and that no log names is held: it is with its root, or on a thread's list.
+-- A title that exists and that no log names is held: it is with its root, or on a thread's list.
 use Rattle.std.proofs.Common.{◌≡◌, ℕ, zero, suc, ◌+◌, ◌<◌, List, [], ◌∷◌, Some, refl, sym, ◌∙◌, ap, subst, arith, inl, inr}
 use Rattle.std.specs.Prelude.{Contains}
 use Rattle.std.proofs.lemmas.Bool.{cases_lt}

@@ -27,7 +27,7 @@ none_made k list high makers = made_filter k list ∙ filter_none (is_by k) list
     let same = eqb-true m.stake k mine in
     absurd (omega arith))
 
-none_logged : (k : ℕ) (ts : List ToldRecord) → 16 ≤ k → ((x : ToldRecord) → Contains ts x → x.played.thread < 16) → log_of k ts ≡ []
+pub none_logged : (k : ℕ) (ts : List ToldRecord) → 16 ≤ k → ((x : ToldRecord) → Contains ts x → x.played.thread < 16) → log_of k ts ≡ []
 none_logged k ts high low =
     let stretch : ToldRecord → List Entry = λ x. x.stretch in
     ap (λ xs. flat_map stretch xs) (filter_none (is_of_thread k) ts (λ x among mine.

@@ -145,7 +145,7 @@ all_maps pools (e ∷ es) n r good replays rise t among =
       | inr later ↦ inr (Contains-append_right (maps_by e.act) (flat_map (λ (f : RootEntry). maps_by f.act) es) t later)
     ]
 
--- a title that stands was made
+-- a title that exists was made
 pub stands_made : (pools : List PoolEntry) (journal : List RootEntry) (t : Title) → IsJournal pools journal → IsStanding pools journal t → IsMadeBy pools journal t
 stands_made pools journal t j (inl slot) = inl slot
 stands_made pools journal t j (inr mapped) =

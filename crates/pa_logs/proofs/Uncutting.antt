@@ -1,4 +1,4 @@
--- After a direct map went back it doesn't stand, so a title that stands wasn't uncut.
+-- After a direct map went back it doesn't exist, so a title that exists wasn't uncut.
 use Rattle.std.proofs.Common.{◌≡◌, ℕ, ◌+◌, ◌<◌, ◌≤◌, List, [], ◌∷◌, slice_get, Some, sym, ◌∙◌, ap, subst, arith, inl, inr}
 use Rattle.std.specs.Prelude.{Contains}
 use Rattle.std.proofs.lemmas.Bool.{cases_lt}
@@ -66,7 +66,7 @@ gone_end pools (x ∷ xs) n r e asked slot good fits rise among is =
           gone_end pools xs (least_after n (asked_by x.act)) (root_next pools x.act r) e asked slot (good_next pools x.act 0 n r good asks fits.0) fits.1 rest later is
     ]
 
--- what is gone doesn't stand
+-- what is gone doesn't exist
 not_standing : (pools : List PoolEntry) (journal : List RootEntry) (t : Title) (b m : ℕ) → IsSound (root_replayed pools journal new_root) →
     IsGone b m (root_replayed pools journal new_root) → IsStanding pools journal t → t.born ≡ b → ⊥
 not_standing pools journal t b m sound gone (inl (s, among, number, below, is)) same =

@@ -24,7 +24,7 @@ pub record EndsWith (words : List ℕ) (t : Title) (history : List Done) : Type 
   pub quarantined : IsQuarantined (count_word words t) → HasContentFrom words t 0 poison
   pub live : IsLive (count_word words t) → HasContentFrom words t 0 (content_of history)
 
--- each title that was made and stands has the length of its slot, and the words end with its history
+-- each title that was made and exists has the length of its slot, and the words end with its history
 abbrev pub AreEnds : (SlotName → ℕ) → List ℕ → Told → (Title → List Done) → Type 0
 AreEnds sizes words r history =
     (p : ℕ) (title : Title) → IsStanding r.pools (r.roots p) title →
@@ -37,7 +37,7 @@ HeldFollows =
     AreTold sizes ts → (knows : KnowsAll v ts) → AreEnds sizes words r knows.all.history → IsHeldIn t r words
 
 -- What the closing seat must satisfy besides what the close ensures for it.
---   long: a title that was made and stands has the length of its slot
+--   long: a title that was made and exists has the length of its slot
 --   cut: no log says of it that it was uncut
 --   kept: if no log names it, the seat holds it
 --   clean: each Own of the seat is clean

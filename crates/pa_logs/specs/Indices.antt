@@ -56,6 +56,7 @@ abbrev pub is_asked : Option ℕ → Bool
 is_asked None = false
 is_asked (Some j) = true
 
+-- the journal's entry names one of the pool
 abbrev pub asks : RootEntry → Bool
 asks e = is_asked (asked_by e.act)
 

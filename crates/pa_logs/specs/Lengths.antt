@@ -21,6 +21,7 @@ use Rattle.pa_lists.specs.Numbers.{numbers}
 abbrev pub slots_cut : Span → List Title
 slots_cut s = map (title_at s) (numbers 0 s.made)
 
+-- the direct map's title, if the entry makes one
 abbrev pub maps_by : RootAct → List Title
 maps_by (Fill class asked slots) = []
 maps_by (Map asked slot len) = map_title slot len ∷ []
@@ -34,6 +35,7 @@ abbrev pub titles_by : List PoolEntry → List RootEntry → List Title
 titles_by pools journal =
     flat_map slots_cut (root_replayed pools journal new_root).spans ++ flat_map (λ (e : RootEntry). maps_by e.act) journal
 
+-- the titles that the journals of the first n partitions make
 abbrev pub titles_of : List PoolEntry → Journals → ℕ → List Title
 titles_of pools roots zero = []
 titles_of pools roots (suc n) = titles_by pools (roots n) ++ titles_of pools roots n
@@ -49,7 +51,7 @@ lengths_by partitions pools roots s = length_among (titles_of pools roots partit
 
 -- Then each slot has the length that its journal gives.
 --   made: a title that was made has that of its slot
---   stands: so has one that stands, as the closing seat must satisfy
+--   stands: so has one that exists, as the closing seat must satisfy
 --   named: and a slot has the length of its class or of its direct map
 pub record LengthsFollow : Type 0 where
   pub made : (supers partitions p : ℕ) (ps : List Played) (pools : List PoolEntry) (roots : Journals) (t : Title) →

@@ -15,6 +15,7 @@ abbrev pub first_of : List ℕ → ℕ
 first_of [] = 0
 first_of (n ∷ ns) = n
 
+-- the line of an entry of a list: its first number, 0 if it has none
 abbrev pub line_of : Made → ℕ
 line_of m = first_of m.numbers
 
@@ -22,6 +23,7 @@ line_of m = first_of m.numbers
 abbrev pub is_on : ℕ → Made → Bool
 is_on line m = line_of m == line
 
+-- a list's entries that are of a line, in order
 abbrev pub entries_on : ℕ → List Made → List Made
 entries_on line list = filter (is_on line) list
 

@@ -14,6 +14,7 @@ use Rattle.pa_logs.specs.Steps.{AreSteps}
 abbrev pub is_by_thread : ℕ → Played → Bool
 is_by_thread k x = x.thread == k
 
+-- the records of thread k, in order
 abbrev pub records_by : ℕ → List Played → List Played
 records_by k ps = filter (is_by_thread k) ps
 

@@ -67,6 +67,7 @@ use Rattle.pa_logs.specs.Whole.{IsPlayedOut}
 abbrev pub sizes_in : Trace → Told → SlotName → ℕ
 sizes_in t r = lengths_by t.partitions r.pools r.roots
 
+-- the partition of each slot, as the run's journals say it
 abbrev pub homes_in : Trace → Told → SlotName → ℕ
 homes_in t r = homes_by t.partitions r.pools r.roots
 
@@ -160,6 +161,7 @@ pub record IsReadThrough (sizes : SlotName → ℕ) (reg : Reg) (x : ToldRecord)
   pub owned : (s : SlotName) (t : Title) (place value : ℕ) (since : Deeds) (owner unclean : Bool) → reg ≡ Own s →
       Contains x.stretch (Read t place value since owner unclean) → owner ≡ true
 
+-- a read goes through the register that its op names; of other ops nothing is required
 abbrev pub ReadsIts : (SlotName → ℕ) → Regs → Op → ToldRecord → Type 0
 ReadsIts sizes regs (ops.Read reg place) x = IsReadThrough sizes (regs reg) x
 ReadsIts sizes regs op x = Unit {0}

@@ -1,4 +1,4 @@
--- A title that stands was never uncut, and is held if no log names it.
+-- A title that exists was never uncut, and is held if no log names it.
 use Rattle.std.specs.Prelude.{◌≡◌, ℕ, ◌<◌, List, Contains}
 use Rattle.pa_machine.specs.declared.title.Title.{Title}
 use Rattle.pa_machine.specs.declared.word.SlotName.{SlotName}
@@ -45,7 +45,7 @@ pub record Unmaps (x : ToldRecord) (t : Title) : Type 0 where
 abbrev pub OnlyUnmapsUncut : List ToldRecord → Type 0
 OnlyUnmapsUncut ts = (x : ToldRecord) (t : Title) → Contains ts x → Contains x.stretch (Uncut t) → Unmaps x t
 
--- Then, if a title stands, no log says that it was uncut.
+-- Then, if a title exists, no log says that it was uncut.
 abbrev pub StandsUncut : Type 0
 StandsUncut =
     (supers partitions p : ℕ) (lists : ℕ → List Made) (pools : List PoolEntry) (roots : Journals) (ts : List ToldRecord) (v : View)
@@ -72,7 +72,7 @@ pub record HasFree (supers partitions threads : ℕ) (sizes : SlotName → ℕ) 
   pub listed : (k p class : ℕ) (m : Numbered) → k < threads → p < partitions → class < class_count → Contains (all k p class) m →
       0 < free_of v (title_of sizes m.slot)
 
--- Then the seat holds each title that stands and that no log names, if it has the length of its slot.
+-- Then the seat holds each title that exists and that no log names, if it has the length of its slot.
 abbrev pub StandsHeld : Type 0
 StandsHeld =
     (supers partitions threads p : ℕ) (sizes : SlotName → ℕ) (pools : List PoolEntry) (roots : Journals) (ts : List ToldRecord)

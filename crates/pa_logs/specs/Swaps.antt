@@ -22,6 +22,7 @@ pub record SwapMade : Type 0 where
   pub cell : ℕ
   pub entry : CellEntry
 
+-- the exchange is one with cell k
 abbrev pub is_of_cell : ℕ → SwapMade → Bool
 is_of_cell k e = e.cell == k
 

@@ -39,6 +39,7 @@ told_of ts weight = sum_by (λ (x : ToldRecord). sum_by weight x.stretch) ts
 abbrev pub is_until : ℕ → ToldRecord → Bool
 is_until phase x = nat_le x.played.phase phase
 
+-- the records of phases up to this one, in order
 abbrev pub told_until : ℕ → List ToldRecord → List ToldRecord
 told_until phase ts = filter (is_until phase) ts
 

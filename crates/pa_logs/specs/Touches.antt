@@ -65,11 +65,13 @@ abbrev pub done_step : Option Step → ℕ → Seen → Option StepMade
 done_step None value seen = None
 done_step (Some step) value seen = Some (record { slot = seen.slot; step = step; found = seen.found.0; value = value })
 
+-- the step of an op with this answer: an issue if a slot was made, the op's own step if that was done, and else none
 abbrev pub step_in : Op → Answer → Option StepMade
 step_in op (answers.Made seen usable) = Some (record { slot = seen.slot; step = steps.Issue; found = seen.found.0; value = 0 })
 step_in op (answers.Done seen) = done_step (step_of op) (value_by op) seen
 step_in op answer = None
 
+-- the step that a record made, if it made one
 abbrev pub step_by : Played → Option StepMade
 step_by x = step_in x.op x.answer
 
@@ -99,10 +101,12 @@ abbrev pub IsDoneTold : (SlotName → ℕ) → Option Step → ℕ → Seen → 
 IsDoneTold sizes None value seen es = ⊥
 IsDoneTold sizes (Some step) value seen es = IsStepTold (title_of sizes seen.slot) step seen.found.0 value es
 
+-- if a slot was seen, the log segment has a look at it that found it in use, and touches nothing else; if none was, it touches nothing
 abbrev pub IsSeenTold : (SlotName → ℕ) → Option Seen → List Entry → Type 0
 IsSeenTold sizes None es = touches es ≡ []
 IsSeenTold sizes (Some seen) es = IsLookTold (title_of sizes seen.slot) seen.found.0 es
 
+-- the op is a read, and the log segment has a look at the slot and right after it the read of that place, which gave this value
 abbrev pub ReadsTold : (SlotName → ℕ) → Op → Seen → ℕ → List Entry → Type 0
 ReadsTold sizes op seen value es =
     (reg place : ℕ) × (owned : Bool) × (op ≡ ops.Read reg place)
@@ -125,6 +129,7 @@ IsToldBy sizes op answer es = touches es ≡ []
 abbrev pub IsTold : (SlotName → ℕ) → ToldRecord → Type 0
 IsTold sizes x = IsToldBy sizes x.played.op x.played.answer x.stretch
 
+-- the log segment of each of these records is what its answer requires
 abbrev pub AreTold : (SlotName → ℕ) → List ToldRecord → Type 0
 AreTold sizes ts = (x : ToldRecord) → Contains ts x → IsTold sizes x
 
@@ -139,5 +144,6 @@ pub record TellsMark (sizes : SlotName → ℕ) (x : ToldRecord) : Type 0 where
   pub step_is : (t : Title) (step : Step) (found value : ℕ) → Contains x.stretch (Counted t step found value)
       → (d : StepMade) × (step_by x.played ≡ Some d) × (Counted t step found value ≡ Counted (title_of sizes d.slot) d.step d.found d.value)
 
+-- each log segment that is what its record's answer requires says what the record's mark does
 abbrev pub TellsItsMark : Type 0
 TellsItsMark = (sizes : SlotName → ℕ) (x : ToldRecord) → IsTold sizes x → TellsMark sizes x

@@ -25,9 +25,11 @@ use Rattle.pa_logs.specs.Viewed.{IsOrdered, AreViewed}
 abbrev pub sixteen : SlotName → ℕ
 sixteen s = 16
 
+-- the slot at byte 16384, seen with this count word
 abbrev pub slot_with : ℕ → Seen
 slot_with word = record { slot = record { start = 16384; born = 0 }; found = record { 0 = word } }
 
+-- the slot's title: 16 bytes from byte 16384 on, out of what the pool's entry 0 took
 abbrev pub its_title : Title
 its_title = record { start = 16384; len = 16; born = 0 }
 
@@ -48,17 +50,21 @@ worked line thread op answer stretch saw gives = record {
 abbrev pub the_maker : ToldRecord
 the_maker = worked 2 0 (ops.Alloc 0 0 8) (answers.Made (slot_with 0) 8) (Counted its_title Issue 0 0 ∷ []) 0 1
 
+-- line 3: thread 0 makes a Ref of the slot, and hands on number 2
 abbrev pub the_copy : ToldRecord
 the_copy = worked 3 0 (ops.Copy 0 1) (answers.Done (slot_with 16777217)) (Counted its_title Copy 16777217 0 ∷ []) 1 2
 
+-- line 4: thread 1 looks at the slot and reads its content word 0, which is 0
 abbrev pub the_reader : ToldRecord
 the_reader =
     worked 4 1 (ops.Read 0 0) (answers.Value (slot_with 33554435) 0)
     (Looked its_title 33554435 ∷ Read its_title 0 0 no_deeds false false ∷ []) 2 2
 
+-- line 5: thread 0 frees the slot while one Ref of it is left, and hands on number 3
 abbrev pub the_free : ToldRecord
 the_free = worked 5 0 (ops.Free 0) (answers.Done (slot_with 33554435)) (Counted its_title Free 33554435 0 ∷ []) 2 3
 
+-- the four records in the order of their lines: an allocation, a copy, a read and a free
 abbrev pub worked_records : List ToldRecord
 worked_records = the_maker ∷ the_copy ∷ the_reader ∷ the_free ∷ []
 
@@ -66,6 +72,7 @@ worked_records = the_maker ∷ the_copy ∷ the_reader ∷ the_free ∷ []
 abbrev pub with_log : List ToldRecord → Stake → Stake
 with_log ts s = record { number = s.number; log = log_of s.number ts }
 
+-- a view that has 262144 words, all 0, and the 16 stakes with the logs of these records, and holds nothing
 abbrev pub view_of : List ToldRecord → View
 view_of ts = record {
   raws = [];

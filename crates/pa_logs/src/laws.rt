@@ -144,12 +144,12 @@ pub fn report_follows()
     ensures { ReportFollows }
 {}
 
-/// If a title stands, no log says that it was uncut.
+/// If a title exists, no log says that it was uncut.
 pub fn stands_uncut()
     ensures { StandsUncut }
 {}
 
-/// The closing seat holds each title that stands and that no log names: it is with its root, or on a thread's list.
+/// The closing seat holds each title that exists and that no log names: it is with its root, or on a thread's list.
 pub fn stands_held()
     ensures { StandsHeld }
 {}

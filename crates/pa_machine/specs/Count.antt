@@ -11,9 +11,11 @@ word_of k c h = 16777216 * k + 2 * c + h
 abbrev pub number_of : ℕ → ℕ
 number_of w = w / 16777216
 
+-- how many raw_ptrs the word counts, in bits 1 to 23
 abbrev pub refs_of : ℕ → ℕ
 refs_of w = w % 16777216 / 2
 
+-- the allocator's bit of the word, bit 0: 1 while the slot is allocated
 abbrev pub held_of : ℕ → ℕ
 held_of w = w % 2
 

@@ -28,6 +28,7 @@ HasActor s actor = actor < length s.holdings
 abbrev pub held_by : State → ℕ → Thing → ℕ
 held_by s actor x = held_in (slice_index_or s.holdings actor []) x
 
+-- the actor holds the thing at least once
 abbrev pub Holds : State → ℕ → Thing → Type 0
 Holds s actor x = 0 < held_by s actor x
 
@@ -57,9 +58,11 @@ CanCount Write s actor t =
 abbrev pub IsRawWord : State → ℕ → ℕ → Type 0
 IsRawWord s actor at = HoldsRaw s actor at 8
 
+-- it is a content word of a free title that the actor holds
 abbrev pub IsFreeWord : State → ℕ → ℕ → Type 0
 IsFreeWord s actor at = (t : Title) × Holds s actor (FreeTitle t) × IsContentOf t at
 
+-- it is a content word of this title, which the actor has as a clean or dirty Own, and to which no Ref points
 abbrev pub IsOwnWord : State → ℕ → ℕ → Title → OwnState → Type 0
 IsOwnWord s actor at t state =
     HoldsOpen s actor t state × IsContentOf t at × (refs_of (count_word s.words t) ≡ 0)

@@ -21,6 +21,7 @@ pub data Thing : Type 0 where
   OwnAs : Title → OwnState → Thing
   RefOf : Title → Thing
 
+-- a test's answer as a number: 1 if it is true, 0 if it is false
 abbrev pub one : Bool → ℕ
 one true = 1
 one false = 0

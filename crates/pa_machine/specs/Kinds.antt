@@ -12,6 +12,7 @@ issues Reset w = false
 issues Free w = false
 issues Write w = false
 
+-- the step ends that a slot is live: it is a free, whatever word it found
 abbrev pub frees : Step → ℕ → Bool
 frees Issue w = false
 frees Copy w = false
@@ -27,6 +28,7 @@ enters Reset w = false
 enters Free w = not (refs_of w == 0)
 enters Write w = false
 
+-- the step ends a quarantine: it is a reset that found the allocator's bit 0 and the last raw_ptr
 abbrev pub leaves : Step → ℕ → Bool
 leaves Issue w = false
 leaves Copy w = false

@@ -15,11 +15,12 @@ linked_name link = record { start = swap_bytes w64 link % 4294967296; born = swa
 abbrev pub first_word : List ℕ → SlotName → ℕ
 first_word words s = slice_index words (s.start / 8)
 
--- the front of a list of slots, and the link to it, which is 0 where there is none
+-- the front of a list of slots, and the link to it, which is 0 if there is none
 abbrev pub front_of : List SlotName → Option SlotName
 front_of [] = None
 front_of (s ∷ ss) = Some s
 
+-- the link to a slot, or 0 if there is none
 abbrev pub link_to : Option SlotName → ℕ
 link_to None = 0
 link_to (Some s) = link_number s
@@ -29,7 +30,7 @@ abbrev pub AreLinked : List ℕ → List SlotName → Type 0
 AreLinked words [] = Unit
 AreLinked words (s ∷ ss) = (first_word words s ≡ link_to (front_of ss)) × AreLinked words ss
 
--- a list stays linked where the first word of each of its slots is the same in other words
+-- a list stays linked if the first word of each of its slots is the same in other words
 abbrev pub LinksStay : Type 0
 LinksStay = (words others : List ℕ) (ss : List SlotName) → All (λ s. first_word others s ≡ first_word words s) ss →
     AreLinked words ss → AreLinked others ss

@@ -44,9 +44,11 @@ Slots ms = (s : SlotName) → (vs : List ℕ) × IsRunFrom ms s 0 vs × IsOneRun
 abbrev pub IsLive : ℕ → Type 0
 IsLive w = held_of w ≡ 1
 
+-- quarantined: the allocator's bit is 0, and at least one raw_ptr is counted
 abbrev pub IsQuarantined : ℕ → Type 0
 IsQuarantined w = (held_of w ≡ 0) × (0 < refs_of w)
 
+-- free: the allocator's bit is 0, and no raw_ptr is counted
 abbrev pub IsFree : ℕ → Type 0
 IsFree w = (held_of w ≡ 0) × (refs_of w ≡ 0)
 

@@ -21,11 +21,12 @@ use Rattle.pa_machine.specs.Events.{State, total_of, Holds, HoldsRaw, HoldsOpen,
 abbrev pub Place : Type 0
 Place = Option (Box Slot Global)
 
--- the bytes that an actor holds as raw, one by one from byte b on
+-- whether the byte's holder is the actor; a byte without a holder has none
 abbrev pub is_holder : ℕ → Option ℕ → Bool
 is_holder actor None = false
 is_holder actor (Some other) = other == actor
 
+-- a piece of one byte for each byte whose holder is the actor; the first entry of the list is that of byte b
 abbrev pub raw_pieces : ℕ → ℕ → List (Option ℕ) → List Piece
 raw_pieces actor b [] = []
 raw_pieces actor b (h ∷ hs) = if is_holder actor h then RawPiece b 1 ∷ raw_pieces actor (b + 1) hs else raw_pieces actor (b + 1) hs
@@ -35,17 +36,21 @@ abbrev pub free_pieces : ℕ → Title → Option ℕ → List Piece
 free_pieces actor t None = []
 free_pieces actor t (Some other) = if other == actor then FreePiece t ∷ [] else []
 
+-- the title's Own in its state, if the actor is the owner
 abbrev pub own_pieces : ℕ → Title → Option Owner → List Piece
 own_pieces actor t None = []
 own_pieces actor t (Some owner) = if owner.actor == actor then OwnPiece t owner.state ∷ [] else []
 
+-- a Ref for each time that the actor is in the list of those that hold one
 abbrev pub ref_pieces : ℕ → Title → List ℕ → List Piece
 ref_pieces actor t [] = []
 ref_pieces actor t (r ∷ rs) = if r == actor then RefPiece t ∷ ref_pieces actor t rs else ref_pieces actor t rs
 
+-- all that the actor holds of an entry's title: it free, its Own, and its Refs
 abbrev pub slot_pieces : ℕ → Slot → List Piece
 slot_pieces actor o = free_pieces actor o.title o.free ++ (own_pieces actor o.title o.own ++ ref_pieces actor o.title o.refs.items)
 
+-- the same for a place of the table of titles: an empty one gives nothing
 abbrev pub place_pieces : ℕ → Place → List Piece
 place_pieces actor None = []
 place_pieces actor (Some b) = slot_pieces actor b.value
@@ -54,6 +59,7 @@ place_pieces actor (Some b) = slot_pieces actor b.value
 abbrev pub pieces_of : List (Option ℕ) → List Place → ℕ → List Piece
 pieces_of holders slots actor = raw_pieces actor 0 holders ++ flat_map (place_pieces actor) slots
 
+-- what each actor holds, from actor 0 on
 abbrev pub holdings_of : List (Option ℕ) → List Place → ℕ → List (List Piece)
 holdings_of holders slots actors = map (pieces_of holders slots) (range_with_len 0 actors)
 
@@ -61,11 +67,12 @@ holdings_of holders slots actors = map (pieces_of holders slots) (range_with_len
 abbrev pub state_of : Tables → State
 state_of c = record { words = c.words.items; holdings = holdings_of c.holders.items c.slots.items c.actors }
 
--- the title's entry, if it is there
+-- the entry that a place of the table has, if it is this title's
 abbrev pub kept_as : Title → Place → Option Slot
 kept_as t None = None
 kept_as t (Some b) = if same_title b.value.title t then Some b.value else None
 
+-- the title's entry in the table, at the index of the title's first word, if it is there
 abbrev pub slot_at : List Place → Title → Option Slot
 slot_at slots t = kept_as t (slice_index_or slots (t.start / 8) None)
 
@@ -74,6 +81,7 @@ abbrev pub IsHolderWithin : ℕ → Option ℕ → Type 0
 IsHolderWithin actors None = Unit {0}
 IsHolderWithin actors (Some actor) = actor < actors
 
+-- an owner, if there is one, is among the actors
 abbrev pub IsOwnerWithin : ℕ → Option Owner → Type 0
 IsOwnerWithin actors None = Unit {0}
 IsOwnerWithin actors (Some owner) = owner.actor < actors
@@ -84,6 +92,7 @@ IsHeldBy o actor =
     (o.free ≡ Some actor)
     ⊎ (((state : OwnState) × (o.own ≡ Some (record { actor = actor; state = state }))) ⊎ Contains o.refs.items actor)
 
+-- the actor owns the entry's title, and has content words left to poison
 abbrev pub CanPoison : Slot → ℕ → Type 0
 CanPoison o actor =
     (state : OwnState) × (o.own ≡ Some (record { actor = actor; state = state })) × (progress state < content_count o.title)
@@ -103,6 +112,7 @@ abbrev pub MayChange : State → ℕ → Title → Type 0
 MayChange s actor t =
     Holds s actor (FreeTitle t) ⊎ (((state : OwnState) × HoldsOpen s actor t state) × (refs_of (count_word s.words t) ≡ 0))
 
+-- the word at the byte offset `at` is a content word of the actor's free title, or of its clean or dirty Own to which no Ref points
 abbrev pub MayWrite : State → ℕ → ℕ → Type 0
 MayWrite s actor at =
     IsFreeWord s actor at ⊎ ((t : Title) × (state : OwnState) × IsOwnWord s actor at t state)
@@ -113,11 +123,12 @@ IsPlaced words actors i None = Unit {0}
 IsPlaced words actors i (Some b) =
     (b.value.title.start ≡ 8 * i) × IsWellFormed words b.value.title × IsHolderWithin actors b.value.free × IsOwnerWithin actors b.value.own
 
--- the entry that the table of homes names for the byte offset `at`, if its title covers the byte
+-- the entry that a place of the table has, if its title covers the byte offset `at`
 abbrev pub kept_over : ℕ → Place → Option Slot
 kept_over at None = None
 kept_over at (Some b) = if nat_le b.value.title.start at && nat_lt at (b.value.title.start + b.value.title.len) then Some b.value else None
 
+-- the entry at the index that the table of homes has for the byte's word, if its title covers the byte
 abbrev pub slot_over : List ℕ → List Place → ℕ → Option Slot
 slot_over homes slots at = kept_over at (slice_index_or slots (slice_index homes (at / 8)) None)
 

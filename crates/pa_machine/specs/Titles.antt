@@ -23,6 +23,7 @@ content_count t = t.len / 8 - 1
 abbrev pub content_place : Title → ℕ → ℕ
 content_place t i = t.start / 8 + i
 
+-- which word of the region is the title's count word: the last of its words
 abbrev pub count_place : Title → ℕ
 count_place t = t.start / 8 + content_count t
 
@@ -30,6 +31,7 @@ count_place t = t.start / 8 + content_count t
 abbrev pub content_at : List ℕ → Title → ℕ → ℕ
 content_at words t i = slice_index words (content_place t i)
 
+-- the title's count word
 abbrev pub count_word : List ℕ → Title → ℕ
 count_word words t = slice_index words (count_place t)
 
@@ -57,6 +59,7 @@ IsPoisonedTo words t j = (i : ℕ) → i < j → content_at words t i ≡ poison
 abbrev pub same_title : Title → Title → Bool
 same_title t u = (t.start == u.start) && ((t.len == u.len) && (t.born == u.born))
 
+-- the test whether two states of an Own are one, a poisoned one with the same progress
 abbrev pub same_state : OwnState → OwnState → Bool
 same_state Clean Clean = true
 same_state Clean Dirty = false

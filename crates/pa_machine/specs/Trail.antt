@@ -41,6 +41,7 @@ pub record IsReturnedBy (e : Event) (s after : State) (t : Title) : Type 0 where
   pub gets : held_by after actor (FreeTitle t) ≡ 1
   pub alone : (other : ℕ) → (other ≡ actor → ⊥) → held_by after other (FreeTitle t) ≡ 0
 
+-- each title that was held as an Own or a Ref, and is free after the event, was returned by the event
 abbrev pub OnlyReturns : Event → State → State → Type 0
 OnlyReturns e s after =
     (t : Title) → 0 < total_of s (OwnOf t) + total_of s (RefOf t) → 0 < total_of after (FreeTitle t) → IsReturnedBy e s after t

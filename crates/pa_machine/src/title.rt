@@ -2,7 +2,7 @@ ghost use Rattle.std.specs.Prelude.{◌≡◌, ℕ, ◌+◌, ◌/◌, ◌≤◌,
 ghost use Rattle.pa_machine.specs.Titles.{content_count, count_place, progress, Covers, IsContentOf};
 
 /// A title: the bytes `start` to `start + len - 1` as one slot, its last 8 bytes the count word and those before it
-/// the content words. `born` tells apart titles that use the same bytes one after the other.
+/// the content words. `born` distinguishes titles that use the same bytes one after the other.
 #[derive(Clone, Copy, Debug, PartialEq, Eq, Default)]
 pub struct Title {
     pub start: u32,

@@ -14,5 +14,6 @@ HasRawRecord v place = (b : ℕ) → record_byte place ≤ b → b < record_byte
 abbrev pub with_word : ℕ → ℕ → View → View
 with_word q value v = record v { words = slice_set v.words q value; since = record v.since { stored = true } }
 
+-- the view after the four words of this span's record were stored for the page at this offset
 abbrev pub after_record : ℕ → Span → View → View
 after_record place s v = record v { words = with_record v.words (record_word place) s; since = record v.since { stored = true } }

@@ -45,6 +45,7 @@ Player = PlayerTo Lists LinesSoFar
 abbrev pub trace_so_far : Player → Trace
 trace_so_far p = trace_with p.lines.head p.lines.items
 
+-- the records of the lines so far, each with its op
 abbrev pub records_so_far : Player → List Played
 records_so_far p = played p.lines.items p.inner.told.entries
 
@@ -104,6 +105,7 @@ abbrev pub owned_of : Option (Title × ℕ) → Option Handed
 owned_of None = None
 owned_of (Some (title, partition)) = Some (record { slot = name_of title; len = title.len; partition = partition })
 
+-- the slot that a thread's register owns, if it is an owner
 abbrev pub owned_by : Player → ℕ → ℕ → Option Handed
 owned_by p thread reg = owned_of (title_owned p.inner.table (register_at p.inner thread reg))
 

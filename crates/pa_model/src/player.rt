@@ -1,4 +1,4 @@
-ghost use Rattle.std.specs.Prelude.{◌≡◌, ◌<◌, IfOk, IfSome, length};
+ghost use Rattle.std.specs.Prelude.{◌≡◌, ◌<◌, IfOk, IfSome, OnErr, length};
 ghost use Rattle.pa_trace.specs.Limits.{IsHeadWithin, IsLineWithin, register_count};
 ghost use Rattle.pa_trace_writer.specs.Lines.{no_lines};
 ghost use Rattle.pa_record.specs.declared.run.Run.{Run};
@@ -13,7 +13,7 @@ use pa_trace_writer::{Keeper, Kept, LineList, LineText};
 use std::alloc::Global;
 
 /// A trace that is played line by line, by lines that a caller chooses as it goes. Its lines and its run are kept as lists, or
-/// printed as it is played: `T` is what its run is told to, and `L` what its lines are given to.
+/// printed as it is played: `T` is what its run is given to, and `L` what its lines are given to.
 #[derive(Drop)]
 pub struct Player<T, L> {
     pub(crate) inner: LinePlayer<T>,
@@ -70,7 +70,7 @@ impl Player<Told<ListOutput>, Kept<LineList>> {
 }
 
 impl Player<Told<TextOutput>, Kept<LineText>> {
-    /// No line yet, as in `new`, of a player that prints its lines and its run. Memory is reserved for so many lines and their
+    /// No line yet, as in `new`, of a player that prints its lines and its run. Memory is reserved for this many lines and their
     /// records.
     pub fn printing(
         alloc: Global,
@@ -108,13 +108,14 @@ impl Player<Told<TextOutput>, Kept<LineText>> {
 
 impl<O: Output, K: Keeper> Player<Told<O>, Kept<K>> {
     /// Plays a line. Returns its answer, and none of a line that begins a phase. Out of memory is the only error; after it
-    /// the player can't be used.
+    /// the player can't be used, and has the lines that it had.
     pub fn line(&mut self, line: Line) -> Result<Option<Answer>, OutOfMemory>
         requires going { IsGoing self.old }
         requires few { length self.old.lines.items < 65535 }
         requires within { IsLineWithin self.old.lines.head.partitions self.old.lines.head.threads line }
         ensures played { IfOk result (λ answer. PlaysLine self.old line answer self.new) }
         ensures owned { IfOk result (ReadsOwned self.old line) }
+        ensures same { OnErr result (self.new.lines ≡ self.old.lines) }
     {
         let answer = self.inner.line(line)?;
         self.lines.push(line)?;
@@ -134,7 +135,7 @@ impl<O: Output, K: Keeper> Player<Told<O>, Kept<K>> {
     }
 }
 
-// A player before the first line, which tells its run to `told` and gives its lines to `lines`.
+// A player before the first line, which gives its run to `told` and its lines to `lines`.
 fn begin<O: Output, K: Keeper>(
     alloc: Global,
     head: Head,

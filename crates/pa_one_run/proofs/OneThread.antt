@@ -33,9 +33,8 @@ use Rattle.pa_rules.proofs.Recorded.{records_are_lines}
 use Rattle.pa_rules.specs.Sizes.{usable_of}
 use Rattle.pa_rules.proofs.Marking.{mark_line, found_left}
 use Rattle.pa_rules.proofs.Numbering.{lines_rise}
-use Rattle.pa_rules.proofs.Running.{mark_from, run_rises, made_some}
+use Rattle.pa_rules.proofs.Running.{mark_from, run_rises, made_some, same_word}
 use Rattle.pa_rules.proofs.Within.{records_within}
-use Rattle.pa_legal.proofs.Words.{same_word}
 use Rattle.pa_one_run.specs.Before.{word_from}
 use Rattle.pa_one_run.proofs.words.Marks.{Rises, marks_rise}
 use Rattle.pa_one_run.proofs.words.Fronts.{FindsLeft, front_of, steps_at}

@@ -17,9 +17,11 @@ use Rattle.pa_one_run.specs.Parts.{Parts, entry_line}
 abbrev pub below : {A : Type 0} → (A → ℕ) → ℕ → List A → List A
 below f n xs = filter (λ x. nat_lt (f x) n) xs
 
+-- what is on line n
 abbrev pub on : {A : Type 0} → (A → ℕ) → ℕ → List A → List A
 on f n xs = filter (λ x. f x == n) xs
 
+-- what comes after line n
 abbrev pub past : {A : Type 0} → (A → ℕ) → ℕ → List A → List A
 past f n xs = filter (λ x. nat_lt n (f x)) xs
 
@@ -28,6 +30,7 @@ abbrev pub stepped_by : Option Step → ℕ → ℕ
 stepped_by None u = u
 stepped_by (Some p) u = stepped p u
 
+-- the word of slot s after some marks, if it was u before them
 abbrev pub word_from : List Mark → SlotName → ℕ → ℕ
 word_from [] s u = u
 word_from (m ∷ ms) s u = word_from ms s (cond (same_slot m.slot s) (stepped_by m.step u) u)

@@ -35,8 +35,10 @@ parts_of t r =
 abbrev pub entry_line : RootEntry → ℕ
 entry_line e = e.line
 
+-- the line of an entry of the pool
 abbrev pub pool_line : PoolEntry → ℕ
 pool_line e = e.line
 
+-- the line of an exchange
 abbrev pub cell_line : CellEntry → ℕ
 cell_line e = e.line

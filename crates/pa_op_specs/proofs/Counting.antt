@@ -185,7 +185,7 @@ module _ (home size : SlotName → ℕ) (x : Played) (m : Mark) (step : Step) (m
             ap part there ∙ grew_elsewhere test weight (part (slice_index_or cs p d)) (none other)
       ]
 
-  -- the slot weighs so much in its partition, and nothing in others
+  -- the slot weighs this much in its partition, and nothing in others
   weighs_here : (p k n : ℕ) → home m.slot ≡ k → p ≡ k → n ≡ (if home m.slot == p then n else 0)
   weighs_here p k n is same = let here : (home m.slot == p) ≡ true = eq-eqb (home m.slot) p (is ∙ sym same) in rw here refl
 

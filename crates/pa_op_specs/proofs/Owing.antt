@@ -52,7 +52,7 @@ owes_step q t step found value es (looks, are, is) =
     last : sum_by (owes_as q) (Counted t step found value ∷ []) ≡ (if is_of_kind q step found then t.len else 0)
     last = let a = sum_by-cons (owes_as q) (Counted t step found value) [] in omega arith
 
--- so for a slot that was made, of so many bytes
+-- so for a slot that was made, of this many bytes
 pub owes_made : (registers : List StockRegister) (op : Op) (seen : Seen) (usable bytes : ℕ) (es : List Entry) →
     IsStepTold (title_of (λ (s : SlotName). bytes) seen.slot) steps.Issue seen.found.0 0 es → bytes_stepped registers op (answers.Made seen usable) ≡ bytes →
     OwesOf registers op (answers.Made seen usable) es

@@ -93,77 +93,21 @@ plainly op (answers.Made seen usable) is = absurd is
 plainly op (answers.Done seen) is = absurd is
 plainly op (answers.Value seen value) is = absurd is
 plainly op (answers.Dangling seen value) is = absurd is
-plainly op (answers.SecondFree None) is = record {
-  room = λ j e. cc;
-  no_swap = λ j e. cc;
-  told = λ sizes. refl;
-  owes = λ rs q. refl;
-  lists = λ n roots x c d none same. (none, same);
-  home = λ line m e. not_some m e;
-}
 plainly op (answers.SecondFree (Some seen)) is = absurd is
 plainly op (answers.NotOwner seen) is = absurd is
-plainly op answers.StaleReset is = record {
-  room = λ j e. cc;
-  no_swap = λ j e. cc;
-  told = λ sizes. refl;
-  owes = λ rs q. refl;
-  lists = λ n roots x c d none same. (none, same);
-  home = λ line m e. not_some m e;
-}
-plainly op (answers.StaleUse None) is = record {
-  room = λ j e. cc;
-  no_swap = λ j e. cc;
-  told = λ sizes. refl;
-  owes = λ rs q. refl;
-  lists = λ n roots x c d none same. (none, same);
-  home = λ line m e. not_some m e;
-}
 plainly op (answers.StaleUse (Some seen)) is = absurd is
-plainly op answers.Nothing is = record {
-  room = λ j e. cc;
-  no_swap = λ j e. cc;
-  told = λ sizes. refl;
-  owes = λ rs q. refl;
-  lists = λ n roots x c d none same. (none, same);
-  home = λ line m e. not_some m e;
-}
-plainly op answers.Filled is = record {
-  room = λ j e. cc;
-  no_swap = λ j e. cc;
-  told = λ sizes. refl;
-  owes = λ rs q. refl;
-  lists = λ n roots x c d none same. (none, same);
-  home = λ line m e. not_some m e;
-}
-plainly op answers.NotRef is = record {
-  room = λ j e. cc;
-  no_swap = λ j e. cc;
-  told = λ sizes. refl;
-  owes = λ rs q. refl;
-  lists = λ n roots x c d none same. (none, same);
-  home = λ line m e. not_some m e;
-}
 plainly op (answers.Shared seen) is = absurd is
-plainly op answers.OutOfRange is = record {
-  room = λ j e. cc;
-  no_swap = λ j e. cc;
-  told = λ sizes. refl;
-  owes = λ rs q. refl;
-  lists = λ n roots x c d none same. (none, same);
-  home = λ line m e. not_some m e;
-}
-plainly op answers.TooLarge is = record {
-  room = λ j e. cc;
-  no_swap = λ j e. cc;
-  told = λ sizes. refl;
-  owes = λ rs q. refl;
-  lists = λ n roots x c d none same. (none, same);
-  home = λ line m e. not_some m e;
-}
 plainly op (answers.Full entry) is = absurd is
 plainly op (answers.Swapped entry) is = absurd is
 plainly op (answers.Purged slots) is = absurd is
+plainly op answer is = record {
+  room = λ j e. cc;
+  no_swap = λ j e. cc;
+  told = λ sizes. refl;
+  owes = λ rs q. refl;
+  lists = λ n roots x c d none same. (none, same);
+  home = λ line m e. not_some m e;
+}
 
 -- the op does what it should, if its row says so, and its register if it reads
 pub plain_does : (s : StockValue) (op : Op) (answer : Answer) → IsStock s → IsNoSwap op → IsPlain answer →

@@ -244,7 +244,7 @@ module _ (es : List Entry) (are : AreAdditions es) where
   acts_back : (o : Outcome) (x : ToldRecord) → ActsAreOf o (lengthened es x) → ActsAreOf o x
   acts_back o x acts p entries low is = acts p entries low (numbers_on p x.stretch ∙ is)
 
--- ---- an op and the settling behind it
+-- ---- an op and the settling after it
 
 module _ (leaves : SettleAllLeaves) (owed : List Owed) where
   added : AreAdditions (all_added owed)

@@ -31,7 +31,7 @@ use Rattle.pa_op_specs.proofs.Following.{seen_before}
 use Rattle.pa_op_specs.proofs.Seeing.{slot_in_run}
 use Rattle.pa_op_specs.proofs.Stocks.{register_has}
 
--- these records weigh so much, in slots and in bytes
+-- these records weigh this much, in slots and in bytes
 abbrev pub Weighs : (home size : SlotName → ℕ) → List Played → (cs ds : List Count) → (os ps : List Owed) → Type 0
 Weighs home size xs cs ds os ps = CountsBy home xs cs ds × OwesBy home size xs os ps
 

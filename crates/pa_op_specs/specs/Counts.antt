@@ -22,10 +22,11 @@ use Rattle.pa_op_specs.specs.Stocks.{StockRegister}
 abbrev pub no_count : Count
 no_count = record { issued = 0; freed = 0; entered = 0; left = 0 }
 
+-- the count of partition p; all 0 if there is none
 abbrev pub counted_in : List Count → ℕ → Count
 counted_in counts p = slice_index_or counts p no_count
 
--- so many more, if the test is true
+-- this many more, if the test is true
 abbrev pub more_if : Bool → ℕ → ℕ → ℕ
 more_if test more n = if test then n + more else n
 
@@ -71,6 +72,7 @@ owned_in (Ref h) = None
 owned_in Freed = None
 owned_in Cleared = None
 
+-- the handle of a register that points to a slot without owning it, if it has one
 abbrev pub pointed_in : StockRegister → Option Handle
 pointed_in Empty = None
 pointed_in (Own h) = None
@@ -83,6 +85,7 @@ abbrev pub done_seen : Answer → Option Seen
 done_seen (answers.Done seen) = Some seen
 done_seen answer = None
 
+-- what was found of the slot, if the answer says that one was made
 abbrev pub made_seen : Answer → Option Seen
 made_seen (answers.Made seen usable) = Some seen
 made_seen answer = None

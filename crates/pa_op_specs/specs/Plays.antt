@@ -105,6 +105,7 @@ pub record PlaysOne (before after : WorkerValue) (x : ToldRecord) : Type 0 where
   pub bytes : (o : Outcome) → FitsRun o before.stock.partitions after.stock.view x →
       BooksBy o.homes o.sizes (x.played ∷ []) before after
 
+-- So a worker plays an op on this line, with this answer, in whatever phase the line is.
 abbrev pub PlaysOp : (line : ℕ) → Op → Answer → (before after : WorkerValue) → Type 0
 PlaysOp line op answer before after =
     (phase : ℕ) → (x : ToldRecord)

@@ -1,4 +1,4 @@
--- What a settling at the end of a phase leaves of the records: what was added to totals words stands at the end of the log segment
+-- What a settling at the end of a phase leaves of the records: what was added to totals words is at the end of the log segment
 -- of the worker's last record.
 use Rattle.std.specs.Prelude.{◌≡◌, List, [], ◌∷◌, ◌++◌}
 use Rattle.pa_region.specs.declared.view.Entry.{Entry}

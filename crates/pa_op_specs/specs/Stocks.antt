@@ -43,6 +43,7 @@ register_in registers i = slice_index_or registers i Empty
 abbrev pub cache_place : ℕ → ℕ → ℕ
 cache_place p class = class_count * p + class
 
+-- the cache to use if there is none: it has no titles
 abbrev pub no_cache : CacheList
 no_cache = record { class = 0; titles = [] }
 
@@ -54,6 +55,7 @@ titles_in caches p class = if nat_lt class class_count then (slice_index_or cach
 abbrev pub as_reg : StockRegister → Reg
 as_reg r = named (λ (h : Handle). name_of h.title) r
 
+-- a worker's registers by their numbers, as the rules of a run have them
 abbrev pub regs_of : List StockRegister → Regs
 regs_of registers i = as_reg (register_in registers i)
 
@@ -69,6 +71,7 @@ owns_one t (Ref h) = 0
 owns_one t Freed = 0
 owns_one t Cleared = 0
 
+-- 1 if the register has a Ref of the title, else 0
 abbrev pub refs_one : Title → StockRegister → ℕ
 refs_one t Empty = 0
 refs_one t (Own h) = 0
@@ -80,6 +83,7 @@ refs_one t Cleared = 0
 abbrev pub HasHandleTo : Handle → StockRegister → Type 0
 HasHandleTo h r = (r ≡ Own h) ⊎ (r ≡ Ref h)
 
+-- the register has no handle: it is empty, freed or cleared
 abbrev pub HasNoHandle : StockRegister → Type 0
 HasNoHandle Empty = Unit {0}
 HasNoHandle (Own h) = ⊥

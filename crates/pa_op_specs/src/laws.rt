@@ -11,7 +11,7 @@ pub fn plays_follow()
 {}
 
 /// A worker that settles what its log owes at the end of a phase, in which it played an op, has played ops with the same records; the
-/// additions stand at the end of the last one's log segment.
+/// additions are at the end of the last one's log segment.
 pub fn settlings_end_phases()
     ensures { SettlingEndsPhase }
 {

@@ -16,8 +16,9 @@ use Rattle.pa_record.specs.declared.entry.Answer.TheVariants as answers
 use Rattle.pa_lists.proofs.Members.{of_some, not_some}
 use Rattle.pa_rules.specs.declared.played.Played.{Played}
 use Rattle.pa_rules.specs.Played.{mark_of, mark_of_answer, mark_at, look_at}
-use Rattle.pa_timeline.specs.Timeline.{Part, Spoiling, Counting, Moment, entry_parts, answer_parts, is_of_slot, value_left, part_leaves, moment_leaves, changed_to, content_after}
+use Rattle.pa_timeline.specs.Timeline.{Part, Spoiling, Counting, entry_parts, answer_parts, is_of_slot, value_left, part_leaves, moment_leaves, changed_to, content_after}
 use Rattle.pa_one_run.specs.Parts.{Parts}
+use Rattle.pa_timeline.proofs.Left.{content_parted}
 use Rattle.pa_timeline.proofs.Ranges.{in_range}
 use Rattle.pa_ordered_runs.proofs.Pieces.{filter_map_pieces}
 use Rattle.pa_ordered_runs.proofs.Steps.{moment, steps_in, moments_at, line_by_line, no_entries, made_kept, free_kept}
@@ -28,11 +29,6 @@ use Rattle.pa_ordered_runs.proofs.Steps.{moment, steps_in, moments_at, line_by_l
 abbrev pub last_of : ℕ → List ℕ → ℕ
 last_of content [] = content
 last_of content (value ∷ values) = last_of value values
-
-pub content_append : (s : SlotName) (place content : ℕ) (ms ns : List Moment) →
-    content_after s place content (ms ++ ns) ≡ content_after s place (content_after s place content ms) ns
-content_append s place content [] ns = refl
-content_append s place content (m ∷ ms) ns = content_append s place (changed_to (moment_leaves s place m) content) ms ns
 
 one_more : (o : Option ℕ) (content : ℕ) (values : List ℕ) → last_of (changed_to o content) values ≡ last_of content (cons_option o values)
 one_more None content values = refl
@@ -61,7 +57,7 @@ pub content_next : (a : Parts) (s : SlotName) (place : ℕ) (front : List Played
     content_after s place 0 (line_by_line a (front ++ x ∷ [])) ≡ content_after s place (content_after s place 0 (line_by_line a front)) (moments_at a x)
 content_next a s place front x =
     ap (content_after s place 0) (flat_map-append (moments_at a) front (x ∷ []) ∙ ap (λ ys. line_by_line a front ++ ys) (append-nil (moments_at a x)))
-    ∙ content_append s place 0 (line_by_line a front) (moments_at a x)
+    ∙ content_parted s place 0 (line_by_line a front) (moments_at a x)
 
 -- ---- by the record's answer
 

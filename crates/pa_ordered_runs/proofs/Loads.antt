@@ -19,6 +19,7 @@ use Rattle.pa_rules.specs.Registers.{Reg, Regs, Facts, Row, ReadRow, ReadFromRow
 use Rattle.pa_rules.specs.Contents.{IsReadExact, IsContent}
 use Rattle.pa_rules.specs.Sizes.{usable_of, slot_size_for}
 use Rattle.pa_timeline.specs.Timeline.{Part, Looking, Loading, slot_words, entry_parts, answer_parts, GivesAt, content_after, changed_to, is_of_slot}
+use Rattle.pa_timeline.proofs.Left.{content_parted}
 use Rattle.pa_rules.proofs.Leading.{slot_in}
 use Rattle.pa_rules.proofs.Sizes.{sizes_fit}
 use Rattle.pa_one_run.specs.Parts.{Parts}
@@ -31,7 +32,6 @@ use Rattle.pa_core_run.proofs.Contents.{content_one}
 use Rattle.pa_core_run.proofs.Lengths.{alloc_usable}
 use Rattle.pa_core_run.proofs.Values.{usable_made}
 use Rattle.pa_ordered_runs.proofs.Steps.{moment, steps_in, line_by_line}
-use Rattle.pa_ordered_runs.proofs.Leaving.{content_append}
 use Rattle.pa_ordered_runs.proofs.Contents.{content_at, IsInside, known_before}
 
 -- ---- what a read's row says
@@ -182,7 +182,7 @@ load_found a front back x us vs seen place value h parts cut gives = by_op x.op 
 
     after_look : us ≡ Looking ∷ [] → content_at a seen.slot place front ≡ content_after seen.slot place 0 (line_by_line a front ++ map (moment x) us)
     after_look looked =
-        sym (content_append seen.slot place 0 (line_by_line a front) (map (moment x) us)
+        sym (content_parted seen.slot place 0 (line_by_line a front) (map (moment x) us)
         ∙ ap (λ ps. content_after seen.slot place (content_at a seen.slot place front) (map (moment x) ps)) looked
         ∙ look_leaves seen.slot place (content_at a seen.slot place front) x)
 

@@ -1,5 +1,5 @@
 -- Lists made piece by piece: where a piece is cut, what a filter keeps of the pieces, and lists in the order of their lines.
-use Rattle.std.proofs.Common.{◌≡◌, ℕ, ◌+◌, ◌<◌, ◌≤◌, ◌⊎◌, List, [], ◌∷◌, ◌++◌, map, drop, get_or, Option, Some, None, refl, sym, ◌∙◌, ap, arith, inl, inr, append_assoc}
+use Rattle.std.proofs.Common.{◌≡◌, ℕ, ◌+◌, ◌<◌, ◌≤◌, List, [], ◌∷◌, ◌++◌, map, Option, Some, None, refl, sym, ◌∙◌, ap, arith, inl, inr, append_assoc}
 use Rattle.std.specs.Prelude.{Contains, AllPairs, filter, nat_le}
 use Rattle.std.specs.List.{cons_option, filter_map, flat_map}
 use Rattle.std.specs.List.Sorted.{IsNonDecreasingBy}
@@ -8,24 +8,12 @@ use Rattle.std.proofs.lemmas.List.{map-append}
 use Rattle.std.proofs.lemmas.List.Elements.{filter_map-append}
 use Rattle.pa_lists.proofs.Members.{not_in_none, first_in, later_in, in_cases}
 use Rattle.pa_lists.proofs.Pairs.{pairs_head, pairs_tail}
-use Rattle.pa_lists.proofs.Elements.{same_cons}
+use Rattle.pa_lists.proofs.Cuts.{append_cut}
 use Rattle.pa_record.proofs.Filtered.{filter_all, filter_none}
 use Rattle.pa_one_run.specs.Before.{on}
 use Rattle.pa_one_run.proofs.lines.Sorting.{rising_head, rising_tail, on_none}
 
 -- ---- where a piece is cut
-
--- y is behind the one list or in the other
-append_cut : {A : Type 0} (ws zs before after : List A) (y : A) → ws ++ zs ≡ before ++ y ∷ after →
-    ((vs : List A) × (ws ≡ before ++ y ∷ vs)) ⊎ ((us : List A) × (before ≡ ws ++ us) × (zs ≡ us ++ y ∷ after))
-append_cut [] zs before after y e = inr (before, refl, e)
-append_cut (w ∷ ws) zs [] after y e = let head : w ≡ y = ap (λ z. get_or z 0 w) e in inl (ws, ap (λ z. z ∷ ws) head)
-append_cut (w ∷ ws) zs (b ∷ before) after y e =
-    let head : w ≡ b = ap (λ z. get_or z 0 w) e in
-    elim (append_cut ws zs before after y (ap (drop 1) e)) [
-      | inl (vs, cut) ↦ inl (vs, same_cons w b ws (before ++ y ∷ vs) head cut)
-      | inr (us, front, cut) ↦ inr (us, same_cons b w before (ws ++ us) (sym head) front, cut)
-    ]
 
 -- the piece of x is cut at y: the pieces before it and its own front are before
 pub record IsCutAt {X A : Type 0} (f : X → List A) (xs : List X) (before : List A) (y : A) : Type 0 where

@@ -32,7 +32,7 @@ slot_inside c n real below =
     let e : slot_of c * (n + 1) ≡ slot_of c * n + slot_of c = omega arith in
     omega arith
 
--- the numbers that come up where the span is provisioned
+-- the numbers that come up when the span is provisioned
 pub record HasRoom (s : Span) : Type 0 where
   pub some : 0 < slot_of s.class
   pub slots : s.provisioned + 1 ≤ 1024

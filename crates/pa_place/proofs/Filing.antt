@@ -120,7 +120,7 @@ all_refiled a ss i s t was is lists after c (list, next, there, done, e) h =
       | inr miss ↦ miss
     ]
 
--- the list has room where the span comes on it
+-- the list has room when the span comes on it
 can_refile_at : (a : State) (ss : List Span) (i : ℕ) (s : Span) (was is : Bool) (lists : List (Vec ℕ Global)) → slice_get ss i ≡ Some s → was ≡ is_in a s → AreListed a ss lists → CanRefileAt ss s.class was is lists
 can_refile_at a ss i s was is lists e was_in h = λ list f. record {
   order = listed_in_turn (is_of s.class a) ss list.items (h.listing s.class list f);

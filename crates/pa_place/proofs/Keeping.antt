@@ -22,7 +22,7 @@ use Rattle.pa_place.proofs.Filling.{filled_with}
 use Rattle.pa_place.proofs.Ordering.{order_opened}
 use Rattle.pa_place.proofs.Removing.{is_named}
 
--- a store is kept where its root is this one
+-- a store is kept if its root is this one
 pub record IsGood (r : Root) : Type 0 where
   pub ready : IsReady r
   pub settled : IsSettled r

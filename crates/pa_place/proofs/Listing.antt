@@ -11,7 +11,7 @@ use Rattle.pa_record.specs.Root.{Root}
 use Rattle.pa_record.specs.Sound.{IsSound}
 use Rattle.pa_record.specs.Chosen.{TestsUsed}
 use Rattle.pa_lists.proofs.Members.{of_some, not_some, not_in_none, first_in, later_in, in_cases}
-use Rattle.pa_lists.proofs.Pairs.{pairs_none, pairs_cons, pairs_head, pairs_tail, pairs_push}
+use Rattle.pa_lists.proofs.Pairs.{pairs_none, pairs_cons, pairs_head, pairs_tail, pairs_push, pairs_give}
 use Rattle.pa_record.proofs.PoolSteps.{slice_get_more}
 use Rattle.pa_record.proofs.Choice.{latest_is, earliest_is}
 use Rattle.pa_record.proofs.Chosen.{is_latest, is_earliest}
@@ -76,13 +76,6 @@ absent R i j (k ∷ ids) h once among e = elim (cases_Bool (eqb k i)) [
   ]
 ]
 
--- pairs that hold of all members that are related
-pairs_map : (R Q : ℕ → ℕ → Type 0) (ids : List ℕ) → AllPairs R ids → ((j k : ℕ) → Contains ids j → Contains ids k → R j k → Q j k) → AllPairs Q ids
-pairs_map R Q [] h more = pairs_none Q
-pairs_map R Q (k ∷ ids) h more =
-    pairs_cons Q k ids (λ j among. more k j (first_in k ids) (later_in k j ids among) (pairs_head R k j ids h among))
-    (pairs_map R Q ids (pairs_tail R k ids h) (λ a b first second. more a b (later_in k a ids first) (later_in k b ids second)))
-
 -- the span at i isn't sooner than itself
 not_sooner : (ss : List Span) (i : ℕ) (s : Span) → slice_get ss i ≡ Some s → IsSooner ss i i → ⊥
 not_sooner ss i s e sooner = let less = sooner s s e e in omega arith
@@ -105,7 +98,7 @@ leaves test ss ids i s t e passes fails h =
         | inl same ↦ absurd (both_ways _ fails (subst (λ z. test z ≡ true) same.1 p))
         | inr old ↦ without_keeps i j ids (h.all j v old.1 p) old.0
       ];
-      order = pairs_map R (IsSooner (set ss i t)) (without_index i ids) (without_pairs R i ids h.order)
+      order = pairs_give R (IsSooner (set ss i t)) (without_index i ids) (without_pairs R i ids h.order)
           (λ j k first second sooner. still_sooner ss i j k t (other j first) (other k second) sooner);
       many =
           let a = without_length i ids (h.all i s e passes) in
@@ -139,7 +132,7 @@ enters test ss ids i s t e fails passes last h =
         | inr old ↦ Contains-append_left ids (i ∷ []) j (h.all j v old.1 p)
       ];
       order = pairs_push Q ids i
-          (pairs_map R Q ids h.order (λ j k first second sooner. still_sooner ss i j k t (other j first) (other k second) sooner))
+          (pairs_give R Q ids h.order (λ j k first second sooner. still_sooner ss i j k t (other j first) (other k second) sooner))
           (λ j among v w f g.
           let (u, k, p) = h.here j among in
           let same : u ≡ v = of_some u v (sym k ∙ sym (set_other ss i j t (other j among)) ∙ f) in
@@ -169,7 +162,7 @@ stands test ss ids i s t e fails fails' h =
         | inl same ↦ absurd (both_ways _ fails' (subst (λ z. test z ≡ true) same.1 p))
         | inr old ↦ h.all j v old.1 p
       ];
-      order = pairs_map R (IsSooner (set ss i t)) ids h.order (λ j k first second sooner. still_sooner ss i j k t (other j first) (other k second) sooner);
+      order = pairs_give R (IsSooner (set ss i t)) ids h.order (λ j k first second sooner. still_sooner ss i j k t (other j first) (other k second) sooner);
       many =
           let b = count_set test ss i s t e in
           let c : one_if (test s) ≡ 0 = ap one_if fails in
@@ -192,7 +185,7 @@ stays test ss ids s fails h = record {
     | inl old ↦ h.all j v old p
     | inr new ↦ absurd (both_ways _ fails (subst (λ z. test z ≡ true) new p))
   ];
-  order = pairs_map (IsSooner ss) (IsSooner (ss ++ s ∷ [])) ids h.order (λ j k first second sooner v w f g.
+  order = pairs_give (IsSooner ss) (IsSooner (ss ++ s ∷ [])) ids h.order (λ j k first second sooner v w f g.
       let (u, e, p) = h.here j first in
       let (x, e', p') = h.here k second in
       let same = ap (λ (z : Span). z.turn) (of_some u v (sym (slice_get_more ss (s ∷ []) j u e) ∙ f)) in
@@ -270,7 +263,7 @@ remains test ss ids i s t e passes passes' same h = record {
     | inl here ↦ h.all j s (ap (slice_get ss) here.0 ∙ e) passes
     | inr there ↦ h.all j v there.1 p
   ];
-  order = pairs_map (IsSooner ss) (IsSooner (set ss i t)) ids h.order (λ j k first second sooner v w f g.
+  order = pairs_give (IsSooner ss) (IsSooner (set ss i t)) ids h.order (λ j k first second sooner v w f g.
       let (a, old, p) = old_turn ss i j s t v e same f in
       let (b, old', q) = old_turn ss i k s t w e same g in
       let less = sooner a b old old' in
@@ -310,7 +303,7 @@ listed_in_turn test ss ids h = record {
 
 -- so no index is twice in it
 pub once_in_turn : (ss : List Span) (ids : List ℕ) → IsInTurn ss ids → AllPairs ◌≢◌ ids
-once_in_turn ss ids h = pairs_map (IsSooner ss) ◌≢◌ ids h.order (λ j k first second sooner same.
+once_in_turn ss ids h = pairs_give (IsSooner ss) ◌≢◌ ids h.order (λ j k first second sooner same.
     let (v, f) = there ss j (h.within j first) in
     not_sooner ss j v f (subst (λ z. IsSooner ss j z) (sym same) sooner))
 
@@ -348,7 +341,7 @@ listed_latest test r ids i sound used h among last =
           ];
     }))
 
--- none is the latest where none is listed
+-- none is the latest if none is listed
 none_latest_by : (test : Span → Bool) (ss : List Span) (o : Option Span) → IsListing test ss [] → latest test ss ≡ o → latest test ss ≡ None
 none_latest_by test ss None h e = e
 none_latest_by test ss (Some s) h e =

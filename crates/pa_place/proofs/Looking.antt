@@ -1,18 +1,16 @@
 -- What is out of a root, by its name, and how much a root has.
-use Rattle.std.proofs.Common.{◌≡◌, ℕ, suc, ◌+◌, ◌*◌, ◌<◌, ◌≤◌, ◌^◌, true, List, [], ◌∷◌, length, refl, sym, ◌∙◌, ap, subst, arith, inl, inr, Some, None}
+use Rattle.std.proofs.Common.{◌≡◌, ℕ, suc, ◌+◌, ◌*◌, ◌<◌, ◌≤◌, ◌^◌, true, List, [], ◌∷◌, length, sym, ◌∙◌, ap, subst, arith, inl, inr, Some, None}
 use Rattle.std.specs.Prelude.{Contains, find, sum_by}
 use Rattle.std.proofs.lemmas.List.Sums.{sum_by-cons}
 use Rattle.std.proofs.Math.Nat.{mul-le-mul_left}
 use Rattle.pa_machine.specs.declared.title.Title.{Title}
 use Rattle.pa_machine.specs.declared.word.SlotName.{SlotName}
-use Rattle.pa_layout.specs.Pages.{supers_for}
 use Rattle.pa_buckets.specs.declared.spans.State.TheVariants as state
 use Rattle.pa_buckets.specs.Table.{slot_of, slots_of}
 use Rattle.pa_buckets.proofs.Facts.{IsRow-of}
 use Rattle.pa_record.specs.Spans.{Span, title_at, name_of, holds}
 use Rattle.pa_record.specs.Root.{Root, IsOut, IsOutOf, IsTitleOut}
-use Rattle.pa_record.specs.declared.census.Census.{Census}
-use Rattle.pa_record.specs.Census.{kept_of, count_in, census}
+use Rattle.pa_record.specs.Census.{kept_of}
 use Rattle.pa_record.specs.Sound.{IsCounted}
 use Rattle.pa_lists.proofs.Members.{of_some, not_some, find_is, first_in, later_in}
 use Rattle.pa_record.proofs.Returning.{find_out}
@@ -93,18 +91,3 @@ pages_low r ready few =
     let p = sum_most (λ (s : Span). s.committed) 224 r.spans (λ s among. committed_few s (counted_all r ready s among)) in
     let q = low_product 224 (length r.spans) (omega arith) few in
     omega arith
-
--- the census from its numbers
-pub census_by : (r : Root) (slots bytes pages mapped n supers full active empty gone k m : ℕ) → slots ≡ sum_by kept_of r.spans → bytes ≡ sum_by (λ (s : Span). slot_of s.class * kept_of s) r.spans →
-    pages ≡ sum_by (λ (s : Span). s.committed) r.spans → mapped ≡ sum_by (λ (t : Title). t.len) r.maps → n ≡ length r.supers → supers ≡ sum_by (λ (t : Title). supers_for t.len) r.maps →
-    full ≡ count_in state.Full r → active ≡ count_in state.Active r → empty ≡ count_in state.Empty r → gone ≡ count_in state.Decommitted r → k ≡ 4096 → m ≡ 2097152 →
-    (let x : Census = record {
-      root = record { slots = slots; bytes = bytes };
-      committed = k * pages + mapped;
-      reserved = m * (n + supers);
-      full = full;
-      active = active;
-      empty = empty;
-      decommitted = gone;
-    } in x ≡ census r)
-census_by r slots bytes pages mapped n supers full active empty gone k m a b c d e f g h i j p q = rw (a, b, c, d, e, f, g, h, i, j, p, q) refl

@@ -77,7 +77,7 @@ room_none class r (Some at) e = elim (cases_Bool (leb (r.page + pages_of class) 
 pub none_found : (class : ℕ) (r : Root) → listed class r.spans ≡ None → room_for class r (current r) ≡ None → span_for class r ≡ None
 none_found class r e full = ap (found_or_new class r) e ∙ room_none class r (current r) full
 
--- the current super page where it has room
+-- the current super page if it has room
 pub record IsRoom (class : ℕ) (r : Root) (at : SuperPage) : Type 0 where
   pub now : current r ≡ Some at
   pub fits : r.page + pages_of class ≤ 127

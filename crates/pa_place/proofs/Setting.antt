@@ -58,7 +58,7 @@ counts_most narrow wide (u ∷ ss) more =
     let ih = counts_most narrow wide ss more in
     omega arith
 
--- fewer spans pass a test than one that is wider where one passes only the latter
+-- fewer spans pass a test than one that is wider if one passes only the latter
 pub counts_less : (narrow wide : Span → Bool) (ss : List Span) (i : ℕ) (s : Span) → ((v : Span) → narrow v ≡ true → wide v ≡ true) → slice_get ss i ≡ Some s → narrow s ≡ false → wide s ≡ true →
     count_by narrow ss < count_by wide ss
 counts_less narrow wide [] i s more e misses hits = absurd (not_some s e)

@@ -30,6 +30,7 @@ pub record HasRoomToList (class n : ℕ) (lists : Lists) : Type 0 where
 abbrev pub CanRefileAt : List Span → ℕ → Bool → Bool → List (Vec ℕ Global) → Type 0
 CanRefileAt ss class was is lists = (list : Vec ℕ Global) → slice_get lists class ≡ Some list → CanRefile ss was is list
 
+-- the list of the class was refiled, and those of the other classes are as they were
 abbrev pub IsRefiledAt : ℕ → Bool → Bool → ℕ → List (Vec ℕ Global) → List (Vec ℕ Global) → Type 0
 IsRefiledAt class was is i old new =
     (list : Vec ℕ Global) × (next : Vec ℕ Global) × (slice_get old class ≡ Some list) × IsRefiled was is i list next
@@ -42,6 +43,7 @@ pub record CanFile (ss : List Span) (class : ℕ) (was to : State) (lists : List
   pub active : CanRefileAt ss class (same_state was state.Active) (same_state to state.Active) lists.active.items
   pub decommitted : CanRefileAt ss class (same_state was state.Decommitted) (same_state to state.Decommitted) lists.decommitted.items
 
+-- the lists after the span with index i, of this class, went from the one state into the other
 pub record IsFiledAnew (class : ℕ) (was to : State) (i : ℕ) (old new : Lists) : Type 0 where
   pub empty : IsRefiled (same_state was state.Empty) (same_state to state.Empty) i old.empty new.empty
   pub active : IsRefiledAt class (same_state was state.Active) (same_state to state.Active) i old.active.items new.active.items

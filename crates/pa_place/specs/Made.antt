@@ -11,9 +11,11 @@ use Rattle.pa_place.specs.declared.placed.Made.{Made}
 abbrev pub title_in : Made → ℕ → Title
 title_in b k = record { start = b.first.start + b.first.len * k; len = b.first.len; born = b.first.born }
 
+-- the title is a slot of the batch
 abbrev pub IsInBatch : Made → Title → Type 0
 IsInBatch b t = (k : ℕ) × (k < b.count) × (t ≡ title_in b k)
 
+-- the title is a slot of one of the batches
 abbrev pub IsInBatches : List Made → Title → Type 0
 IsInBatches bs t = (b : Made) × Contains bs b × IsInBatch b t
 
@@ -41,9 +43,11 @@ abbrev pub cut_in : Option Found → List Made
 cut_in None = []
 cut_in (Some f) = made_from f.span.made (with_free f.span)
 
+-- the batches of a take and of those after it; none if the take gave no slot
 abbrev pub and_cut : Took → List Made → (Root → List Made) → List Made
 and_cut t first further = elim t.title as (λ o. List Made) [ None ↦ [] | Some title ↦ first ++ further t.root ]
 
+-- the batches of at most `want` takes of the class, one after another, until one finds no slot
 abbrev pub takes_cut : ℕ → ℕ → Root → List Made
 takes_cut class zero r = []
 takes_cut class (suc want) r = and_cut (one_take class r) (cut_in (span_for class r)) (takes_cut class want)

@@ -47,6 +47,7 @@ with_slots after p = record { root = after; titles = p.titles.items }
 abbrev pub FillDid : ℕ → ℕ → PoolState → PoolState → Root → Root → Placed → Type 0
 FillDid class want pool next r after p = Fills class want pool next r (with_slots after p) p.pool
 
+-- what a call for a direct map of `len` bytes did to the pool and the root
 abbrev pub MapDid : ℕ → PoolState → PoolState → Root → Root → Placed → Type 0
 MapDid len pool next r after p = Maps len pool next r (with_slots after p) p.pool
 

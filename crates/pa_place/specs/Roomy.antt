@@ -12,9 +12,11 @@ pub record RoomyRoot : Type 0 where
 abbrev pub no_room : Room
 no_room = record { class = 0; takes = 0; super_page = false; map = false }
 
+-- room for a fill: that many takes of the class, and a super page
 abbrev pub fill_room : ℕ → ℕ → Room
 fill_room class want = record { class = class; takes = want; super_page = true; map = false }
 
+-- room for a direct map
 abbrev pub map_room : Room
 map_room = record { class = 0; takes = 0; super_page = false; map = true }
 

@@ -16,6 +16,7 @@ use Rattle.pa_place.specs.Order.{IsOrdered}
 use Rattle.pa_place.specs.Placed.{IsAsked}
 use Rattle.pa_place.specs.Served.{blank_span}
 
+-- the root that a store contains: the items of its vectors, its next free page and its next turn
 abbrev pub root_of : Store → Root
 root_of s = record { supers = s.supers.items; page = s.page; turn = s.turn; maps = s.maps.items; spans = s.spans.items }
 
@@ -77,10 +78,12 @@ pub record HasRoomFor (s : Store) (class spans : ℕ) : Type 0 where
   pub room : vec_len s.spans + spans ≤ vec_capacity s.spans
   pub few : vec_len s.spans + spans ≤ 2147483647
 
+-- there is room for one super page more, and at most 2,147,483,646 are there
 pub record HasSuperRoom (s : Store) : Type 0 where
   pub room : vec_len s.supers < vec_capacity s.supers
   pub few : length s.supers.items < 2147483647
 
+-- there is room for one direct map more, and at most 2,147,483,646 are there
 pub record HasMapRoom (s : Store) : Type 0 where
   pub room : vec_len s.maps < vec_capacity s.maps
   pub few : length s.maps.items < 2147483647

@@ -1,6 +1,4 @@
-ghost use Rattle.std.specs.Prelude.{◌≡◌, ◌*◌, ◌<◌, ◌≤◌, ◌^◌, IfSome, IfNone, length, sum_by, count_by};
-ghost use Rattle.pa_machine.specs.declared.title.Title.{Title as Slot};
-ghost use Rattle.pa_layout.specs.Pages.{supers_for};
+ghost use Rattle.std.specs.Prelude.{◌≡◌, ◌<◌, ◌≤◌, ◌^◌, IfSome, IfNone, length, sum_by, count_by};
 ghost use Rattle.pa_buckets.specs.declared.spans.State.TheVariants as state;
 ghost use Rattle.pa_record.specs.Spans.{Span, is_in, name_of};
 ghost use Rattle.pa_record.specs.Root.{IsOut, IsTitleOut};
@@ -15,9 +13,9 @@ use crate::plain_span::PlainSpan;
 use crate::scans::index_holding;
 use crate::store::{Store, place_named};
 use pa_buckets::{State, slot_size};
-use pa_layout::{SUPER_PAGE, SYSTEM_PAGE, supers_for};
+use pa_layout::{SUPER_PAGE, SYSTEM_PAGE};
 use pa_machine::{SlotName, Title};
-use pa_record::{Census, Tally};
+use pa_record::{Census, Tally, mapped_of};
 
 impl Store {
     // The slot or direct map of that name, if it is out.
@@ -112,28 +110,4 @@ fn sums_of(spans: &[PlainSpan]) -> Sums
         empty,
         decommitted,
     }
-}
-
-// The bytes of the direct maps' slots, and the super pages of the direct maps.
-#[derive(Clone, Copy)]
-struct Mapped {
-    bytes: u64,
-    supers: u64,
-}
-
-// They are counted in one pass.
-fn mapped_of(maps: &[Title]) -> Mapped
-    requires { length maps.now ≤ 2147483647 }
-    ensures bytes { result.bytes ≡ sum_by (λ (t : Slot). t.len) maps.now }
-    ensures low_bytes { result.bytes ≤ 2 ^ 63 }
-    ensures supers { result.supers ≡ sum_by (λ (t : Slot). supers_for t.len) maps.now }
-    ensures low_supers { result.supers ≤ 2049 * 2147483647 }
-{
-    let mut bytes = 0;
-    let mut supers = 0;
-    for map in maps {
-        bytes += u64::from(map.len);
-        supers += u64::from(supers_for(map.len));
-    }
-    Mapped { bytes, supers }
 }

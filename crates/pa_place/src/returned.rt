@@ -50,7 +50,7 @@ impl Returned {
         self.times[number as usize] > 0
     }
 
-    // Puts a number in front. There must be room for one.
+    // Puts a number at the front. There must be room for one.
     pub(crate) fn put_front(&mut self, number: u32)
         requires room { length self.old.items < self.old.room }
         requires few { length self.old.items < 1024 }

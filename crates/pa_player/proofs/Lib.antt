@@ -50,6 +50,7 @@ pub mod Reporting
 mod Requests
 mod Returned
 mod Returning
+mod Settling
 mod Shaping
 pub mod Showing
 mod Shows

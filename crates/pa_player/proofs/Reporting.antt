@@ -19,7 +19,7 @@ use Rattle.pa_heap_effects.specs.Pooled.{IsPooledTo}
 use Rattle.pa_heap_effects.proofs.Filing.{line_passes}
 use Rattle.pa_heap_effects.proofs.Onwards.{run_goes_on}
 use Rattle.pa_slot_effects.proofs.Ending.{ends_right}
-use Rattle.pa_slot_effects.proofs.Lines.{phase_after, phases_are}
+use Rattle.pa_rules.proofs.Lined.{phase_after, phases_are}
 use Rattle.pa_slot_effects.proofs.Starting.{phase_goes_on}
 use Rattle.pa_player.specs.Player.{Player}
 use Rattle.pa_player.specs.Playing.{shown, journals, caches, home_in, len_in, AreShaped, AreBounded, IsToldLine, IsPlaying}

@@ -124,6 +124,7 @@ pub record CanAllocateSlot (thread reg q class : ℕ) (p : Player) : Type 0 wher
       → IsFilled q (list_place p.partitions thread q class) class p r
       → CanIssueFront thread reg q (list_place p.partitions thread q class) r
 
+-- A direct map of `len` bytes, which are whole pages of 4,096 bytes, in as many super pages as they need.
 pub record CanAllocateMap (thread reg q len supers : ℕ) (p : Player) : Type 0 where
   pub whole : len % 4096 ≡ 0
   pub some : 0 < len
@@ -139,7 +140,7 @@ pub record CanCopy (thread to i : ℕ) (p : Player) : Type 0 where
   pub place : i < length p.table
   pub step : HasNone (register_at p thread to) → CanStep steps.Copy (slot_at p.table i).word.0
 
--- A reset of a `raw_ptr` to the slot at an index; a free of it by its owner; a write.
+-- A reset of a `raw_ptr` to the slot at an index.
 pub record CanReset (thread reg i : ℕ) (p : Player) : Type 0 where
   pub threads : thread < length p.registers
   pub regs : reg < register_count
@@ -152,6 +153,7 @@ pub record CanReset (thread reg i : ℕ) (p : Player) : Type 0 where
   pub back : IsReturning steps.Reset (slot_at p.table i).word.0
       → CanTakeBack thread i (slot_at p.table i).partition (slot_at p.table i).class (reset_last thread reg i p)
 
+-- A free by its owner; if no `raw_ptr` points to the slot, it can go back at once.
 pub record CanFree (thread reg i : ℕ) (p : Player) : Type 0 where
   pub threads : thread < length p.registers
   pub regs : reg < register_count
@@ -165,6 +167,7 @@ pub record CanFree (thread reg i : ℕ) (p : Player) : Type 0 where
   pub back : refs_of (slot_at p.table i).word.0 ≡ 0
       → CanTakeBack thread i (slot_at p.table i).partition (slot_at p.table i).class (freed_at thread reg i p)
 
+-- A write by its owner, which makes a step if no `raw_ptr` points to the slot.
 pub record CanWrite (i : ℕ) (p : Player) : Type 0 where
   pub place : i < length p.table
   pub step : refs_of (slot_at p.table i).word.0 ≡ 0 → CanStep steps.Write (slot_at p.table i).word.0

@@ -16,5 +16,6 @@ with_kept_entry e b = record b { entries = b.entries ++ e ∷ [] }
 abbrev pub kept_acts : Books → ℕ → List RootEntry
 kept_acts b q = slice_index_or b.journals q []
 
+-- one more entry of the journal of partition q
 abbrev pub with_kept_act : ℕ → RootEntry → Books → Books
 with_kept_act q e b = record b { journals = slice_set b.journals q (kept_acts b q ++ e ∷ []) }

@@ -45,6 +45,7 @@ abbrev pub stepped_at : Step → ℕ → Player → Player
 stepped_at step i p =
     record p { table = slice_set p.table i (record (slot_at p.table i) { word = record { 0 = stepped step (slot_at p.table i).word.0 } }) }
 
+-- the slot at an index gets this content
 abbrev pub filled_at : ℕ → ℕ → Player → Player
 filled_at value i p = record p { table = slice_set p.table i (record (slot_at p.table i) { content = value }) }
 
@@ -52,6 +53,7 @@ filled_at value i p = record p { table = slice_set p.table i (record (slot_at p.
 abbrev pub registered : ℕ → ℕ → Handle → Player → Player
 registered t r h p = record p { registers = slice_set p.registers t (slice_set (slice_index_or p.registers t []) r h) }
 
+-- the list at an index of the caches has these slots now
 abbrev pub listed : ℕ → List ℕ → Player → Player
 listed at xs p = record p { caches = slice_set p.caches at xs }
 
@@ -59,24 +61,31 @@ listed at xs p = record p { caches = slice_set p.caches at xs }
 abbrev pub tallied_more : ℕ → ℕ → ℕ → List Tally → List Tally
 tallied_more q slots bytes ts = slice_set ts q (record { slots = (tally_at ts q).slots + slots; bytes = (tally_at ts q).bytes + bytes })
 
+-- so many slots and bytes fewer in the tally of partition q
 abbrev pub tallied_less : ℕ → ℕ → ℕ → List Tally → List Tally
 tallied_less q slots bytes ts = slice_set ts q (record { slots = (tally_at ts q).slots - slots; bytes = (tally_at ts q).bytes - bytes })
 
+-- one live slot more in partition q, of `len` bytes
 abbrev pub live_more : ℕ → ℕ → Player → Player
 live_more q len p = record p { live = record { of = tallied_more q 1 len p.live.of } }
 
+-- one live slot fewer in partition q, of `len` bytes
 abbrev pub live_less : ℕ → ℕ → Player → Player
 live_less q len p = record p { live = record { of = tallied_less q 1 len p.live.of } }
 
+-- one quarantined slot more in partition q, of `len` bytes
 abbrev pub quarantined_more : ℕ → ℕ → Player → Player
 quarantined_more q len p = record p { quarantined = record { of = tallied_more q 1 len p.quarantined.of } }
 
+-- one quarantined slot fewer in partition q, of `len` bytes
 abbrev pub quarantined_less : ℕ → ℕ → Player → Player
 quarantined_less q len p = record p { quarantined = record { of = tallied_less q 1 len p.quarantined.of } }
 
+-- one cached slot more in partition q, of `len` bytes
 abbrev pub cached_more : ℕ → ℕ → Player → Player
 cached_more q len p = record p { cached = record { of = tallied_more q 1 len p.cached.of } }
 
+-- so many cached slots and bytes fewer in partition q
 abbrev pub cached_less : ℕ → ℕ → ℕ → Player → Player
 cached_less q slots bytes p = record p { cached = record { of = tallied_less q slots bytes p.cached.of } }
 
@@ -84,6 +93,7 @@ cached_less q slots bytes p = record p { cached = record { of = tallied_less q s
 abbrev pub with_root : ℕ → Root → Player → Player
 with_root q r p = record p { heap = record p.heap { roots = slice_set p.heap.roots q r } }
 
+-- the pool is this one now
 abbrev pub with_pool : PoolState → Player → Player
 with_pool plan p = record p { heap = record p.heap { pool = plan } }
 
@@ -91,9 +101,11 @@ with_pool plan p = record p { heap = record p.heap { pool = plan } }
 abbrev pub with_acts : ℕ → List RootAct → Lists → Lists
 with_acts q acts t = record t { journals = slice_set t.journals q (journal_in t q ++ entries_at t.line acts) }
 
+-- the journal of partition q has these acts more, on this line
 abbrev pub acted : ℕ → List RootAct → Player → Player
 acted q acts p = record p { told = with_acts q acts p.told }
 
+-- the pool has one entry more, an act of partition q on this line
 abbrev pub pooled : ℕ → PoolAct → Player → Player
 pooled q act p = record p { told = record p.told { pools = p.told.pools ++ record { line = p.told.line; partition = q; act = act } ∷ [] } }
 
@@ -108,10 +120,12 @@ answered thread answer p =
 abbrev pub celled : ℕ → Handle → Player → Player
 celled k h p = record p { cells = slice_set p.cells k h }
 
+-- the history of cell k has one entry more, on this line: the handle that was given, and the one that was found
 abbrev pub exchanged : ℕ → Handle → Handle → Player → Player
 exchanged k gave found p =
     record p { told = with_exchange k (record { line = p.told.line; gave = told_of p.table gave; found = told_of p.table found }) p.told }
 
+-- a register of the thread and cell k have each other's handle, and the cell's history says so
 abbrev pub swapped : ℕ → ℕ → ℕ → Player → Player
 swapped thread k reg p =
     registered thread reg (cell_at p k)
@@ -123,6 +137,7 @@ swapped thread k reg p =
 abbrev pub list_in : Player → ℕ → List ℕ
 list_in p at = slice_index_or p.caches at []
 
+-- how many bytes the slots at these indices have together
 abbrev pub bytes_at : List Slot → List ℕ → ℕ
 bytes_at slots xs = sum (map (λ (i : ℕ). (slot_at slots i).title.len) xs)
 
@@ -138,6 +153,7 @@ gave_back q xs p =
     cached_less q (length xs) (bytes_at p.table xs)
     (acted q (gives (map (numbered_at p.table) xs)) (with_root q (all_returned (names (map (numbered_at p.table) xs)) (root_of p q)) p))
 
+-- the list keeps its first `keep` slots, and the others go back to the root of partition q
 abbrev pub given : ℕ → ℕ → ℕ → Player → Player
 given q at keep p = listed at (take keep (list_in p at)) (gave_back q (drop keep (list_in p at)) p)
 
@@ -145,6 +161,7 @@ given q at keep p = listed at (take keep (list_in p at)) (gave_back q (drop keep
 abbrev pub put_front : ℕ → ℕ → ℕ → Player → Player
 put_front q at i p = cached_more q (slot_at p.table i).title.len (listed at (i ∷ list_in p at) p)
 
+-- a list above its class's limit keeps the first half of the limit, and the others go back; any other stays as it is
 abbrev pub spilled_if : ℕ → ℕ → ℕ → Player → Player
 spilled_if class q at p = if nat_lt (limit_of class) (length (list_in p at)) then given q at (limit_of class / 2) p else p
 
@@ -167,9 +184,11 @@ unfoldable pub given_from : ℕ → ℕ → ℕ → ℕ → Player → Player
 given_from thread q class zero p = p
 given_from thread q class (suc n) p = given_from thread q (class + 1) n (given q (list_place p.partitions thread q class) 0 p)
 
+-- the root of partition q is purged, and its journal says so
 abbrev pub purged_with : ℕ → Player → Player
 purged_with q p = acted q (Purge ∷ []) (with_root q (purged (root_of p q)) p)
 
+-- a purge of `n` partitions from q on: the thread's lists go back whole, and then the root is purged
 unfoldable pub purged_from : ℕ → ℕ → ℕ → Player → Player
 purged_from thread q zero p = p
 purged_from thread q (suc n) p = purged_from thread (q + 1) n (purged_with q (given_from thread q 0 class_count p))
@@ -204,6 +223,7 @@ pub record IsFrontIssued (thread reg q at : ℕ) (p r : Player) (answer : Answer
 abbrev pub placed_in : ℕ → Root → PoolState → Player → Player
 placed_in q after plan p = with_root q after (with_pool plan p)
 
+-- the entry of the pool by a call, if it asked: a take of `count` super pages, which found those of the titles
 abbrev pub asked_in : ℕ → ℕ → List Title → Option ℕ → Player → Player
 asked_in q count titles None p = p
 asked_in q count titles (Some entry) p = pooled q (pool.Take count (found_by titles)) p
@@ -271,15 +291,18 @@ pub record IsFilledFirst (thread reg q at class : ℕ) (p r : Player) (answer : 
   pub fills : IsFilled q at class p filled
   pub front : IsFrontIssued thread reg q at filled r answer
 
+-- the list was empty and there was no room to fill it: the answer is the entry that says so
 pub record IsRefused (q at class : ℕ) (p r : Player) (answer : Answer) : Type 0 where
   pub entry : ℕ
   pub empty : list_in p at ≡ []
   pub unfilled : IsUnfilled q class p r entry
   pub says : answer ≡ answers.Full entry
 
+-- the list was empty: its front is issued after a fill, or there was no room
 abbrev pub Refills : ℕ → ℕ → ℕ → ℕ → ℕ → Player → Player → Answer → Type 0
 Refills thread reg q at class p r answer = IsFilledFirst thread reg q at class p r answer ⊎ IsRefused q at class p r answer
 
+-- an allocation of a slot of a class: the front of its list, of one that is filled first, or no room
 abbrev pub AllocatesSlot : ℕ → ℕ → ℕ → ℕ → ℕ → Player → Player → Answer → Type 0
 AllocatesSlot thread reg q at class p r answer =
     IsFrontIssued thread reg q at p r answer ⊎ Refills thread reg q at class p r answer
@@ -292,6 +315,7 @@ pub record IsMapIssued (thread reg q len supers : ℕ) (p r : Player) (answer : 
   pub issued : r ≡ issued thread reg place mapped
   pub says : answer ≡ made_at mapped place
 
+-- an allocation of a direct map: its slot is issued, or there was no room for it
 abbrev pub AllocatesMap : ℕ → ℕ → ℕ → ℕ → ℕ → Player → Player → Answer → Type 0
 AllocatesMap thread reg q len supers p r answer =
     IsMapIssued thread reg q len supers p r answer ⊎ ((entry : ℕ) × IsMapRefused q len supers p r entry × (answer ≡ answers.Full entry))
@@ -313,21 +337,26 @@ Copies thread to i Cleared p r answer =
 abbrev pub reset_at : ℕ → ℕ → ℕ → Player → Player
 reset_at thread reg i p = registered thread reg Cleared (stepped_at steps.Reset i p)
 
+-- the same if the step returns the slot: it leaves the quarantine
 abbrev pub reset_last : ℕ → ℕ → ℕ → Player → Player
 reset_last thread reg i p = quarantined_less (slot_at p.table i).partition (slot_at p.table i).title.len (reset_at thread reg i p)
 
+-- the step of a free: its register is freed, and there is one live slot fewer
 abbrev pub freed_at : ℕ → ℕ → ℕ → Player → Player
 freed_at thread reg i p =
     live_less (slot_at p.table i).partition (slot_at p.table i).title.len (registered thread reg Freed (stepped_at steps.Free i p))
 
+-- in the player q, the slot that p has at an index goes to the cache of the thread, or back to the pool
 abbrev pub returned_at : ℕ → ℕ → Player → Player → Player
 returned_at thread i p q = taken_back thread (slot_at p.table i).partition (slot_at p.table i).class i q
 
+-- a reset: a slot that its step returns leaves the quarantine and goes back, any other stays where it is
 abbrev pub Resets : ℕ → ℕ → ℕ → Player → Player → Type 0
 Resets thread reg i p r =
     (IsReturning steps.Reset (slot_at p.table i).word.0 × (r ≡ returned_at thread i p (reset_last thread reg i p)))
     ⊎ ((IsReturning steps.Reset (slot_at p.table i).word.0 → ⊥) × (r ≡ reset_at thread reg i p))
 
+-- a free: the slot goes back at once if no `raw_ptr` points to it, and else it is quarantined
 abbrev pub Frees : ℕ → ℕ → ℕ → Player → Player → Type 0
 Frees thread reg i p r =
     ((refs_of (slot_at p.table i).word.0 ≡ 0) × (r ≡ returned_at thread i p (freed_at thread reg i p)))
@@ -376,6 +405,7 @@ report_line p q =
       decommitted = (census (root_of p q)).decommitted;
     }
 
+-- the lines of the report for `n` partitions from q on
 abbrev pub report_lines : Player → ℕ → ℕ → List ReportLine
 report_lines p q zero = []
 report_lines p q (suc n) = report_line p q ∷ report_lines p (q + 1) n
@@ -384,5 +414,6 @@ report_lines p q (suc n) = report_line p q ∷ report_lines p (q + 1) n
 abbrev pub phase_ended : Player → Player
 phase_ended p = record p { told = record p.told { report = p.told.report ++ report_lines p 0 p.partitions }; phase = p.phase + 1 }
 
+-- a phase ends, and the line that begins the next one was played
 abbrev pub phase_begun : Player → Player
 phase_begun p = record (phase_ended p) { told = record (phase_ended p).told { line = p.told.line + 1 } }

@@ -2,5 +2,6 @@
 use Rattle.pa_player.specs.declared.player.Player.{Player as PlayerTo}
 use Rattle.pa_player.specs.Told.{Lists}
 
+-- a player that reports to lists
 abbrev pub Player : Type 0
 Player = PlayerTo Lists

@@ -50,12 +50,15 @@ abbrev pub slot_of_name : List Slot → SlotName → Slot
 slot_of_name [] s = no_slot
 slot_of_name (x ∷ xs) s = if same_slot (name_of x.title) s then x else slot_of_name xs s
 
+-- the count word of the slot of that name, and 0 if there is none
 abbrev pub word_in : List Slot → SlotName → ℕ
 word_in slots s = (slot_of_name slots s).word.0
 
+-- the content of the slot of that name, and 0 if there is none
 abbrev pub content_in : List Slot → SlotName → ℕ
 content_in slots s = (slot_of_name slots s).content
 
+-- how many of its bytes are usable: all but 8, and 0 if there is none
 abbrev pub usable_in : List Slot → SlotName → ℕ
 usable_in slots s = (slot_of_name slots s).title.len - 8
 
@@ -63,6 +66,7 @@ usable_in slots s = (slot_of_name slots s).title.len - 8
 abbrev pub home_in : List Slot → SlotName → ℕ
 home_in slots s = (slot_of_name slots s).partition
 
+-- its length in bytes, and 0 if there is none
 abbrev pub len_in : List Slot → SlotName → ℕ
 len_in slots s = (slot_of_name slots s).title.len
 
@@ -74,9 +78,11 @@ reg_of slots (Ref place) = regs.Ref (named_at slots place)
 reg_of slots Freed = regs.Freed
 reg_of slots Cleared = regs.Cleared
 
+-- the handle in register r of thread t; an empty one past the end
 abbrev pub register_at : Player → ℕ → ℕ → Handle
 register_at p t r = slice_index_or (slice_index_or p.registers t []) r Empty
 
+-- the handle in cell k; an empty one past the end
 abbrev pub cell_at : Player → ℕ → Handle
 cell_at p k = slice_index_or p.cells k Empty
 
@@ -96,6 +102,7 @@ shown p =
 abbrev pub journals : Player → Journals
 journals p = journal_at p.told.journals
 
+-- the name and the number of the slot at an index
 abbrev pub numbered_at : List Slot → ℕ → Numbered
 numbered_at slots i = record { slot = named_at slots i; number = number_of (slot_at slots i).word.0 }
 
@@ -103,12 +110,15 @@ numbered_at slots i = record { slot = named_at slots i; number = number_of (slot
 abbrev pub list_place : ℕ → ℕ → ℕ → ℕ → ℕ
 list_place partitions t q class = (t * partitions + q) * class_count + class
 
+-- the indices of the slots in a thread's list, by its partition and class
 abbrev pub list_at : Player → ℕ → ℕ → ℕ → List ℕ
 list_at p t q class = slice_index_or p.caches (list_place p.partitions t q class) []
 
+-- the lists of the threads, as slots with their numbers; empty for partitions and classes that the player doesn't have
 abbrev pub caches : Player → Caches
 caches p t q class = if nat_lt q p.partitions && nat_lt class class_count then map (numbered_at p.table) (list_at p t q class) else []
 
+-- the root of partition q; a new one past the last
 abbrev pub root_of : Player → ℕ → Root
 root_of p q = slice_index_or p.heap.roots q new_root
 
@@ -162,7 +172,7 @@ pub record AreShaped (partitions threads : ℕ) (p : Player) : Type 0 where
   pub quarantined : length p.quarantined.of ≡ most_partitions
   pub cached : length p.cached.of ≡ most_partitions
 
--- No number exceeds its type: each line adds only so much.
+-- No number exceeds its type: each line adds at most a fixed amount.
 pub record AreBounded (line : ℕ) (p : Player) : Type 0 where
   pub few : line ≤ 65538
   pub slots : length p.table ≤ 8 * line

@@ -33,7 +33,7 @@ pub record IsReady (l : Line) (p : Player) : Type 0 where
   pub ls : List Line
   pub can : CanGoOn region partitions threads ls l p
 
--- What was told before stays: these records are added, and journals and histories go on.
+-- What was output before stays: these records are added, and journals and histories go on.
 pub record TellsOn (es : List Entry) (p q : Player) : Type 0 where
   pub entries : q.told.entries ≡ p.told.entries ++ es
   pub journals : (k : ℕ) → (more : List RootEntry) × (journals q k ≡ journals p k ++ more)
@@ -52,6 +52,7 @@ abbrev pub PlaysAfter : ℕ → ℕ → ℕ → List Line → Player → ℕ →
 PlaysAfter region partitions threads ls p thread op q answer =
     HasPlayedTo region partitions threads (ls ++ Do thread op ∷ []) (record_of p thread answer ∷ []) p (answered thread answer q)
 
+-- whatever lines led to p, after them the op was played with this answer
 abbrev pub Plays : Player → ℕ → Op → Player → Answer → Type 0
 Plays p thread op q answer =
     (region partitions threads : ℕ) (ls : List Line) → CanGoOn region partitions threads ls (Do thread op) p →

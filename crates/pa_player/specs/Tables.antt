@@ -9,7 +9,7 @@ use Rattle.pa_player.specs.declared.handle.Handle.{Handle}
 use Rattle.pa_player.specs.declared.handle.Handle.TheVariants.{Empty, Own, Ref, Freed, Cleared}
 use Rattle.pa_player.specs.declared.table.Slot.{Slot}
 
--- the slot at an index, and its name
+-- the slot past the end of the table: no bytes, no class
 abbrev pub no_slot : Slot
 no_slot = record { title = record { start = 0; len = 0; born = 0 }; partition = 0; class = None; word = record { 0 = 0 }; content = 0 }
 
@@ -17,9 +17,11 @@ no_slot = record { title = record { start = 0; len = 0; born = 0 }; partition = 
 abbrev pub new_slot : Title → ℕ → Option ℕ → Slot
 new_slot title partition class = record { title = title; partition = partition; class = class; word = record { 0 = 0 }; content = 0 }
 
+-- the slot at an index of the table; past its end a slot of no bytes
 abbrev pub slot_at : List Slot → ℕ → Slot
 slot_at slots i = slice_index_or slots i no_slot
 
+-- the name of the slot at an index
 abbrev pub named_at : List Slot → ℕ → SlotName
 named_at slots i = name_of (slot_at slots i).title
 
@@ -79,6 +81,7 @@ Points (Ref place) i = place ≡ i
 Points Freed i = ⊥
 Points Cleared i = ⊥
 
+-- the register has no handle: it is empty, freed or cleared
 abbrev pub HasNone : Handle → Type 0
 HasNone Empty = Unit {0}
 HasNone (Own place) = ⊥

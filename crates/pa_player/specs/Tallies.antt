@@ -3,10 +3,11 @@ use Rattle.std.specs.Prelude.{◌≡◌, ℕ, ◌<◌, List, length, slice_index
 use Rattle.pa_record.specs.declared.report.Tally.{Tally}
 use Rattle.pa_trace.specs.Limits.{most_partitions}
 
--- the tally of a partition
+-- the tally past the last partition
 abbrev pub no_tally : Tally
 no_tally = record { slots = 0; bytes = 0 }
 
+-- the tally of partition q; past the last one no slots and no bytes
 abbrev pub tally_at : List Tally → ℕ → Tally
 tally_at tallies q = slice_index_or tallies q no_tally
 

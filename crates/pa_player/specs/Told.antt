@@ -18,9 +18,11 @@ pub record Lists : Type 0 where
   pub report : List ReportLine
   pub line : ℕ
 
+-- the journal of partition q; an empty one past the last
 abbrev pub journal_in : Lists → ℕ → List RootEntry
 journal_in t q = slice_index_or t.journals q []
 
+-- the history of cell k; an empty one past the last
 abbrev pub history_in : Lists → ℕ → List CellEntry
 history_in t k = slice_index_or t.histories k []
 
@@ -28,8 +30,14 @@ history_in t k = slice_index_or t.histories k []
 abbrev pub with_act : ℕ → RootEntry → Lists → Lists
 with_act q e t = record t { journals = slice_set t.journals q (journal_in t q ++ e ∷ []) }
 
+-- one more entry in the history of cell k
 abbrev pub with_exchange : ℕ → CellEntry → Lists → Lists
 with_exchange k e t = record t { histories = slice_set t.histories k (history_in t k ++ e ∷ []) }
+
+-- The lists without those that a part of a line may go on with before memory runs out: the journals, the entries of the pool, the
+-- histories and the report.
+abbrev pub told_before : Lists → Lists
+told_before t = record t { journals = []; pools = []; histories = []; report = [] }
 
 -- the run has these lists
 abbrev pub IsToldRun : Lists → Run → Type 0

@@ -1,4 +1,4 @@
-ghost use Rattle.std.specs.Prelude.{◌≡◌, ◌≢◌, ◌%◌, ◌<◌, ◌≤◌, ◌^◌, [], IfNone, IfOk, OnOk, length};
+ghost use Rattle.std.specs.Prelude.{◌≡◌, ◌≢◌, ◌%◌, ◌<◌, ◌≤◌, ◌^◌, [], IfNone, IfOk, OnOk, OnErr, length};
 ghost use Rattle.pa_layout.specs.Limits.{most_supers};
 ghost use Rattle.pa_trace.specs.declared.script.Op.TheVariants as ops;
 ghost use Rattle.pa_trace.specs.declared.script.Line.TheVariants.{Do};
@@ -11,7 +11,7 @@ ghost use Rattle.pa_player.specs.Changes.{issued, list_in, made_at};
 ghost use Rattle.pa_player.specs.Playing.{list_place, register_at};
 ghost use Rattle.pa_player.specs.Plays.{IsReady, Plays};
 ghost use Rattle.pa_player.specs.Tables.{HasNone};
-ghost use Rattle.pa_player.specs.Told.{journal_in};
+ghost use Rattle.pa_player.specs.Told.{journal_in, told_before};
 
 use crate::handle::Handle;
 use crate::output::Output;
@@ -39,7 +39,8 @@ impl<O: Output> Player<Told<O>> {
         size: u32,
     ) -> Result<Answer, OutOfMemory>
         requires { IsReady (Do thread (ops.Alloc reg partition size)) self.old }
-        ensures { IfOk result (Plays self.old thread (ops.Alloc reg partition size) self.new) }
+        ensures played { IfOk result (Plays self.old thread (ops.Alloc reg partition size) self.new) }
+        ensures same { OnErr result (told_before self.new.told ≡ told_before self.old.told) }
     {
         match self.register(thread, reg) {
             Handle::Own(_) => Ok(Answer::Filled),
@@ -60,7 +61,8 @@ impl<O: Output> Player<Told<O>> {
     ) -> Result<Answer, OutOfMemory>
         requires ready { IsReady (Do thread (ops.Alloc reg partition size)) self.old }
         requires none { HasNone (register_at self.old thread reg) }
-        ensures { IfOk result (Plays self.old thread (ops.Alloc reg partition size) self.new) }
+        ensures played { IfOk result (Plays self.old thread (ops.Alloc reg partition size) self.new) }
+        ensures same { OnErr result (told_before self.new.told ≡ told_before self.old.told) }
     {
         if size > GREATEST_SIZE {
             return Ok(Answer::TooLarge);
@@ -83,8 +85,9 @@ impl<O: Output> Player<Told<O>> {
         class: Class,
     ) -> Result<Answer, OutOfMemory>
         requires { CanAllocateSlot thread reg partition class self.old }
-        ensures { IfOk result (AllocatesSlot thread reg partition
+        ensures allocates { IfOk result (AllocatesSlot thread reg partition
             (list_place self.old.partitions thread partition class) class self.old self.new) }
+        ensures same { OnErr result (told_before self.new.told ≡ told_before self.old.told) }
     {
         let at = self.list_of(thread, partition, class);
         if self.caches.places(at).is_empty() {
@@ -103,8 +106,9 @@ impl<O: Output> Player<Told<O>> {
     ) -> Result<Answer, OutOfMemory>
         requires can { CanAllocateSlot thread reg partition class self.old }
         requires empty { list_in self.old (list_place self.old.partitions thread partition class) ≡ [] }
-        ensures { IfOk result (Refills thread reg partition
+        ensures refills { IfOk result (Refills thread reg partition
             (list_place self.old.partitions thread partition class) class self.old self.new) }
+        ensures same { OnErr result (told_before self.new.told ≡ told_before self.old.told) }
     {
         let at = self.list_of(thread, partition, class);
         match self.fill(at, partition, class)? {
@@ -135,6 +139,7 @@ impl<O: Output> Player<Told<O>> {
         ensures fills { IfOk result (Fills partition at class self.old self.new) }
         ensures at_list { OnOk result (at < length self.new.caches) }
         ensures some { IfOk result (λ o. IfNone o (list_in self.new at ≢ [])) }
+        ensures same { OnErr result (told_before self.new.told ≡ told_before self.old.told) }
     {
         let want = fill_count(class);
         let mut titles = ArrayVec::new();
@@ -170,6 +175,7 @@ impl<O: Output> Player<Told<O>> {
         ensures told { OnOk result (IsFillTold partition at class pool titles.now self.old self.new) }
         ensures at_list { OnOk result (at < length self.new.caches) }
         ensures many { OnOk result (length (list_in self.new at) ≡ length titles.now) }
+        ensures same { OnErr result (self.new.told ≡ self.old.told) }
     {
         let mut batch = Batch::new();
         self.put_all(at, partition, class, titles, &mut batch)?;
@@ -186,7 +192,8 @@ impl<O: Output> Player<Told<O>> {
         pool: Option<u32>,
         titles: &[Title],
     ) -> Result<(), OutOfMemory>
-        ensures { OnOk result (self.new ≡ asked_in partition count titles.now pool self.old) }
+        ensures asked { OnOk result (self.new ≡ asked_in partition count titles.now pool self.old) }
+        ensures same { OnErr result (self.new ≡ self.old) }
     {
         match pool {
             None => Ok(()),
@@ -215,7 +222,7 @@ impl<O: Output> Player<Told<O>> {
         ensures put { OnOk result (ArePut partition at class titles.now self.old self.new batch.new) }
         ensures at_list { OnOk result (at < length self.new.caches) }
         ensures many { OnOk result (length (list_in self.new at) ≡ length titles.now) }
-        ensures journals { OnOk result (self.new.told ≡ self.old.told) }
+        ensures journals { self.new.told ≡ self.old.told }
     {
         for title in titles {
             fits(title.len);
@@ -236,7 +243,8 @@ impl<O: Output> Player<Told<O>> {
         shape: Shape,
     ) -> Result<Answer, OutOfMemory>
         requires { CanAllocateMap thread reg partition shape.slot shape.supers self.old }
-        ensures { IfOk result (AllocatesMap thread reg partition shape.slot shape.supers self.old self.new) }
+        ensures allocates { IfOk result (AllocatesMap thread reg partition shape.slot shape.supers self.old self.new) }
+        ensures same { OnErr result (told_before self.new.told ≡ told_before self.old.told) }
     {
         let placed = self.take_map(partition, shape)?;
         let pool = placed.pool.unwrap();
@@ -259,7 +267,8 @@ impl<O: Output> Player<Told<O>> {
         requires supers { shape.supers ≡ supers_for shape.slot }
         requires few { shape.supers ≤ most_supers }
         requires place { CanPlace partition self.old }
-        ensures { IfOk result (IsMapTaken partition shape.slot shape.supers self.old self.new) }
+        ensures taken { IfOk result (IsMapTaken partition shape.slot shape.supers self.old self.new) }
+        ensures same { OnErr result (self.new.told ≡ self.old.told) }
     {
         let count = shape.supers;
         let placed = self

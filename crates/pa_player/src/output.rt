@@ -1,4 +1,4 @@
-ghost use Rattle.std.specs.Prelude.{◌≡◌, ◌<◌, ◌^◌, [], IfOk, OnOk, length};
+ghost use Rattle.std.specs.Prelude.{◌≡◌, ◌<◌, ◌^◌, [], IfOk, OnOk, OnErr, length};
 ghost use Rattle.pa_player.specs.Begun.{AreEmpty};
 ghost use Rattle.pa_player.specs.Books.{Books, kept_acts, with_kept_act, with_kept_entry};
 
@@ -12,16 +12,18 @@ use std::alloc::Global;
 pub trait Output: Drop {
     ghost books: { Self → Books };
 
-    /// One more record.
+    /// One more record. If memory runs out, there are those of before.
     fn record(&mut self, entry: Entry) -> Result<(), OutOfMemory>
-        ensures { OnOk result (books self.new ≡ with_kept_entry entry (books self.old)) };
+        ensures recorded { OnOk result (books self.new ≡ with_kept_entry entry (books self.old)) }
+        ensures same { OnErr result (books self.new ≡ books self.old) };
 
-    /// One more entry of a partition's journal. Returns its index there.
+    /// One more entry of a partition's journal. Returns its index there. If memory runs out, the journals are as before.
     fn act(&mut self, partition: u32, entry: &LentEntry<'_>) -> Result<u32, OutOfMemory>
         requires partition { partition < length (books self.old).journals }
         requires few { length (kept_acts (books self.old) partition) < 2 ^ 32 }
         ensures place { IfOk result (λ place. place ≡ length (kept_acts (books self.old) partition)) }
-        ensures after { OnOk result (books self.new ≡ with_kept_act partition entry.now (books self.old)) };
+        ensures after { OnOk result (books self.new ≡ with_kept_act partition entry.now (books self.old)) }
+        ensures same { OnErr result (books self.new ≡ books self.old) };
 }
 
 /// The records and the journals as lists.

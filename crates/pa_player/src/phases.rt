@@ -1,7 +1,8 @@
-ghost use Rattle.std.specs.Prelude.{◌≡◌, ◌<◌, OnOk, length};
+ghost use Rattle.std.specs.Prelude.{◌≡◌, ◌<◌, OnOk, OnErr, length};
 ghost use Rattle.pa_trace.specs.Limits.{most_partitions};
 ghost use Rattle.pa_player.specs.Asks.{CanEnd};
 ghost use Rattle.pa_player.specs.Changes.{phase_ended, report_line};
+ghost use Rattle.pa_player.specs.Told.{told_before};
 
 use crate::output::Output;
 use crate::player::Player;
@@ -13,7 +14,8 @@ impl<O: Output> Player<Told<O>> {
     // Reports the heap of each partition at the end of a phase.
     pub(crate) fn end_phase(&mut self) -> Result<(), OutOfMemory>
         requires { CanEnd self.old }
-        ensures { OnOk result (self.new ≡ phase_ended self.old) }
+        ensures ended { OnOk result (self.new ≡ phase_ended self.old) }
+        ensures same { OnErr result (told_before self.new.told ≡ told_before self.old.told) }
     {
         for partition in 0..self.partitions {
             let line = self.report_line(partition);

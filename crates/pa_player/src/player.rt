@@ -1,4 +1,4 @@
-ghost use Rattle.std.specs.Prelude.{◌≡◌, ◌<◌, ◌≤◌, [], Some, IfOk, OnOk, length};
+ghost use Rattle.std.specs.Prelude.{◌≡◌, ◌<◌, ◌≤◌, [], Some, IfOk, OnOk, OnErr, length};
 ghost use Rattle.pa_trace.specs.Limits.{IsHeadWithin, register_count, most_partitions, most_threads};
 ghost use Rattle.pa_trace.specs.declared.script.Line.TheVariants.{Do, Phase};
 ghost use Rattle.pa_player.specs.Asks.{CanEnd};
@@ -7,6 +7,7 @@ ghost use Rattle.pa_player.specs.Changes.{phase_begun, phase_ended, registered};
 ghost use Rattle.pa_player.specs.Tables.{IsIn, title_owned};
 ghost use Rattle.pa_player.specs.Playing.{register_at, list_place};
 ghost use Rattle.pa_player.specs.Plays.{GoesTo, IsReady, Plays, ReadsOwn, ReadsOwnOn};
+ghost use Rattle.pa_player.specs.Told.{told_before};
 
 use crate::caches::Caches;
 use crate::handle::Handle;
@@ -68,11 +69,13 @@ impl<O: Output> Player<Told<O>> {
     }
 
     /// Plays a line, and records its op. Returns its answer, and none of a line that begins a phase. Out of memory is the only
-    /// error; after it the player can't be used.
+    /// error; after it the player can't be used: it has the records that it had, but its journals, the entries of the pool, the
+    /// histories and the report may go on.
     pub fn line(&mut self, line: Line) -> Result<Option<Answer>, OutOfMemory>
         requires { IsReady line self.old }
         ensures played { IfOk result (λ answer. GoesTo self.old line answer self.new) }
         ensures owned { IfOk result (ReadsOwnOn self.old line) }
+        ensures same { OnErr result (told_before self.new.told ≡ told_before self.old.told) }
     {
         match line {
             Line::Phase => {
@@ -89,7 +92,8 @@ impl<O: Output> Player<Told<O>> {
     // Plays a line that begins a phase.
     fn begin_phase(&mut self) -> Result<(), OutOfMemory>
         requires { CanEnd self.old }
-        ensures { OnOk result (self.new ≡ phase_begun self.old) }
+        ensures begun { OnOk result (self.new ≡ phase_begun self.old) }
+        ensures same { OnErr result (told_before self.new.told ≡ told_before self.old.told) }
     {
         self.end_phase()?;
         self.told.next();
@@ -101,6 +105,7 @@ impl<O: Output> Player<Told<O>> {
         requires { IsReady (Do thread op) self.old }
         ensures played { IfOk result (λ answer. GoesTo self.old (Do thread op) (Some answer) self.new) }
         ensures owned { IfOk result (ReadsOwn self.old thread op) }
+        ensures same { OnErr result (told_before self.new.told ≡ told_before self.old.told) }
     {
         let answer = self.answer(thread, op)?;
         self.told.answer(thread, answer)?;
@@ -121,6 +126,7 @@ impl<O: Output> Player<Told<O>> {
         requires { IsReady (Do thread op) self.old }
         ensures played { IfOk result (Plays self.old thread op self.new) }
         ensures owned { IfOk result (ReadsOwn self.old thread op) }
+        ensures same { OnErr result (told_before self.new.told ≡ told_before self.old.told) }
     {
         match op {
             Op::Alloc {

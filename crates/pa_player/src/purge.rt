@@ -1,4 +1,4 @@
-ghost use Rattle.std.specs.Prelude.{◌≡◌, ◌<◌, IfOk, OnOk};
+ghost use Rattle.std.specs.Prelude.{◌≡◌, ◌<◌, IfOk, OnOk, OnErr};
 ghost use Rattle.pa_buckets.specs.Limits.{class_count};
 ghost use Rattle.pa_trace.specs.declared.script.Op.TheVariants as ops;
 ghost use Rattle.pa_trace.specs.declared.script.Line.TheVariants.{Do};
@@ -7,6 +7,7 @@ ghost use Rattle.pa_player.specs.Asks.{CanPurgeOne};
 ghost use Rattle.pa_player.specs.Changes.{given_from, purged_with};
 ghost use Rattle.pa_player.specs.Playing.{caches};
 ghost use Rattle.pa_player.specs.Plays.{IsReady, Plays};
+ghost use Rattle.pa_player.specs.Told.{told_before};
 
 use crate::output::Output;
 use crate::player::Player;
@@ -19,7 +20,8 @@ impl<O: Output> Player<Told<O>> {
     // Gives back all that the thread's caches have, and decommits the empty spans.
     pub(crate) fn purge(&mut self, thread: u32) -> Result<Answer, OutOfMemory>
         requires { IsReady (Do thread ops.Purge) self.old }
-        ensures { IfOk result (Plays self.old thread ops.Purge self.new) }
+        ensures played { IfOk result (Plays self.old thread ops.Purge self.new) }
+        ensures same { OnErr result (told_before self.new.told ≡ told_before self.old.told) }
     {
         let mut slots = 0;
         for partition in 0..self.partitions {
@@ -33,6 +35,7 @@ impl<O: Output> Player<Told<O>> {
         requires { CanPurgeOne thread partition self.old }
         ensures slots { IfOk result (λ n. n ≡ listed_slots (caches self.old thread partition) 0 class_count) }
         ensures purged { OnOk result (self.new ≡ purged_with partition (given_from thread partition 0 class_count self.old)) }
+        ensures same { OnErr result (told_before self.new.told ≡ told_before self.old.told) }
     {
         let slots = self.give_all(thread, partition)?;
         self.heap.roots.purge(partition);
@@ -45,6 +48,7 @@ impl<O: Output> Player<Told<O>> {
         requires { CanPurgeOne thread partition self.old }
         ensures slots { IfOk result (λ n. n ≡ listed_slots (caches self.old thread partition) 0 class_count) }
         ensures given { OnOk result (self.new ≡ given_from thread partition 0 class_count self.old) }
+        ensures same { OnErr result (told_before self.new.told ≡ told_before self.old.told) }
     {
         let mut slots = 0;
         for number in 0..CLASSES {

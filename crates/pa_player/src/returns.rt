@@ -1,8 +1,9 @@
-ghost use Rattle.std.specs.Prelude.{◌≡◌, ◌+◌, ◌<◌, ◌≤◌, [], OnOk, All, drop, length, map, slice_range};
+ghost use Rattle.std.specs.Prelude.{◌≡◌, ◌+◌, ◌<◌, ◌≤◌, [], OnOk, OnErr, All, drop, length, map, slice_range};
 ghost use Rattle.pa_player.specs.Asks.{CanGive, CanPutBack, CanTakeBack, CanUnmap};
 ghost use Rattle.pa_player.specs.Changes.{bytes_at, gave_back, given, list_in, taken_back, unmapped_at};
 ghost use Rattle.pa_player.specs.Playing.{numbered_at};
 ghost use Rattle.pa_player.specs.Tables.{slot_at};
+ghost use Rattle.pa_player.specs.Told.{told_before};
 
 use crate::output::Output;
 use crate::player::Player;
@@ -22,8 +23,9 @@ impl<O: Output> Player<Told<O>> {
     pub(crate) fn take_back(&mut self, thread: u32, place: u32) -> Result<(), OutOfMemory>
         requires place { place < length self.old.table }
         requires can { CanTakeBack thread place (slot_at self.old.table place).partition (slot_at self.old.table place).class self.old }
-        ensures { OnOk result (self.new ≡ taken_back thread (slot_at self.old.table place).partition
+        ensures taken { OnOk result (self.new ≡ taken_back thread (slot_at self.old.table place).partition
             (slot_at self.old.table place).class place self.old) }
+        ensures same { OnErr result (told_before self.new.told ≡ told_before self.old.told) }
     {
         let slot = self.table.slot(place);
         match slot.class {
@@ -43,7 +45,8 @@ impl<O: Output> Player<Told<O>> {
     ) -> Result<(), OutOfMemory>
         requires place { place < length self.old.table }
         requires can { CanPutBack thread place partition class self.old }
-        ensures { OnOk result (self.new ≡ taken_back thread partition (Some class) place self.old) }
+        ensures put { OnOk result (self.new ≡ taken_back thread partition (Some class) place self.old) }
+        ensures same { OnErr result (told_before self.new.told ≡ told_before self.old.told) }
     {
         let limit = cache_limit(class) as usize;
         let at = self.list_of(thread, partition, class);
@@ -60,7 +63,8 @@ impl<O: Output> Player<Told<O>> {
     pub(crate) fn give(&mut self, at: usize, partition: u32, keep: usize) -> Result<(), OutOfMemory>
         requires at { at < length self.old.caches }
         requires can { CanGive partition (drop keep (list_in self.old at)) self.old }
-        ensures { OnOk result (self.new ≡ given partition at keep self.old) }
+        ensures given { OnOk result (self.new ≡ given partition at keep self.old) }
+        ensures same { OnErr result (told_before self.new.told ≡ told_before self.old.told) }
     {
         let count = self.caches.places(at).len();
         let mut from = keep;
@@ -87,7 +91,8 @@ impl<O: Output> Player<Told<O>> {
         requires few { to ≤ from + 16 }
         requires within { to ≤ length (list_in self.old at) }
         requires can { CanGive partition (slice_range (list_in self.old at) from to) self.old }
-        ensures { OnOk result (self.new ≡ gave_back partition (slice_range (list_in self.old at) from to) self.old) }
+        ensures gave { OnOk result (self.new ≡ gave_back partition (slice_range (list_in self.old at) from to) self.old) }
+        ensures same { OnErr result (self.new.told ≡ self.old.told) }
     {
         let places = &self.caches.places(at)[from..to];
         let mut titles = ArrayVec::new();
@@ -104,7 +109,8 @@ impl<O: Output> Player<Told<O>> {
     fn unmap(&mut self, place: u32, partition: u32) -> Result<(), OutOfMemory>
         requires place { place < length self.old.table }
         requires can { CanUnmap place partition self.old }
-        ensures { OnOk result (self.new ≡ unmapped_at partition place self.old) }
+        ensures unmapped { OnOk result (self.new ≡ unmapped_at partition place self.old) }
+        ensures same { OnErr result (told_before self.new.told ≡ told_before self.old.told) }
     {
         let title = self.table.slot(place).title;
         let pool = self.heap.roots.unmap(partition, &mut self.heap.pool, title);

@@ -1,4 +1,4 @@
-ghost use Rattle.std.specs.Prelude.{◌≡◌, ◌<◌, IfOk, OnOk, length};
+ghost use Rattle.std.specs.Prelude.{◌≡◌, ◌<◌, IfOk, OnOk, OnErr, length};
 ghost use Rattle.pa_machine.specs.Count.{CanStep};
 ghost use Rattle.pa_machine.specs.declared.word.Step.TheVariants as steps;
 ghost use Rattle.pa_record.specs.declared.entry.Answer.TheVariants as answers;
@@ -9,6 +9,7 @@ ghost use Rattle.pa_player.specs.Changes.{Copies, Frees, LooksAt, Resets, Writes
 ghost use Rattle.pa_player.specs.Playing.{register_at};
 ghost use Rattle.pa_player.specs.Plays.{IsReady, Plays};
 ghost use Rattle.pa_player.specs.Tables.{slot_at};
+ghost use Rattle.pa_player.specs.Told.{told_before};
 ghost use Rattle.pa_player.specs.declared.handle.Handle.TheVariants.{Ref};
 
 use crate::handle::Handle;
@@ -62,7 +63,8 @@ impl<O: Output> Player<Told<O>> {
     // A reset of a `raw_ptr`.
     pub(crate) fn reset(&mut self, thread: u32, reg: u32) -> Result<Answer, OutOfMemory>
         requires { IsReady (Do thread (ops.Reset reg)) self.old }
-        ensures { IfOk result (Plays self.old thread (ops.Reset reg) self.new) }
+        ensures played { IfOk result (Plays self.old thread (ops.Reset reg) self.new) }
+        ensures same { OnErr result (told_before self.new.told ≡ told_before self.old.told) }
     {
         match self.register(thread, reg) {
             Handle::Empty => Ok(Answer::Nothing),
@@ -78,6 +80,7 @@ impl<O: Output> Player<Told<O>> {
         requires { CanReset thread reg place self.old }
         ensures answer { IfOk result (λ a. a ≡ answers.Done (seen_at self.old.table place)) }
         ensures resets { OnOk result (Resets thread reg place self.old self.new) }
+        ensures same { OnErr result (told_before self.new.told ≡ told_before self.old.told) }
     {
         let seen = self.table.step(place, Step::Reset);
         self.set_register(thread, reg, Handle::Cleared);
@@ -93,7 +96,8 @@ impl<O: Output> Player<Told<O>> {
     // A free, which through a `raw_ptr` only looks.
     pub(crate) fn free(&mut self, thread: u32, reg: u32) -> Result<Answer, OutOfMemory>
         requires { IsReady (Do thread (ops.Free reg)) self.old }
-        ensures { IfOk result (Plays self.old thread (ops.Free reg) self.new) }
+        ensures played { IfOk result (Plays self.old thread (ops.Free reg) self.new) }
+        ensures same { OnErr result (told_before self.new.told ≡ told_before self.old.told) }
     {
         match self.register(thread, reg) {
             Handle::Empty => Ok(Answer::Nothing),
@@ -109,6 +113,7 @@ impl<O: Output> Player<Told<O>> {
         requires { CanFree thread reg place self.old }
         ensures answer { IfOk result (λ a. a ≡ answers.Done (seen_at self.old.table place)) }
         ensures frees { OnOk result (Frees thread reg place self.old self.new) }
+        ensures same { OnErr result (told_before self.new.told ≡ told_before self.old.told) }
     {
         let seen = self.table.step(place, Step::Free);
         self.set_register(thread, reg, Handle::Freed);

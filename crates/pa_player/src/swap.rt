@@ -1,4 +1,4 @@
-ghost use Rattle.std.specs.Prelude.{◌≡◌, IfOk, OnOk, length};
+ghost use Rattle.std.specs.Prelude.{◌≡◌, IfOk, OnOk, OnErr, length};
 ghost use Rattle.pa_trace.specs.declared.script.Op.TheVariants as ops;
 ghost use Rattle.pa_trace.specs.declared.script.Line.TheVariants.{Do};
 ghost use Rattle.pa_player.specs.Asks.{CanSwap};
@@ -18,7 +18,8 @@ impl<O: Output> Player<Told<O>> {
     // An exchange with a cell: it gets the register's handle, and the register what it held.
     pub(crate) fn swap(&mut self, thread: u32, cell: u32, reg: u32) -> Result<Answer, OutOfMemory>
         requires { IsReady (Do thread (ops.Swap cell reg)) self.old }
-        ensures { IfOk result (Plays self.old thread (ops.Swap cell reg) self.new) }
+        ensures played { IfOk result (Plays self.old thread (ops.Swap cell reg) self.new) }
+        ensures same { OnErr result (self.new ≡ self.old) }
     {
         let entry = self.exchange(thread, cell, reg)?;
         Ok(Answer::Swapped { entry })
@@ -29,6 +30,7 @@ impl<O: Output> Player<Told<O>> {
         requires { CanSwap thread cell reg self.old }
         ensures place { IfOk result (λ entry. entry ≡ length (history_in self.old.told cell)) }
         ensures swapped { OnOk result (self.new ≡ swapped thread cell reg self.old) }
+        ensures same { OnErr result (self.new ≡ self.old) }
     {
         let gave = handle_in(self.register(thread, reg));
         let found = self.cells[cell as usize];

@@ -1,4 +1,4 @@
-ghost use Rattle.std.specs.Prelude.{◌≡◌, ◌<◌, ◌++◌, [], IfOk, length, slice_set};
+ghost use Rattle.std.specs.Prelude.{◌≡◌, ◌<◌, ◌++◌, [], IfOk, OnErr, length, slice_set};
 ghost use Rattle.pa_machine.specs.Count.{CanStep, number_of, stepped};
 ghost use Rattle.pa_record.specs.Spans.{name_of};
 ghost use Rattle.pa_player.specs.Tables.{slot_at, named_at, key_of, new_slot, AreNamed, IsHome, held_of, IsIn};
@@ -62,7 +62,8 @@ impl Table {
         let _slots = self.slots.len();
     }
 
-    // The index of the title's slot. It is appended, never issued, if none has its name.
+    // The index of the title's slot. It is appended, never issued, if none has its name. If memory runs out, the table is as
+    // before.
     pub(crate) fn home(
         &mut self,
         title: Title,
@@ -71,6 +72,7 @@ impl Table {
     ) -> Result<u32, OutOfMemory>
         requires few { length self.old < 4294967295 }
         ensures home { IfOk result (λ place. IsHome self.old self.new (new_slot title partition class) place) }
+        ensures same { OnErr result (self.new ≡ self.old) }
     {
         fits(title.start);
         let key = key_of(name_of(title));

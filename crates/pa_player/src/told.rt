@@ -1,4 +1,4 @@
-ghost use Rattle.std.specs.Prelude.{◌≡◌, ℕ, ◌+◌, ◌<◌, ◌≤◌, ◌^◌, [], ◌∷◌, ◌++◌, IfOk, OnOk, length, slice_index_or};
+ghost use Rattle.std.specs.Prelude.{◌≡◌, ℕ, ◌+◌, ◌<◌, ◌≤◌, ◌^◌, [], ◌∷◌, ◌++◌, IfOk, OnOk, OnErr, length, slice_index_or};
 ghost use Rattle.pa_record.specs.declared.root.RootAct.TheVariants.{Full};
 ghost use Rattle.pa_record.specs.declared.run.Run.{Run};
 ghost use Rattle.pa_record.specs.Act.{act_of};
@@ -66,10 +66,11 @@ impl<O: Output> Told<O> {
     // The record of this line, after which the next is played.
     pub(crate) fn answer(&mut self, thread: u32, answer: Answer) -> Result<(), OutOfMemory>
         requires { self.old.line ≤ 65537 }
-        ensures { OnOk result (self.new ≡ record self.old {
+        ensures answered { OnOk result (self.new ≡ record self.old {
           entries = self.old.entries ++ record { line = self.old.line; thread = thread; answer = answer } ∷ [];
           line = self.old.line + 1;
         }) }
+        ensures same { OnErr result (self.new ≡ self.old) }
     {
         self.output.record(Entry {
             line: self.line,
@@ -90,9 +91,10 @@ impl<O: Output> Told<O> {
 
     // An entry of the pool on this line.
     pub(crate) fn pool(&mut self, partition: u32, act: PoolAct) -> Result<(), OutOfMemory>
-        ensures { OnOk result (self.new ≡ record self.old {
+        ensures pooled { OnOk result (self.new ≡ record self.old {
           pools = self.old.pools ++ record { line = self.old.line; partition = partition; act = act } ∷ [];
         }) }
+        ensures same { OnErr result (self.new ≡ self.old) }
     {
         self.pools.push(PoolEntry {
             line: self.line,
@@ -104,7 +106,8 @@ impl<O: Output> Told<O> {
 
     // A line of the report.
     pub(crate) fn report(&mut self, line: ReportLine) -> Result<(), OutOfMemory>
-        ensures { OnOk result (self.new ≡ record self.old { report = self.old.report ++ line ∷ [] }) }
+        ensures reported { OnOk result (self.new ≡ record self.old { report = self.old.report ++ line ∷ [] }) }
+        ensures same { OnErr result (self.new ≡ self.old) }
     {
         self.report.push(line)?;
         Ok(())
@@ -117,6 +120,7 @@ impl<O: Output> Told<O> {
         requires few { length (journal_in self.old partition) < 2 ^ 32 }
         ensures place { IfOk result (λ entry. entry ≡ length (journal_in self.old partition)) }
         ensures after { OnOk result (self.new ≡ with_act partition (record { line = self.old.line; act = act_of act.entry }) self.old) }
+        ensures same { OnErr result (self.new ≡ self.old) }
     {
         self.output.act(partition, &LentEntry::of(self.line, act))
     }
@@ -133,6 +137,7 @@ impl<O: Output> Told<O> {
         requires few { length (journal_in self.old partition) < 2 ^ 32 }
         ensures place { IfOk result (λ entry. entry ≡ length (journal_in self.old partition)) }
         ensures after { OnOk result (self.new ≡ with_act partition (record { line = self.old.line; act = Full class pool }) self.old) }
+        ensures same { OnErr result (self.new ≡ self.old) }
     {
         self.root(partition, Act::Full { class, pool })
     }
@@ -148,6 +153,7 @@ impl<O: Output> Told<O> {
         requires few { length (history_in self.old cell) < 2 ^ 32 }
         ensures place { IfOk result (λ entry. entry ≡ length (history_in self.old cell)) }
         ensures after { OnOk result (self.new ≡ with_exchange cell (record { line = self.old.line; gave = gave; found = found }) self.old) }
+        ensures same { OnErr result (self.new ≡ self.old) }
     {
         let line = self.line;
         let history = &mut self.histories[cell as usize];

@@ -25,6 +25,7 @@ use Rattle.pa_pool.specs.Pools.{PoolValue, pool_after, IsByteOf, HasNoTitle}
 abbrev pub take_entry : (line partition count : ℕ) → Option ℕ → PoolEntry
 take_entry line partition count found = record { line = line; partition = partition; act = Take count found }
 
+-- the entry of a give of `count` super pages from `first` on, by a partition, on a line
 abbrev pub give_entry : (line partition count first : ℕ) → PoolEntry
 give_entry line partition count first = record { line = line; partition = partition; act = Give count first }
 

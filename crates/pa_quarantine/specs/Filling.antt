@@ -54,5 +54,6 @@ filled t value v = record v {
   since = record v.since { stored = true };
 }
 
+-- the seat after stores of the value to the title's whole content
 abbrev pub filled_share : Title → ℕ → Share → Share
 filled_share t value s = record s { view = filled t value s.view }

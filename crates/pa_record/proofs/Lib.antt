@@ -32,5 +32,6 @@ pub mod Used
 pub mod Filtered
 pub mod OneSum
 pub mod AddingUp
+pub mod Counted
 pub mod Chosen
 pub mod Owned

@@ -13,6 +13,7 @@ use Rattle.pa_record.specs.Root.{Root}
 abbrev pub kept_of : Span → ℕ
 kept_of s = s.made - s.allocated
 
+-- how many slots the root's spans keep, and how many bytes these have together
 abbrev pub root_tally : Root → Tally
 root_tally r = record { slots = sum_by kept_of r.spans; bytes = sum_by (λ s. slot_of s.class * kept_of s) r.spans }
 
@@ -28,6 +29,7 @@ reserved_bytes r = 2097152 * (length r.supers + sum_by (λ t. supers_for t.len) 
 abbrev pub count_in : State → Root → ℕ
 count_in a r = count_by (is_in a) r.spans
 
+-- all that is counted of a root
 abbrev pub census : Root → Census
 census r =
     record {

@@ -78,6 +78,7 @@ pub record IsLeft (pools : List PoolEntry) (journal : List RootEntry) (r : Root)
   pub born : IsBornBelow (least_after_all 0 journal) r
   pub titles : AreTitles pools (IsMadeBy pools journal)
 
+-- each journal, replayed from a root that has nothing, leaves a root of this kind
 abbrev pub JournalLeaves : Type 0
 JournalLeaves = (pools : List PoolEntry) (journal : List RootEntry) → IsJournal pools journal →
     IsLeft pools journal (root_replayed pools journal new_root)
@@ -122,6 +123,7 @@ leaves_by (Give slots) = []
 leaves_by (Unmap asked slot) = []
 leaves_by Purge = []
 
+-- the slots that an entry brings back into the root
 abbrev pub comes_by : RootAct → List SlotName
 comes_by (Fill class asked slots) = []
 comes_by (Map asked slot len) = []
@@ -134,10 +136,12 @@ comes_by Purge = []
 abbrev pub times : SlotName → List SlotName → ℕ
 times name xs = count_by (same_slot name) xs
 
+-- how often the slot left the root in a journal
 abbrev pub times_left : SlotName → List RootEntry → ℕ
 times_left name [] = 0
 times_left name (e ∷ es) = times name (leaves_by e.act) + times_left name es
 
+-- how often the slot came back to the root in a journal
 abbrev pub times_back : SlotName → List RootEntry → ℕ
 times_back name [] = 0
 times_back name (e ∷ es) = times name (comes_by e.act) + times_back name es
@@ -150,6 +154,7 @@ IsNameOut r name = (t : Title) × IsTitleOut r t × (name ≡ name_of t)
 abbrev pub IsOutBy : Root → SlotName → ℕ → ℕ → Type 0
 IsOutBy r name left back = (IsNameOut r name × (left ≡ back + 1)) ⊎ ((IsNameOut r name → ⊥) × (left ≡ back))
 
+-- in the root that a journal leaves this is so for each name, by how often it left and came back in the journal
 abbrev pub OutIsLeft : Type 0
 OutIsLeft = (pools : List PoolEntry) (journal : List RootEntry) (name : SlotName) → IsJournal pools journal →
     IsOutBy (root_replayed pools journal new_root) name (times_left name journal) (times_back name journal)
@@ -198,6 +203,7 @@ pub record SpansAreUsed : Type 0 where
 abbrev pub names_of : Span → List SlotName
 names_of s = map (λ n. name_of (title_at s n)) (out_of s)
 
+-- the names of all slots and direct maps that are out of a root
 abbrev pub names_out : Root → List SlotName
 names_out r = flat_map names_of r.spans ++ map name_of r.maps
 
@@ -212,5 +218,6 @@ pub record AddsUp (r : Root) : Type 0 where
   pub once : AllPairs ◌≢◌ (names_out r)
   pub counted : (census r).root.slots + length (names_out r) ≡ slots_made r + length r.maps
 
+-- each root that a journal leaves adds up
 abbrev pub RootAddsUp : Type 0
 RootAddsUp = (pools : List PoolEntry) (journal : List RootEntry) → IsJournal pools journal → AddsUp (root_replayed pools journal new_root)

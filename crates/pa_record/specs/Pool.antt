@@ -60,6 +60,7 @@ without_run first (t ∷ ts) = if t.first == first then ts else t ∷ without_ru
 abbrev pub gave : ℕ → PoolState → PoolState
 gave first s = record s { entries = s.entries + 1; taken = without_run first s.taken }
 
+-- the pool after an entry, by whether it is a take or a give
 abbrev pub pool_next : PoolAct → PoolState → PoolState
 pool_next (Take count found) s = took count found s
 pool_next (Give count first) s = gave first s
@@ -86,8 +87,10 @@ act_at pools j = option_map (λ (e : PoolEntry). e.act) (slice_get pools j)
 abbrev pub FoundRun : List PoolEntry → ℕ → ℕ → ℕ → Type 0
 FoundRun pools j count first = act_at pools j ≡ Some (Take count (Some first))
 
+-- entry j of the pool is a take of `count` super pages that found none
 abbrev pub FoundNone : List PoolEntry → ℕ → ℕ → Type 0
 FoundNone pools j count = act_at pools j ≡ Some (Take count None)
 
+-- entry j of the pool is a give of the `count` super pages from `first` on
 abbrev pub GaveRun : List PoolEntry → ℕ → ℕ → ℕ → Type 0
 GaveRun pools j count first = act_at pools j ≡ Some (Give count first)

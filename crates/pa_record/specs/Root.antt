@@ -32,6 +32,7 @@ pub record Root : Type 0 where
 abbrev pub new_root : Root
 new_root = record { supers = []; page = 0; turn = 0; maps = []; spans = [] }
 
+-- the current super page, which is the last one that was taken; none, if none was
 abbrev pub current : Root → Option SuperPage
 current r = slice_get r.supers (length r.supers - 1)
 
@@ -39,9 +40,11 @@ current r = slice_get r.supers (length r.supers - 1)
 abbrev pub in_state : State → ℕ → Span → Span
 in_state to turn s = if same_state s.state to then s else record s { state = to; turn = turn }
 
+-- the next turn after a span entered the state: one more if the span was in another one before
 abbrev pub turn_after : State → ℕ → Span → ℕ
 turn_after to turn s = if same_state s.state to then turn else turn + 1
 
+-- the root after its span s entered the state
 abbrev pub entered : State → Span → Root → Root
 entered to s r = record r { spans = put (in_state to r.turn s) r.spans; turn = turn_after to r.turn s }
 
@@ -59,6 +62,8 @@ new_span class at page =
 abbrev pub with_span : Span → Root → Root
 with_span s r = record r { page = r.page + pages_of s.class; spans = r.spans ++ s ∷ [] }
 
+-- a new span of the class at the next free page of the current super page, if there is one and the span's pages end before
+-- its last partition page, number 127
 abbrev pub at_page : ℕ → Root → Option SuperPage → Option Found
 at_page class r None = None
 at_page class r (Some at) =
@@ -86,6 +91,7 @@ front_taken (number ∷ rest) s r =
     let t = without_front rest s in
     record { root = entered (state_in_use t) t r; title = Some (title_at s number) }
 
+-- a take from the span that was found, which first gets new slots if its list is empty; if none was found, nothing changes
 abbrev pub taken_from : Option Found → Root → Took
 taken_from None r = record { root = r; title = None }
 taken_from (Some f) r = let s = with_free f.span in front_taken s.free s f.root
@@ -99,6 +105,7 @@ pub record Filled : Type 0 where
   pub root : Root
   pub titles : List Title
 
+-- after a take that gave a slot, the rest of the fill goes on from the take's root; after one that gave none, it ends
 abbrev pub and_then : Took → (Root → Filled) → Filled
 and_then t further = elim t.title as (λ o. Filled) [
   | None ↦ record { root = t.root; titles = [] }
@@ -119,9 +126,11 @@ abbrev pub decommitted_span : Option Span → Root → Root
 decommitted_span None r = r
 decommitted_span (Some s) r = entered state.Decommitted (without_pages s) r
 
+-- the root after the one of its empty spans with the least turn is decommitted, if any is empty
 abbrev pub oldest_decommitted : Root → Root
 oldest_decommitted r = decommitted_span (earliest (is_in state.Empty) r.spans) r
 
+-- how many spans of the root are empty
 abbrev pub empties : Root → ℕ
 empties r = count_by (is_in state.Empty) r.spans
 
@@ -148,6 +157,7 @@ abbrev pub decommitted_times : ℕ → Root → Root
 decommitted_times zero r = r
 decommitted_times (suc n) r = decommitted_times n (oldest_decommitted r)
 
+-- the root after as many decommits of its oldest empty span as it has empty spans
 abbrev pub purged : Root → Root
 purged r = decommitted_times (empties r) r
 
@@ -155,13 +165,16 @@ purged r = decommitted_times (empties r) r
 abbrev pub map_title : SlotName → ℕ → Title
 map_title name len = record { start = name.start; len = len; born = name.born }
 
+-- the direct maps without the first one of this name
 abbrev pub without_map : SlotName → List Title → List Title
 without_map name [] = []
 without_map name (t ∷ ts) = if (t.start == name.start) && (t.born == name.born) then ts else t ∷ without_map name ts
 
+-- the root with one more direct map, the last
 abbrev pub mapped : Title → Root → Root
 mapped t r = record r { maps = r.maps ++ t ∷ [] }
 
+-- the root without its direct map of this name
 abbrev pub unmapped : SlotName → Root → Root
 unmapped name r = record r { maps = without_map name r.maps }
 
@@ -180,15 +193,17 @@ abbrev pub IsTitleOut : Root → Title → Type 0
 IsTitleOut r t =
     ((s : Span) × Contains r.spans s × (number : ℕ) × IsOutOf s (name_of t) number × (t ≡ title_at s number)) ⊎ Contains r.maps t
 
--- if the fill's first take asked the pool, the super page that it got is the current one
+-- the super page that an act of the pool found; 0 if it found none
 abbrev pub super_of : Option PoolAct → ℕ
 super_of (Some (pool.Take count (Some first))) = first
 super_of a = 0
 
+-- the root in which the super page that the pool's entry j found is the current one, if a fill named that entry
 abbrev pub opened_by : List PoolEntry → Option ℕ → Root → Root
 opened_by pools None r = r
 opened_by pools (Some j) r = opened (super_of (act_at pools j)) j r
 
+-- the names of slots, without the numbers of their count words
 abbrev pub names : List Numbered → List SlotName
 names slots = map (λ n. n.slot) slots
 

@@ -34,6 +34,7 @@ pub record IsRunText (r : Run) (bytes : List ℕ) : Type 0 where
 abbrev pub journal_of : Run → ℕ → List RootEntry
 journal_of r p = slice_index_or r.roots.items p []
 
+-- the history of cell K, empty if the run has no such cell
 abbrev pub history_of : Run → ℕ → List CellEntry
 history_of r k = slice_index_or r.cells.items k []
 

@@ -138,6 +138,7 @@ abbrev pub AsksFrom : ℕ → Option ℕ → Type 0
 AsksFrom n None = Unit {0}
 AsksFrom n (Some j) = n ≤ j
 
+-- the first entry of the pool that may be named next: the one after the entry that was named, or n if none was
 abbrev pub least_after : ℕ → Option ℕ → ℕ
 least_after n None = n
 least_after n (Some j) = j + 1

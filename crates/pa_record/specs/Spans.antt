@@ -31,6 +31,7 @@ bytes_of s = 16384 * pages_of s.class
 abbrev pub title_at : Span → ℕ → Title
 title_at s number = record { start = s.place + slot_of s.class * number; len = slot_of s.class; born = s.born }
 
+-- the name of a title: where it starts, and the entry of the pool that it belongs to
 abbrev pub name_of : Title → SlotName
 name_of t = record { start = t.start; born = t.born }
 
@@ -38,6 +39,7 @@ name_of t = record { start = t.start; born = t.born }
 abbrev pub holds : SlotName → Span → Bool
 holds name s = (s.born == name.born) && (nat_le s.place name.start && nat_lt name.start (s.place + bytes_of s))
 
+-- the number in the span of the slot that starts there
 abbrev pub number_in : Span → SlotName → ℕ
 number_in s name = (name.start - s.place) / slot_of s.class
 
@@ -45,6 +47,7 @@ number_in s name = (name.start - s.place) / slot_of s.class
 abbrev pub more_pages : Span → ℕ
 more_pages s = max (s.committed + 1) ((slot_of s.class * (s.provisioned + 1) + 4095) / 4096)
 
+-- how many slots are provisioned then: those that fit into the committed pages, and at most the class's
 abbrev pub more_slots : Span → ℕ
 more_slots s = min (4096 * more_pages s / slot_of s.class) (slots_of s.class)
 
@@ -58,10 +61,12 @@ provisioned_more s =
       free = numbers s.provisioned (more_slots s - s.provisioned);
     }
 
+-- the span as it is, if this list has a slot, and else provisioned
 abbrev pub with_list : List ℕ → Span → Span
 with_list [] s = provisioned_more s
 with_list (n ∷ rest) s = s
 
+-- the span ready for a take: provisioned if its own list is empty
 abbrev pub with_free : Span → Span
 with_free s = with_list s.free s
 
@@ -81,6 +86,7 @@ without_pages s = record s { free = []; provisioned = 0; committed = 0 }
 abbrev pub state_in_use : Span → State
 state_in_use s = if s.allocated == slots_of s.class then state.Full else state.Active
 
+-- the state after a return: empty if no slot is out, and else active
 abbrev pub state_back : Span → State
 state_back s = if s.allocated == 0 then state.Empty else state.Active
 
@@ -93,6 +99,7 @@ same_state state.Decommitted state.Decommitted = true
 same_state state.Full state.Full = true
 same_state a b = false
 
+-- the span is in this state
 abbrev pub is_in : State → Span → Bool
 is_in a s = same_state s.state a
 
@@ -105,6 +112,7 @@ abbrev pub later : Span → Option Span → Span
 later s None = s
 later s (Some t) = if nat_lt s.turn t.turn then t else s
 
+-- of two spans the one with the lesser turn, and the first one if there is no second
 abbrev pub earlier : Span → Option Span → Span
 earlier s None = s
 earlier s (Some t) = if nat_lt t.turn s.turn then t else s
@@ -114,10 +122,12 @@ abbrev pub latest : (Span → Bool) → List Span → Option Span
 latest test [] = None
 latest test (s ∷ ss) = if test s then Some (later s (latest test ss)) else latest test ss
 
+-- of the spans that pass a test the one with the least turn; none if none passes
 abbrev pub earliest : (Span → Bool) → List Span → Option Span
 earliest test [] = None
 earliest test (s ∷ ss) = if test s then Some (earlier s (earliest test ss)) else earliest test ss
 
+-- the first span if there is one, and else the second
 abbrev pub or_else : Option Span → Option Span → Option Span
 or_else None o = o
 or_else (Some s) o = Some s

@@ -13,6 +13,7 @@ pub record IsLatest (test : Span → Bool) (ss : List Span) (s : Span) : Type 0 
   pub passes : test s ≡ true
   pub most : (t : Span) → Contains ss t → test t ≡ true → t.turn ≤ s.turn
 
+-- s passes the test, and no other span that does has a lesser turn
 pub record IsEarliest (test : Span → Bool) (ss : List Span) (s : Span) : Type 0 where
   pub among : Contains ss s
   pub passes : test s ≡ true

@@ -25,9 +25,11 @@ use Rattle.pa_record.specs.declared.entry.Answer.TheVariants.{Made, Done, Value,
 abbrev pub spaced_slot : Seen → List ℕ
 spaced_slot seen = codes " " ++ slot_text seen.slot
 
+-- ` SLOT FOUND`, with the word that was found as 16 hexadecimal digits
 abbrev pub seen_text : Seen → List ℕ
 seen_text seen = spaced_slot seen ++ codes " " ++ hex 16 seen.found.0
 
+-- ` SLOT FOUND`, or nothing if no slot was seen
 abbrev pub seen_text_if : Option Seen → List ℕ
 seen_text_if None = []
 seen_text_if (Some seen) = seen_text seen
@@ -140,6 +142,7 @@ lines_from f n (x ∷ xs) = f n x ++ lines_from f (n + 1) xs
 abbrev pub journal_text : ℕ → List RootEntry → List ℕ
 journal_text p entries = lines_from (root_text p) 0 entries
 
+-- the lines of all journals, from partition 0 on
 abbrev pub roots_text : List (List RootEntry) → List ℕ
 roots_text journals = lines_from journal_text 0 journals
 
@@ -151,6 +154,7 @@ pools_text entries = lines_from pool_text 0 entries
 abbrev pub history_text : ℕ → List CellEntry → List ℕ
 history_text k entries = lines_from (cell_text k) 0 entries
 
+-- the lines of all histories, from cell 0 on
 abbrev pub cells_text : List (List CellEntry) → List ℕ
 cells_text histories = lines_from history_text 0 histories
 

@@ -18,12 +18,15 @@ slots born number starts = map (λ start. record { slot = record { start = start
 abbrev pub fill : ℕ → ℕ → Option ℕ → List Numbered → RootEntry
 fill line class asked xs = record { line = line; act = Fill class asked xs }
 
+-- on this line the pool gave no super page, for a span of the class, or for a direct map if no class is named
 abbrev pub full : ℕ → Option ℕ → ℕ → RootEntry
 full line class asked = record { line = line; act = Full class asked }
 
+-- on this line these slots came back to the root
 abbrev pub give : ℕ → List Numbered → RootEntry
 give line xs = record { line = line; act = Give xs }
 
+-- on this line the root was purged
 abbrev pub purge : ℕ → RootEntry
 purge line = record { line = line; act = Purge }
 
@@ -31,6 +34,7 @@ purge line = record { line = line; act = Purge }
 abbrev pub map_made : ℕ → ℕ → ℕ → ℕ → RootEntry
 map_made line asked start len = record { line = line; act = Map asked (record { start = start; born = asked }) len }
 
+-- a direct map that goes on this line, by entry `asked` of the pool; its slot is of entry `born`, and its count word has this number
 abbrev pub map_gone : ℕ → ℕ → ℕ → ℕ → ℕ → RootEntry
 map_gone line asked start born number =
     record { line = line; act = Unmap asked (record { slot = record { start = start; born = born }; number = number }) }
@@ -39,9 +43,11 @@ map_gone line asked start born number =
 abbrev pub pool_take : ℕ → ℕ → ℕ → Option ℕ → PoolEntry
 pool_take line partition count first = record { line = line; partition = partition; act = pool.Take count first }
 
+-- on this line the partition gave `count` super pages back, from `first` on
 abbrev pub pool_give : ℕ → ℕ → ℕ → ℕ → PoolEntry
 pool_give line partition count first = record { line = line; partition = partition; act = pool.Give count first }
 
+-- a census by these eight numbers, in this order
 abbrev pub census_of : ℕ → ℕ → ℕ → ℕ → ℕ → ℕ → ℕ → ℕ → Census
 census_of slots bytes committed reserved full active empty decommitted =
     record {
@@ -67,6 +73,7 @@ short_fill_pool =
     ∷ pool_take 7 0 1 None
     ∷ []
 
+-- its journal: four fills of a slot each, and one that gets no super page
 abbrev pub short_fill_journal : List RootEntry
 short_fill_journal =
     fill 2 58 (Some 0) (slots 0 0 (16384 ∷ []))
@@ -76,6 +83,7 @@ short_fill_journal =
     ∷ full 7 (Some 38) 1
     ∷ []
 
+-- its end: nothing is kept, 502 system pages of one super page are committed, and four spans are full
 abbrev pub short_fill_census : Census
 short_fill_census = census_of 0 0 2056192 2097152 4 0 0 0
 
@@ -86,6 +94,7 @@ full_region_pool =
     ∷ pool_take 4 0 1 None
     ∷ []
 
+-- its journal: two fills of 56 pages, a third that gets no super page, and eight slots of 16 bytes
 abbrev pub full_region_journal : List RootEntry
 full_region_journal =
     fill 2 58 (Some 0) (slots 0 0 (16384 ∷ []))
@@ -94,6 +103,7 @@ full_region_journal =
     ∷ fill 5 0 None (slots 0 0 (1851392 ∷ 1851408 ∷ 1851424 ∷ 1851440 ∷ 1851456 ∷ 1851472 ∷ 1851488 ∷ 1851504 ∷ []))
     ∷ []
 
+-- its end: 248 slots of 16 bytes are kept, two spans are full, and one is active
 abbrev pub full_region_census : Census
 full_region_census = census_of 248 3968 1839104 2097152 2 1 0 0
 
@@ -108,6 +118,8 @@ direct_map_again_pool =
     ∷ pool_take 9 0 1 (Some 0)
     ∷ []
 
+-- its journal: a direct map is made, goes and is made again; then there is no room for another one, and it goes and is
+-- made once more
 abbrev pub direct_map_again_journal : List RootEntry
 direct_map_again_journal =
     map_made 2 0 16384 2002944
@@ -118,6 +130,7 @@ direct_map_again_journal =
     ∷ map_made 9 5 16384 2002944
     ∷ []
 
+-- its end: one direct map of 2,002,944 bytes in one super page, and no span
 abbrev pub direct_map_again_census : Census
 direct_map_again_census = census_of 0 0 2002944 2097152 0 0 0 0
 
@@ -127,6 +140,7 @@ cache_overflow_pool =
     pool_take 2 0 1 (Some 0)
     ∷ []
 
+-- its journal: nine fills of eight slots of 16 bytes, and batches of 16, 16 and 1 slots on one line
 abbrev pub cache_overflow_journal : List RootEntry
 cache_overflow_journal =
     fill 2 0 (Some 0) (slots 0 0 (16384 ∷ 16400 ∷ 16416 ∷ 16432 ∷ 16448 ∷ 16464 ∷ 16480 ∷ 16496 ∷ []))
@@ -145,6 +159,7 @@ cache_overflow_journal =
     ∷ give 125 (slots 0 0 (17520 ∷ []))
     ∷ []
 
+-- its end: 217 slots of 16 bytes are kept, in one active span with one system page
 abbrev pub cache_overflow_census : Census
 cache_overflow_census = census_of 217 3472 4096 2097152 0 1 0 0
 
@@ -155,6 +170,7 @@ empty_ring_pool =
     pool_take 2 0 1 (Some 0)
     ∷ []
 
+-- its journal: 17 spans of one slot are filled, each slot comes back, and one more fill takes the last of them
 abbrev pub empty_ring_journal : List RootEntry
 empty_ring_journal =
     fill 2 43 (Some 0) (slots 0 0 (16384 ∷ []))
@@ -194,6 +210,7 @@ empty_ring_journal =
     ∷ fill 36 43 None (slots 0 2 (1064960 ∷ []))
     ∷ []
 
+-- its end: 16 slots of 65,536 bytes are kept; one span is full, 15 are empty, and one is decommitted
 abbrev pub empty_ring_census : Census
 empty_ring_census = census_of 16 1048576 1048576 2097152 1 0 15 1
 
@@ -203,6 +220,7 @@ purge_pool =
     pool_take 2 0 1 (Some 0)
     ∷ []
 
+-- its journal: a fill of eight slots of 16 bytes, a batch of all eight, a purge, and a fill with the same slots
 abbrev pub purge_journal : List RootEntry
 purge_journal =
     fill 2 0 (Some 0) (slots 0 0 (16384 ∷ 16400 ∷ 16416 ∷ 16432 ∷ 16448 ∷ 16464 ∷ 16480 ∷ 16496 ∷ []))
@@ -211,6 +229,7 @@ purge_journal =
     ∷ fill 5 0 None (slots 0 2 (16384 ∷ []) ++ slots 0 0 (16400 ∷ 16416 ∷ 16432 ∷ 16448 ∷ 16464 ∷ 16480 ∷ 16496 ∷ []))
     ∷ []
 
+-- its end: 248 slots of 16 bytes are kept, in one active span with one system page
 abbrev pub purge_census : Census
 purge_census = census_of 248 3968 4096 2097152 0 1 0 0
 
@@ -226,6 +245,7 @@ span_lists_pool =
     ∷ pool_take 25 0 2 (Some 1)
     ∷ []
 
+-- its journal: fills and batches of spans of a page, with a purge among them; then a direct map, more fills, and another map in its place
 abbrev pub span_lists_journal : List RootEntry
 span_lists_journal =
     fill 2 27 (Some 0) (slots 0 0 (16384 ∷ 20480 ∷ []))
@@ -254,5 +274,6 @@ span_lists_journal =
     ∷ map_made 25 4 2113536 2068480
     ∷ []
 
+-- its end: 256 slots are kept; three spans are full, two are active, and two are decommitted
 abbrev pub span_lists_census : Census
 span_lists_census = census_of 256 44928 4833280 8388608 3 2 0 2

@@ -1,6 +1,6 @@
 use pa_machine::{SlotName, Word};
 
-/// The record of one op line: the line's number in the trace, where the head is line 1, the thread that played it,
+/// The record of one op line: the line's number in the trace, whose head is line 1, the thread that played it,
 /// and its answer.
 #[derive(Clone, Copy, Debug, PartialEq, Eq)]
 pub struct Entry {

@@ -28,7 +28,7 @@ mod writing;
 pub use act::{Act, ActWith, LentSlots};
 pub use batch::Batch;
 pub use cell_lines::push_cells;
-pub use census::Census;
+pub use census::{Census, Mapped, mapped_of};
 pub use entry::{Answer, Entry, Seen};
 pub use fits::{entry_fits, histories_fit, pool_fits, report_fits, root_fits, run_fits};
 pub use history::{CellEntry, Held, History};

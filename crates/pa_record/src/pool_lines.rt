@@ -1,4 +1,5 @@
-ghost use Rattle.std.specs.Prelude.{◌≡◌, ◌++◌, OnOk};
+ghost use Rattle.std.specs.Prelude.{◌≡◌, ◌++◌, OnOk, OnErr};
+ghost use Rattle.std.specs.Io.{StartsWith};
 ghost use Rattle.pa_record.specs.Text.{field_text, number_or, pool_act_text, pool_text, pools_text};
 
 use crate::root_lines::push_number_or;
@@ -7,9 +8,11 @@ use crate::{PoolAct, PoolEntry};
 use pa_machine::OutOfMemory;
 use pa_text::{Text, push_byte};
 
-/// Appends the lines of the pool's entries, from entry 0 on.
+/// Appends the lines of the pool's entries, from entry 0 on. If memory runs out, a first part of it may have been appended.
+#[tactic(auto, using(crate::proofs::Joining::starts_through))]
 pub fn push_pool(out: &mut Text, entries: &[PoolEntry]) -> Result<(), OutOfMemory>
     ensures pushed { OnOk result (out.new ≡ out.old ++ pools_text entries.now) }
+    ensures kept { OnErr result (StartsWith out.new out.old) }
 {
     let mut index = 0;
     for entry in entries {
@@ -20,8 +23,10 @@ pub fn push_pool(out: &mut Text, entries: &[PoolEntry]) -> Result<(), OutOfMemor
 }
 
 // Appends the line of one entry, with its LF.
+#[tactic(auto, using(pa_text::proofs::Joining::starts_before))]
 fn push_turn(out: &mut Text, index: u64, entry: &PoolEntry) -> Result<(), OutOfMemory>
     ensures pushed { OnOk result (out.new ≡ out.old ++ pool_text index entry.now) }
+    ensures kept { OnErr result (StartsWith out.new out.old) }
 {
     push_field(out, b"p ", index)?;
     push_field(out, b" ", u64::from(entry.line))?;
@@ -34,6 +39,7 @@ fn push_turn(out: &mut Text, index: u64, entry: &PoolEntry) -> Result<(), OutOfM
 // Appends `take COUNT FIRST`, whose first may be `none`, or `give COUNT FIRST`.
 fn push_act(out: &mut Text, act: PoolAct) -> Result<(), OutOfMemory>
     ensures pushed { OnOk result (out.new ≡ out.old ++ pool_act_text act) }
+    ensures kept { OnErr result (StartsWith out.new out.old) }
 {
     match act {
         PoolAct::Take { count, first } => {

@@ -1,5 +1,6 @@
-ghost use Rattle.std.specs.Prelude.{◌≡◌, ◌++◌, codes, OnOk, length, ◌≤◌};
+ghost use Rattle.std.specs.Prelude.{◌≡◌, ◌++◌, codes, OnOk, OnErr, length, ◌≤◌};
 ghost use Rattle.std.specs.Fmt.{decimal};
+ghost use Rattle.std.specs.Io.{StartsWith};
 ghost use Rattle.pa_text.specs.Hex.{slot_text};
 ghost use Rattle.pa_record.specs.Act.{act_of};
 ghost use Rattle.pa_record.specs.Text.{field_text, number_or, numbered_text, slots_text, root_act_text, root_text, journal_text, roots_text};
@@ -37,7 +38,9 @@ fn push_journal(out: &mut Text, partition: u64, entries: &[RootEntry]) -> Result
     Ok(())
 }
 
-/// Appends the line of the entry at this index of a partition's journal, with its LF.
+/// Appends the line of the entry at this index of a partition's journal, with its LF. If memory runs out, a first part of it
+/// may have been appended.
+#[tactic(auto, using(pa_text::proofs::Joining::starts_before))]
 pub fn push_root(
     out: &mut Text,
     partition: u64,
@@ -45,6 +48,7 @@ pub fn push_root(
     entry: &LentEntry<'_>,
 ) -> Result<(), OutOfMemory>
     ensures pushed { OnOk result (out.new ≡ out.old ++ root_text partition index entry.now) }
+    ensures kept { OnErr result (StartsWith out.new out.old) }
 {
     push_field(out, b"r ", partition)?;
     push_field(out, b" ", index)?;
@@ -57,6 +61,7 @@ pub fn push_root(
 // Appends what the root did.
 fn push_act(out: &mut Text, act: &Act<'_>) -> Result<(), OutOfMemory>
     ensures pushed { OnOk result (out.new ≡ out.old ++ root_act_text (act_of act.now)) }
+    ensures kept { OnErr result (StartsWith out.new out.old) }
 {
     match act {
         Act::Fill { class, pool, slots } => push_fill(out, *class, *pool, slots.lent().items()),
@@ -76,6 +81,7 @@ fn push_fill(
     slots: &[Numbered],
 ) -> Result<(), OutOfMemory>
     ensures pushed { OnOk result (out.new ≡ out.old ++ root_act_text (acts.Fill class pool slots.now)) }
+    ensures kept { OnErr result (StartsWith out.new out.old) }
 {
     push_field(out, b"fill ", u64::from(class.number()))?;
     push_byte(out, b' ')?;
@@ -86,6 +92,7 @@ fn push_fill(
 // Appends `map POOL SLOT@0 LEN`.
 fn push_map(out: &mut Text, pool: u32, slot: SlotName, len: u32) -> Result<(), OutOfMemory>
     ensures pushed { OnOk result (out.new ≡ out.old ++ root_act_text (acts.Map pool slot len)) }
+    ensures kept { OnErr result (StartsWith out.new out.old) }
 {
     push_field(out, b"map ", u64::from(pool))?;
     push_byte(out, b' ')?;
@@ -96,6 +103,7 @@ fn push_map(out: &mut Text, pool: u32, slot: SlotName, len: u32) -> Result<(), O
 // Appends `full CLASS POOL`, whose class may be `direct`.
 fn push_full(out: &mut Text, class: Option<Class>, pool: u32) -> Result<(), OutOfMemory>
     ensures pushed { OnOk result (out.new ≡ out.old ++ root_act_text (acts.Full class pool)) }
+    ensures kept { OnErr result (StartsWith out.new out.old) }
 {
     push_bytes(out, b"full ")?;
     match class {
@@ -108,6 +116,7 @@ fn push_full(out: &mut Text, class: Option<Class>, pool: u32) -> Result<(), OutO
 // Appends `give SLOT@K ..`.
 fn push_give(out: &mut Text, slots: &[Numbered]) -> Result<(), OutOfMemory>
     ensures pushed { OnOk result (out.new ≡ out.old ++ root_act_text (acts.Give slots.now)) }
+    ensures kept { OnErr result (StartsWith out.new out.old) }
 {
     push_bytes(out, b"give")?;
     push_slots(out, slots)
@@ -116,6 +125,7 @@ fn push_give(out: &mut Text, slots: &[Numbered]) -> Result<(), OutOfMemory>
 // Appends `unmap POOL SLOT@K`.
 fn push_unmap(out: &mut Text, pool: u32, slot: Numbered) -> Result<(), OutOfMemory>
     ensures pushed { OnOk result (out.new ≡ out.old ++ root_act_text (acts.Unmap pool slot)) }
+    ensures kept { OnErr result (StartsWith out.new out.old) }
 {
     push_field(out, b"unmap ", u64::from(pool))?;
     push_byte(out, b' ')?;
@@ -123,8 +133,10 @@ fn push_unmap(out: &mut Text, pool: u32, slot: Numbered) -> Result<(), OutOfMemo
 }
 
 // Appends the slots, a space before each.
+#[tactic(auto, using(crate::proofs::Joining::starts_through))]
 fn push_slots(out: &mut Text, slots: &[Numbered]) -> Result<(), OutOfMemory>
     ensures pushed { OnOk result (out.new ≡ out.old ++ slots_text slots.now) }
+    ensures kept { OnErr result (StartsWith out.new out.old) }
 {
     for slot in slots {
         push_byte(out, b' ')?;
@@ -137,6 +149,7 @@ fn push_slots(out: &mut Text, slots: &[Numbered]) -> Result<(), OutOfMemory>
 #[inline(always)]
 fn push_numbered(out: &mut Text, slot: Numbered) -> Result<(), OutOfMemory>
     ensures pushed { OnOk result (out.new ≡ out.old ++ numbered_text slot) }
+    ensures kept { OnErr result (StartsWith out.new out.old) }
 {
     push_slot(out, slot.slot)?;
     push_field(out, b"@", slot.number)
@@ -145,6 +158,7 @@ fn push_numbered(out: &mut Text, slot: Numbered) -> Result<(), OutOfMemory>
 // Appends the number, or the word if there is none.
 pub(crate) fn push_number_or(out: &mut Text, word: &[u8], n: Option<u32>) -> Result<(), OutOfMemory>
     ensures pushed { OnOk result (out.new ≡ out.old ++ number_or word.now n) }
+    ensures kept { OnErr result (StartsWith out.new out.old) }
 {
     match n {
         Some(n) => push_number(out, u64::from(n)),

@@ -20,6 +20,7 @@ is_beside s t = (t.class == s.class) && same_state t.state s.state
 abbrev pub next_of : List Span → Span → Option Span
 next_of ss s = latest (λ t. is_beside s t && nat_lt t.turn s.turn) ss
 
+-- of the spans beside s the one with the next greater turn, if there is one
 abbrev pub previous_of : List Span → Span → Option Span
 previous_of ss s = earliest (λ t. is_beside s t && nat_lt s.turn t.turn) ss
 
@@ -69,6 +70,7 @@ HasRecord words ss s = IsRecordAt words (record_word s.place) (span_record ss s)
 abbrev pub titles_free : Span → List Title
 titles_free s = map (title_at s) s.free
 
+-- the names of the span's free slots, front first
 abbrev pub names_free : Span → List SlotName
 names_free s = map name_of (titles_free s)
 

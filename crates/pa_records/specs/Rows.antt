@@ -7,9 +7,11 @@ use Rattle.pa_spans.specs.declared.span.Span.{Span as SpanRecord}
 use Rattle.pa_records.specs.Words.{counts_of, slots_of_record, neighbours_of}
 use Rattle.pa_records.specs.Records.{span_record}
 
+-- a row: where the span starts, then its record's words with the counts, the slots, the neighbours and the turn
 abbrev pub record_row : ℕ → ℕ → ℕ → ℕ → ℕ → List ℕ
 record_row place counts slots neighbours turn = place ∷ counts ∷ slots ∷ neighbours ∷ turn ∷ []
 
+-- the row of a span that starts there and has this record
 abbrev pub row_of_record : ℕ → SpanRecord → List ℕ
 row_of_record place x = record_row place (counts_of x) (slots_of_record x) (neighbours_of x) x.turn
 

@@ -26,6 +26,6 @@ pub record IsStoredFor (spans after : ℕ → SpanRecord) (s t : Span) : Type 0 
   pub is : alone (after s.place) ≡ record_with t 0 0
   pub others : (u : ℕ) → u ≢ s.place → alone (after u) ≡ alone (spans u)
 
--- where the store has a span, a page starts, and the words have the record of a span
+-- if the store has a span at a place, a page starts there, and the words have the record of a span
 abbrev pub AreReadable : List ℕ → (ℕ → Type 0) → Type 0
 AreReadable words has = (u : ℕ) → has u → (u % 16384 ≡ 0) × (x : SpanRecord) × IsRecordAt words (record_word u) x

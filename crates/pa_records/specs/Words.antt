@@ -10,6 +10,7 @@ use Rattle.pa_spans.specs.declared.span.Span.{Span}
 abbrev pub record_byte : ℕ → ℕ
 record_byte place = record_place (super_page_at place) (page_at place)
 
+-- the word of the region with which that record begins: its byte offset divided by 8
 abbrev pub record_word : ℕ → ℕ
 record_word place = record_byte place / 8
 
@@ -21,6 +22,7 @@ state_number state.Empty = 2
 state_number state.Decommitted = 3
 state_number state.Full = 4
 
+-- the state with this number; each number above 3 is that of Full
 abbrev pub numbered_state : ℕ → State
 numbered_state n =
     if n == 0 then state.None else (if n == 1 then state.Active else (if n == 2 then state.Empty else (if n == 3 then state.Decommitted else state.Full)))
@@ -29,9 +31,11 @@ numbered_state n =
 abbrev pub counts_of : Span → ℕ
 counts_of s = s.class + 256 * state_number s.state + 65536 * s.allocated + 4294967296 * s.provisioned + 281474976710656 * s.committed
 
+-- word 1 of a record: where the list's front slot starts in bits 0 to 31, how many slots were made in bits 32 to 63
 abbrev pub slots_of_record : Span → ℕ
 slots_of_record s = s.head + 4294967296 * s.made
 
+-- word 2 of a record: where the previous span starts in bits 0 to 31, where the next one starts in bits 32 to 63
 abbrev pub neighbours_of : Span → ℕ
 neighbours_of s = s.previous + 4294967296 * s.next
 

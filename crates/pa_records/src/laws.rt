@@ -28,7 +28,7 @@ pub fn spans_stay()
     ensures { SpansStay }
 {}
 
-/// The law that the neighbours which records name are those by turn: if lists stand for the spans of a store, and it has a
+/// The law that the neighbours which records name are those by turn: if lists are those of a store's spans, and it has a
 /// root's spans but for neighbours, each record is that of its span.
 pub fn stored_is_recorded<S: SpanStore>(store: &S, lists: &SpanLists)
     requires { Stand lists.now (S.spans store.now) (S.has store.now) }
@@ -39,7 +39,7 @@ pub fn stored_is_recorded<S: SpanStore>(store: &S, lists: &SpanLists)
     let _ = lists;
 }
 
-/// The law that words have a root if the store's spans are those of the words, it has the root's spans, lists stand for
+/// The law that words have a root if the store's spans are those of the words, it has the root's spans, lists are those of
 /// them, and their free slots are chained.
 pub fn stored_is_in_words<S: SpanStore>(store: &S, lists: &SpanLists)
     ensures { (words : List ℕ) (r : Root) → AreReadable words (S.has store.now) → Stand lists.now (spans_in words) (S.has store.now) →
@@ -50,7 +50,7 @@ pub fn stored_is_in_words<S: SpanStore>(store: &S, lists: &SpanLists)
     let _ = lists;
 }
 
-/// The law that where one record alone became that of another span in its place, but for neighbours, the store has the spans
+/// The law that if one record alone became that of another span in its place, but for neighbours, the store has the spans
 /// with that one.
 pub fn changed_is_stored<S: SpanStore>(before: &S, after: &S)
     requires { (u : ℕ) → S.has after.now u ↔ S.has before.now u }

@@ -16,6 +16,7 @@ new_entry numbers v = record { stake = least_stake v.stakes; numbers = numbers; 
 abbrev pub with_made : Made → Keeper → Keeper
 with_made m q = record q { entries = q.entries ++ m ∷ [] }
 
+-- the keeper has number k
 abbrev pub is_keeper : ℕ → Keeper → Bool
 is_keeper k q = q.number == k
 

@@ -25,9 +25,11 @@ use Rattle.pa_region.specs.Waiting.{poisoned_of, unclean_of}
 abbrev pub below_part : ℕ → RawRange → RawRange
 below_part a r = record { start = r.start; len = min r.len (a - r.start); floor = r.floor }
 
+-- the part of a raw range from byte e on, with the same floor; its length is 0 if the range ends by then
 abbrev pub above_part : ℕ → RawRange → RawRange
 above_part e r = record { start = max r.start e; len = (r.start + r.len) - max r.start e; floor = r.floor }
 
+-- the part of a raw range from byte a up to byte e, with the same floor; its length is 0 if none of its bytes is between
 abbrev pub inner_part : ℕ → ℕ → RawRange → RawRange
 inner_part a e r = record { start = max r.start a; len = min (r.start + r.len) e - max r.start a; floor = r.floor }
 
@@ -36,6 +38,7 @@ abbrev pub outside : ℕ → ℕ → List RawRange → List RawRange
 outside a e [] = []
 outside a e (r ∷ rs) = below_part a r ∷ above_part e r ∷ outside a e rs
 
+-- what these ranges have of the bytes from a up to e: one part of each range, in order
 abbrev pub inside : ℕ → ℕ → List RawRange → List RawRange
 inside a e [] = []
 inside a e (r ∷ rs) = inner_part a e r ∷ inside a e rs
@@ -76,6 +79,7 @@ abbrev pub left_of : List Item → View → View
 left_of [] v = v
 left_of (x ∷ xs) v = left_of xs (without_item x v)
 
+-- the view w with these items added one by one, each as v has it without the items before
 abbrev pub given_of : List Item → View → View → View
 given_of [] v w = w
 given_of (x ∷ xs) v w = given_of xs (without_item x v) (with_item x v w)

@@ -45,6 +45,7 @@ takes_free Reset = false
 takes_free Free = false
 takes_free Write = false
 
+-- whether a step takes the title's Own: only a free does
 abbrev pub takes_own : Step → Bool
 takes_own Issue = false
 takes_own Copy = false
@@ -52,6 +53,7 @@ takes_own Reset = false
 takes_own Free = true
 takes_own Write = false
 
+-- whether a step takes a Ref of the title: only a reset does
 abbrev pub takes_ref : Step → Bool
 takes_ref Issue = false
 takes_ref Copy = false
@@ -59,6 +61,7 @@ takes_ref Reset = true
 takes_ref Free = false
 takes_ref Write = false
 
+-- whether a step makes a Ref of the title: only a copy does
 abbrev pub makes_ref : Step → Bool
 makes_ref Issue = false
 makes_ref Copy = true
@@ -94,6 +97,7 @@ pub record LeavesCount (step : Step) (t : Title) (word : ℕ) (v w : View) : Typ
   pub lists : w.seen_lists ≡ v.seen_lists
   pub uncut : w.uncut ≡ v.uncut
 
+-- every counted step that a view allows changes it so, whatever word the step found
 abbrev pub CountLeaves : Type 0
 CountLeaves = (step : Step) (t : Title) (word : ℕ) (v : View) → CanCount step t v → LeavesCount step t word v (after_count step t word v)
 
@@ -132,6 +136,7 @@ pub record LeavesEnter (k : ℕ) (numbers : List ℕ) (v w : View) : Type 0 wher
   pub keepers : (q : ℕ) → keeper_of w q ≡ keeper_of v q
   pub entry : LeavesEntry (Entered k (new_entry numbers v)) v w
 
+-- every entry in a keeper's list that a view allows changes it so
 abbrev pub EnterLeaves : Type 0
 EnterLeaves = (k : ℕ) (numbers : List ℕ) (v : View) → CanEnter k v → LeavesEnter k numbers v (after_enter k numbers v)
 
@@ -149,6 +154,8 @@ pub record OneOwnChanged (t : Title) (change : OwnTitle → OwnTitle) (os : List
   pub within : (f : OwnTitle → ℕ) → f o ≤ sum_by f os
   pub replaced : (f : OwnTitle → ℕ) → sum_by f (changed (is_own_of t) change os) + f o ≡ sum_by f os + f (change o)
 
+-- if Owns of the title are in a list, one of them is changed so; and a change that leaves an amount of every Own as it is leaves
+-- the sum of that amount too
 abbrev pub OwnsChange : Type 0
 OwnsChange =
     ((t : Title) (change : OwnTitle → OwnTitle) (os : List OwnTitle) → 0 < sum_by (λ (o : OwnTitle). one (same_title o.title t)) os →

@@ -78,6 +78,7 @@ HostsKeep =
 abbrev pub EnteringKeeps : Type 0
 EnteringKeeps = (k : ℕ) (numbers : List ℕ) (v : View) → CanEnter k v → Keeps v (after_enter k numbers v)
 
+-- keeping is transitive: a seat that keeps what it has in each of two changes keeps it over both
 abbrev pub KeepingGoesOn : Type 0
 KeepingGoesOn = (u v w : View) → Keeps u v → Keeps v w → Keeps u w
 
@@ -124,6 +125,7 @@ pub record AreNoted (r inner outer : ℕ) (first second : List ℕ)
 abbrev pub MakesEntry : ℕ → List ℕ → (lender lender_now host host_now : Share) → Type 0
 MakesEntry k numbers a b h i = (m : Made) × IsNoted (least_stake a.view.stakes) k numbers a.view b.view h.view i.view m
 
+-- two entries were made with the lender's least stake: first the host's in the inner list, then the middle seat's in the outer one
 abbrev pub MakesBoth : (inner : ℕ) → List ℕ → (outer : ℕ) → List ℕ → (lender lender_now middle middle_now host host_now : Share) → Type 0
 MakesBoth inner first outer second a b c d h i =
     (m n : Made) × AreNoted (least_stake a.view.stakes) inner outer first second a.view b.view c.view d.view h.view i.view m n

@@ -20,6 +20,7 @@ use Rattle.pa_region.specs.Shares.{IsUser, count_offset}
 abbrev pub has_own : View → Title → Bool
 has_own v t = nat_lt 0 (own_of v t)
 
+-- whether a view has the title's Own in another state than clean
 abbrev pub has_unclean : View → Title → Bool
 has_unclean v t = nat_lt 0 (sum_by (λ (o : OwnTitle). one (same_title o.title t && is_unclean o.state)) v.owns)
 

@@ -14,6 +14,7 @@ names_stake k (Stake number) = number == k
 names_stake k (Keeper number) = false
 names_stake k (Lease number) = false
 
+-- the mark is the keeper with this number
 abbrev pub names_keeper : ℕ → Mark → Bool
 names_keeper k (Stake number) = false
 names_keeper k (Keeper number) = number == k
@@ -23,6 +24,7 @@ names_keeper k (Lease number) = false
 abbrev pub marked_stake : List Mark → ℕ → Bool
 marked_stake marks k = list_any (names_stake k) marks
 
+-- the keeper with this number is among the marks
 abbrev pub marked_keeper : List Mark → ℕ → Bool
 marked_keeper marks k = list_any (names_keeper k) marks
 
@@ -32,6 +34,7 @@ lease_of_mark (Stake number) = []
 lease_of_mark (Keeper number) = []
 lease_of_mark (Lease number) = number ∷ []
 
+-- the leases among the marks, in their order
 abbrev pub marked_leases : List Mark → List ℕ
 marked_leases [] = []
 marked_leases (m ∷ ms) = lease_of_mark m ++ marked_leases ms

@@ -27,6 +27,7 @@ weight_after weight (Some a) e = weight a e
 abbrev pub paired_of : View → (Entry → Entry → ℕ) → ℕ
 paired_of v weight = sum_by (λ (s : Stake). pairs weight s.log) v.stakes
 
+-- the sum over the pairs of consecutive entries in the logs of all these views
 abbrev pub paired_in : List View → (Entry → Entry → ℕ) → ℕ
 paired_in views weight = sum_by (λ v. paired_of v weight) views
 
@@ -38,6 +39,7 @@ amount_by r amount s = if s.number == r then amount s.log else 0
 abbrev pub paired_of_by : View → ℕ → (Entry → Entry → ℕ) → ℕ
 paired_of_by v r weight = sum_by (amount_by r (pairs weight)) v.stakes
 
+-- the sum over the pairs of consecutive entries in the logs of all these views' stakes of number r
 abbrev pub paired_by : List View → ℕ → (Entry → Entry → ℕ) → ℕ
 paired_by views r weight = sum_by (λ v. paired_of_by v r weight) views
 
@@ -45,6 +47,7 @@ paired_by views r weight = sum_by (λ v. paired_of_by v r weight) views
 abbrev pub logged_of_by : View → ℕ → (Entry → ℕ) → ℕ
 logged_of_by v r weight = sum_by (amount_by r (sum_by weight)) v.stakes
 
+-- the sum over the entries in the logs of all these views' stakes of number r
 abbrev pub logged_by : List View → ℕ → (Entry → ℕ) → ℕ
 logged_by views r weight = sum_by (λ v. logged_of_by v r weight) views
 

@@ -32,9 +32,11 @@ after_store at_byte value v = record v {
 abbrev pub HasRawWord : View → ℕ → Type 0
 HasRawWord v at_byte = (b : ℕ) → at_byte ≤ b → b < at_byte + 8 → 0 < held_of_view v (RawByte b)
 
+-- the view holds a title free that has a content word at the byte offset
 abbrev pub HasFreeContent : View → ℕ → Type 0
 HasFreeContent v at_byte = (t : Title) × (0 < free_of v t) × IsContentOf t at_byte
 
+-- the view has a clean or dirty Own with a content word at the byte offset, knows that no Ref of its title is left, and has a stake
 abbrev pub HasIdleContent : View → ℕ → Type 0
 HasIdleContent v at_byte = (t : Title) × (0 < idle_of v t) × (0 < own_as v t Clean + own_as v t Dirty) × IsContentOf t at_byte × HasStake v
 

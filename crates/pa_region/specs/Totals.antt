@@ -51,7 +51,7 @@ pub record Totals (words : List ℕ) (logs : (Entry → ℕ) → ℕ) (logs_by :
 abbrev pub after_add : ℕ → ℕ → View → View
 after_add k bytes v = record v { stakes = noted (Added k bytes) v.stakes; since = no_deeds }
 
--- a seat with this view may add so many bytes to word number k: its least stake owes as much to the words of that kind
+-- a seat with this view may add this many bytes to word number k: its least stake owes as much to the words of that kind
 abbrev pub CanAdd : ℕ → ℕ → View → Type 0
 CanAdd k bytes v =
     (k < 16) × HasStake v

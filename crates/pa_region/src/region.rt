@@ -164,7 +164,7 @@ impl Region {
         poison_as::<Brand>(&self.table, &mut seat.seat, place, title, word)
     }
 
-    /// Adds so many bytes to the totals word of this number, from 0. The seat's least stake owes as much to the words of that
+    /// Adds this many bytes to the totals word of this number, from 0. The seat's least stake owes as much to the words of that
     /// kind. The sum fits the word.
     pub fn add_total(&self, seat: &mut Seat, word: u32, bytes: u64)
         requires region { seat.old.region ≡ self.now }
@@ -177,7 +177,7 @@ impl Region {
         total_as::<Brand>(&self.table, &mut seat.seat, place, word, bytes);
     }
 
-    /// The totals word of this number, from 0, in bytes. Who has every stake knows that it is the sum of what was added to it.
+    /// The totals word of this number, from 0, in bytes. A seat that has every stake knows that it is the sum of what was added to it.
     pub fn read_total(&self, seat: &mut Seat, word: u32) -> u64
         requires region { seat.old.region ≡ self.now }
         requires word { word < 16 }

@@ -45,6 +45,7 @@ hands_of from to items = map (Hand from to) items
 abbrev pub raw_item : RawRange → Item
 raw_item r = Raw r.start r.len
 
+-- an Own as an item, whatever its state: it is handed over clean
 abbrev pub own_item : OwnTitle → Item
 own_item o = Own o.title
 

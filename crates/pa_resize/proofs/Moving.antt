@@ -173,7 +173,7 @@ module _ (a : Parts) (h : IsFiled a) (before rest : List Played) (x y w f e g : 
   found_written : m.wrote.found.0 ≡ word_after b2 new
   found_written = found_is a b2 (f ∷ e ∷ g ∷ rest) w (mark_at w.line m.wrote (Some steps.Write)) h p2 write_mark ∙ ap (word_after b2) m.write_slot
 
-  -- the old slot's word is still the one that was looked at where it is freed
+  -- the old slot's word is still the one that was looked at when it is freed
   old_word : word_after b3 old ≡ m.seen.found.0
   old_word =
       word_other b2 w (mark_at w.line m.wrote (Some steps.Write)) old write_mark (λ same. apart (sym m.write_slot ∙ same))

@@ -65,7 +65,7 @@ few_swaps (ops.Write reg value) i low is = absurd cc
 few_swaps (ops.Read reg place) i low is = absurd cc
 few_swaps ops.Purge i low is = absurd cc
 
--- where there was no room no register is set
+-- if there was no room no register is set
 full_kept : (cells : ℕ → List CellEntry) (reg partition size : ℕ) (answer : Answer) (regs : Regs) → HasNoRoom answer
     → changed regs (change_of cells (ops.Alloc reg partition size) answer) spare ≡ regs spare
 full_kept cells reg partition size answer regs (entry, is) =

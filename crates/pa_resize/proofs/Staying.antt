@@ -1,4 +1,4 @@
--- The law of what stays where nothing is moved.
+-- The law of what stays if nothing is moved.
 use Rattle.std.proofs.Common.{◌≡◌, ℕ, ◌+◌, List, [], ◌∷◌, ◌++◌, None, refl, sym, ap, ◌∙◌, subst, append_assoc}
 use Rattle.std.proofs.lemmas.List.{append-nil}
 use Rattle.pa_machine.specs.declared.word.SlotName.{SlotName}

@@ -74,7 +74,7 @@ NeedsOther a size = IsAlone a × (size ≤ greatest_size) × (slot_size_for size
 abbrev pub HasNoRoom : Answer → Type 0
 HasNoRoom answer = (entry : ℕ) × (answer ≡ Full entry)
 
--- What a resize came to, where a thread's register held this before, by its records. Each verdict denies those before it.
+-- What a resize came to, if a thread's register held this before, by its records. Each verdict denies those before it.
 abbrev pub IsResized : Verdict → Journals → Reg → ℕ → ℕ → ℕ → List Played → Type 0
 IsResized NotOwn roots held thread reg size xs = OwnsNothing held × (xs ≡ [])
 IsResized Shared roots held thread reg size xs =
@@ -114,6 +114,7 @@ IsPieceOf (Resize thread reg size) ps r before lines records verdict =
     (v : Verdict) × (verdict ≡ Some v) × (lines ≡ map did records)
     × (regs : AllRegs) × AreRegsAfter ps r before regs × IsResized v r.roots (regs thread reg) thread reg size records
 
+-- after these records, the piece is what its line comes to
 abbrev pub IsPiece : List Played → Told → List Played → ScriptPiece → Type 0
 IsPiece ps r before x = IsPieceOf x.line ps r before x.lines x.records x.verdict
 
@@ -122,11 +123,12 @@ abbrev pub ArePieces : List Played → Told → List Played → List ScriptPiece
 ArePieces ps r before [] = Unit {0}
 ArePieces ps r before (x ∷ xs) = IsPiece ps r before x × ArePieces ps r (before ++ x.records) xs
 
--- the verdicts of the resizes, each with the number of its line in the script, where the first piece is line n
+-- the verdicts of the resizes, each with the number of its line in the script, if the first piece is line n
 abbrev pub verdict_noted : ℕ → Option Verdict → List (ℕ × Verdict)
 verdict_noted n None = []
 verdict_noted n (Some v) = (n, v) ∷ []
 
+-- the verdicts of these pieces, in order, with the first piece on line n of the script
 abbrev pub verdicts_of : ℕ → List ScriptPiece → List (ℕ × Verdict)
 verdicts_of n [] = []
 verdicts_of n (x ∷ xs) = verdict_noted n x.verdict ++ verdicts_of (n + 1) xs

@@ -31,7 +31,7 @@ use Rattle.pa_resize.specs.Expansion.{spare, IsResized, ScriptPiece, IsExpanded}
 abbrev pub LeadsOver : List Played → Told → AllRegs → List Played → AllRegs → Type 0
 LeadsOver ps r regs xs after = RowsTo (record { usable_of = usable_of; usable_at = usable_in ps; cells = r.cells }) regs xs after
 
--- line n stands between them: the ones are on lines before it, the others on none
+-- line n is between them: the ones are on lines before it, the others on none
 pub record StandsBetween (n : ℕ) (before rest : List Played) : Type 0 where
   pub early : (x : Played) → Contains before x → x.line < n
   pub late : (x : Played) → Contains rest x → n ≤ x.line
@@ -49,7 +49,7 @@ pub record IsSpareFree (r : Told) (before rest : List Played) (regs : AllRegs) :
 --   owner, others: the register owns another slot, and every other register of every thread is as before
 --   cells: each cell holds what it held
 --   content, looked: the new slot contains what the old one contained when it was looked at
---   freed: the old slot was freed where no raw_ptr pointed to it, so it was returned
+--   freed: the old slot was freed when no raw_ptr pointed to it, so it was returned
 pub record IsMoveKept (ps : List Played) (r : Told) (thread reg : ℕ) (before xs rest : List Played) (regs after : AllRegs) : Type 0 where
   pub new : SlotName
   pub old : SlotName
@@ -64,7 +64,7 @@ pub record IsMoveKept (ps : List Played) (r : Told) (thread reg : ℕ) (before x
   pub freed : (x : Played) × (seen : Seen) × Contains xs x × (x.op ≡ Free reg) × (x.answer ≡ Done seen) × (seen.slot ≡ old)
       × (refs_of seen.found.0 ≡ 0)
 
--- The records of a move, of a register that scripts may name, leave that where the spare register and cell were free.
+-- The records of a move, of a register that scripts may name, leave that if the spare register and cell were free.
 abbrev pub MovesKeep : Type 0
 MovesKeep =
     (t : Trace) (r : Told) (before xs rest : List Played) (regs after : AllRegs) (thread reg size : ℕ) →

@@ -5,7 +5,7 @@ ghost use Rattle.pa_rules.specs.Sizes.{slot_size_for};
 use pa_buckets::{class_of, raw_of, slot_size};
 use pa_direct::shape;
 
-// The length of a slot for a request of so many bytes.
+// The length of a slot for a request of this many bytes.
 pub(crate) fn slot_size_for(size: u32) -> u32
     requires { size ≤ greatest_size }
     ensures { result ≡ slot_size_for size }

@@ -19,14 +19,14 @@ use pa_trace::{Head, Trace, TraceFault};
 use pa_trace_writer::{Keeper, Kept};
 use std::alloc::Global;
 
-// A resize becomes at most so many lines of a trace: memory for their records is reserved ahead.
+// A resize becomes at most this many lines of a trace: memory for their records is reserved ahead.
 const LINES: usize = 6;
 
 // Few bytes for a line of a script.
 const LINE: usize = 8;
 
 /// What a script comes to: a trace, its run in the order of its lines, and the verdict of each resize with the number of its
-/// line in the script, where the head is line 1.
+/// line in the script, whose head is line 1.
 #[derive(Drop)]
 pub struct Expanded {
     pub trace: Trace,

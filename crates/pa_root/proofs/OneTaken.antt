@@ -153,7 +153,7 @@ pub cut_view : (n : NewSlots) (s : Span) (y x : Share) (z : View) → n ≡ cut_
 cut_view n s y x z told same is =
     is ∙ (ap (λ (k : NewSlots). after_cuts (titles_beside k.first 0 k.count) y.view) told ∙ ap (λ (q : Share). after_cuts (titles_new_in s) q.view) same)
 
--- ---- where none is found, none was taken
+-- ---- if none is found, none was taken
 
 none_by : (o : Option Found) → None ≡ found_start o → o ≡ None
 none_by None e = refl

@@ -1,4 +1,4 @@
--- Where only words of a seat's view are others, a root stays sound, and stays ready for a fill.
+-- If only words of a seat's view are others, a root stays sound, and stays ready for a fill.
 use Rattle.std.proofs.Common.{ℕ, [], Option, sym, subst}
 use Rattle.std.proofs.lemmas.List.{append-nil}
 use Rattle.pa_layout.specs.Pages.{supers_for}

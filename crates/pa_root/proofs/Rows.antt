@@ -7,7 +7,7 @@ use Rattle.pa_region.specs.declared.view.View.{View}
 use Rattle.pa_region.specs.Views.{seen_of}
 use Rattle.pa_region.specs.Cuts.{CanCut, after_cut}
 use Rattle.pa_lists.proofs.Members.{not_in_none, first_in, later_in, in_cases}
-use Rattle.pa_lists.proofs.Pairs.{pairs_none, pairs_cons, pairs_head, pairs_tail}
+use Rattle.pa_lists.proofs.Pairs.{pairs_none, pairs_cons}
 use Rattle.pa_root.specs.Filling.{CanCutAll, after_cuts}
 use Rattle.pa_root.specs.Cutting.{title_beside, titles_beside, NoneSeen, CutsGoOn, MapsCanBeCut}
 use Rattle.pa_root.proofs.Batches.{beside_cuts}
@@ -113,18 +113,6 @@ row_once first from (suc n) long =
     let more : first.len * (from + 1 + k) ≡ first.len * from + first.len + first.len * k = grind arith in
     absurd (omega arith))
     (row_once first (from + 1) n long)
-
--- no title is twice in two lists that share none
-pub pairs_both : (xs ys : List Title) → AllPairs ◌≢◌ xs → AllPairs ◌≢◌ ys → ((x y : Title) → Contains xs x → Contains ys y → x ≢ y) → AllPairs ◌≢◌ (xs ++ ys)
-pairs_both [] ys h k apart = k
-pairs_both (x ∷ xs) ys h k apart =
-    let R : Title → Title → Type 0 = λ a b. a ≢ b in
-    pairs_cons R x (xs ++ ys)
-    (λ z among. elim (Contains-append_cases xs ys z among) [
-      | inl near ↦ pairs_head R x z xs h near
-      | inr far ↦ apart x z (first_in x xs) far
-    ])
-    (pairs_both xs ys (pairs_tail R x xs h) k (λ a b has has'. apart a b (later_in x a xs has) has'))
 
 -- ---- direct maps
 

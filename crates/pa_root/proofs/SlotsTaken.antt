@@ -7,6 +7,7 @@ use Rattle.pa_machine.specs.declared.title.Title.{Title}
 use Rattle.pa_machine.specs.declared.word.SlotName.{SlotName}
 use Rattle.pa_lists.proofs.Members.{of_some, not_some, not_in_none}
 use Rattle.pa_lists.proofs.Pairs.{pairs_none}
+use Rattle.pa_lists.proofs.Joined.{pairs_append}
 use Rattle.pa_record.specs.Spans.{name_of}
 use Rattle.pa_record.specs.Root.{Root, Found, Took, Filled, span_for, taken_from, one_take, and_then, takes, IsOut}
 use Rattle.pa_record.specs.Sound.{IsSound, IsMade}
@@ -24,7 +25,7 @@ use Rattle.pa_root.proofs.Batches.{beside_cuts, free_stays, free_cut}
 use Rattle.pa_root.proofs.Filling.{what_is_made_can_be_cut}
 use Rattle.pa_root.proofs.OneCut.{one_makes}
 use Rattle.pa_root.proofs.Rewording.{cuts_rewritten, free_rewritten, can_rewritten}
-use Rattle.pa_root.proofs.Rows.{cuts_go_on, pairs_both}
+use Rattle.pa_root.proofs.Rows.{cuts_go_on}
 
 -- What is new after two steps.
 more_on : (r z after : Root) (ts us : List Title) → MakesMore r z ts → MakesMore z after us → MakesMore r after (ts ++ us)
@@ -42,7 +43,7 @@ more_on r z after ts us a b = record {
     | inl first ↦ a.fresh t first made
     | inr later ↦ b.fresh t later (a.keeps t made)
   ];
-  once = pairs_both ts us a.once b.once (λ x y has has' same. b.fresh y has' (subst (λ t. IsMade z t) same (a.makes x has)));
+  once = pairs_append ◌≢◌ ts us a.once b.once (λ x y has has' same. b.fresh y has' (subst (λ t. IsMade z t) same (a.makes x has)));
 }
 
 none_more : (r : Root) → MakesMore r r []
@@ -82,7 +83,7 @@ at_start class want v l r can = record {
   filled = refl;
 }
 
--- where no span is found, and what a take gives else
+-- if no span is found, and what a take gives else
 no_span : (class : ℕ) (z : Root) → span_for class z ≡ None → (one_take class z).title ≡ None
 no_span class z none = ap (λ o. (taken_from o z).title) none
 

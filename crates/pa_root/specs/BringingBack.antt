@@ -16,8 +16,8 @@ use Rattle.pa_root.specs.Reading.{pools_seen}
 use Rattle.pa_root.specs.Making.{IsEnteredAt}
 use Rattle.pa_root.specs.Uncutting.{IsUncut}
 
--- The title came to the root's seat, which had shown the caller's what it had seen and had the view `shown` then; and it was made raw
--- again with the caller's stake r. The number is the one that the note had seen.
+-- The title came to the root's seat, which had shown the caller's what it had seen and had the view `shown` then; and it was uncut
+-- with the caller's stake r. The number is the one that the note had seen.
 pub record IsTitleBack (r : ℕ) (t : Title) (number : ℕ) (v after root root_now note : View) : Type 0 where
   pub shown : View
   pub keeps : (k : ℕ) → Lends k [] root shown

@@ -12,6 +12,7 @@ use Rattle.pa_root.specs.Filling.{CanCutAll, after_cuts}
 abbrev pub title_beside : Title → ℕ → Title
 title_beside first n = record { start = first.start + first.len * n; len = first.len; born = first.born }
 
+-- `count` titles side by side with the first one, from number `from` on
 abbrev pub titles_beside : Title → ℕ → ℕ → List Title
 titles_beside first from zero = []
 titles_beside first from (suc count) = title_beside first from ∷ titles_beside first (from + 1) count

@@ -56,6 +56,8 @@ pub record CanTakePage (p number entry : ℕ) (s : RootState) (w : View) : Type 
 abbrev pub opened_state : (number entry : ℕ) → RootState → View → RootState
 opened_state number entry s u = record { view = u; journal = s.journal; root = opened number entry s.root }
 
+-- If a root may take in such a note, all that holds of its slots, raw bytes and leases holds with the super page too, and its seat
+-- may borrow a stake.
 abbrev pub OpeningKeeps : Type 0
 OpeningKeeps =
     (p number entry : ℕ) (s : RootState) (w : View) → CanTakePage p number entry s w →
@@ -68,6 +70,7 @@ abbrev pub CanCutAll : List Title → View → Type 0
 CanCutAll [] v = Unit {0}
 CanCutAll (t ∷ ts) v = CanCut t v × CanCutAll ts (after_cut t v)
 
+-- the view after these titles were cut, one after the other
 abbrev pub after_cuts : List Title → View → View
 after_cuts [] v = v
 after_cuts (t ∷ ts) v = after_cuts ts (after_cut t v)
@@ -123,6 +126,7 @@ fill_taken class asked s u = takes class (fill_of class) (ready_root asked s u)
 abbrev pub free_item : Title → Item
 free_item t = items.Free t
 
+-- a parcel of these titles, free, with no counted steps, stakes, keepers or leases
 abbrev pub frees_parcel : List Title → Parcel
 frees_parcel ts = parcel_of (map free_item ts) 0 []
 
@@ -141,6 +145,7 @@ pub record GivesTitles (titles : List Title) (c : View) : Type 0 where
   pub has : HasOnly titles (given_after (frees_parcel titles) c)
   pub seen : (t : Title) → seen_of (given_after (frees_parcel titles) c) t ≡ seen_of c t
 
+-- once the slots that it made are cut, a fill can hand over so what it takes
 abbrev pub FillsHandOut : Type 0
 FillsHandOut =
     (p class : ℕ) (asked : Option ℕ) (s : RootState) (u c : View) (ts : List Title) → IsCutFor p class asked s u c ts →

@@ -30,6 +30,7 @@ pub record AreAllOut (s : RootState) (titles : List Title) : Type 0 where
   pub out : All (IsOut s.root) (map name_of titles)
   pub once : AllPairs ◌≢◌ (map name_of titles)
 
+-- if a note comes back so to a sound root, each of its titles is out of that root, and none is there twice
 abbrev pub WhatComesIsOut : Type 0
 WhatComesIsOut = (p : ℕ) (s : RootState) (w : View) (titles : List Title) → CanComeBack p s w titles → AreAllOut s titles
 

@@ -98,6 +98,7 @@ HasSeenFill p v t =
     (line class : ℕ) × (asked : Option ℕ) × (slots : List Numbered) × (n : Numbered) × (t.len ≡ slot_of class) × Contains slots n
     × (n.slot ≡ name_of t) × Contains (map (λ m. m.numbers) (list_of p v)) (root_numbers (root_entry line (Fill class asked slots)))
 
+-- the seat has seen an entry of the list of root p that maps this title, with its name and its length
 abbrev pub HasSeenMap : ℕ → View → Title → Type 0
 HasSeenMap p v t =
     (line asked : ℕ) × Contains (map (λ m. m.numbers) (list_of p v)) (root_numbers (root_entry line (Map asked (name_of t) t.len)))

@@ -64,11 +64,13 @@ IsInMade r born b = (t : Title) × IsMade r t × (t.born ≡ born) × Covers t b
 abbrev pub IsInSuperRest : Root → ℕ → ℕ → Type 0
 IsInSuperRest r j b = (at : SuperPage) × Contains r.supers at × (at.born ≡ j) × IsInRun at.number 1 b × (IsInMade r j b → ⊥)
 
+-- byte b is in the super pages of the direct map that entry j of the pool took for the root, and not in its slot
 abbrev pub IsInMapRest : Root → ℕ → ℕ → Type 0
 IsInMapRest r j b =
     (t : Title) × (first : ℕ) × Contains r.maps t × (t.born ≡ j) × (t.start ≡ page_place first 1) × IsInRun first (supers_for t.len) b
     × (Covers t b → ⊥)
 
+-- byte b is one of the rest of what entry j of the pool took for the root, for slots or for a direct map
 abbrev pub IsInRest : Root → ℕ → ℕ → Type 0
 IsInRest r j b = IsInSuperRest r j b ⊎ IsInMapRest r j b
 

@@ -35,6 +35,7 @@ pub record IsFirstView (p : ℕ) (v : View) : Type 0 where
   pub handles : (t : Title) → own_of v t + ref_of v t ≡ 0
   pub budget : v.budget ≡ 0
 
+-- the state of a new root: its seat has this view, and its journal is empty
 abbrev pub first_state : View → RootState
 first_state v = record { view = v; journal = []; root = new_root }
 
@@ -52,7 +53,7 @@ SeeingMoreKeeps =
     (p : ℕ) (s : RootState) (x : View) → IsRootSound p s → IsAware s.view → IsAware x → Keeps s.view x → list_of p x ≡ list_of p s.view →
     IsRootSound p (with_view x s)
 
--- It stays sound where only words of its seat's view are others: records and links.
+-- It stays sound if only words of its seat's view are others: records and links.
 abbrev pub RewritingKeeps : Type 0
 RewritingKeeps = (p : ℕ) (s : RootState) (x : View) → IsRootSound p s → Rewritten s.view x → IsRootSound p (with_view x s)
 

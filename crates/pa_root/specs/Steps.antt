@@ -57,6 +57,7 @@ pub record PoolGave (r p line index : ℕ) (v after : View) : Type 0 where
   pub is_made : IsEnteredAt index r 4 (pool_numbers (take_entry line p 1 (Some first))) v after made
   pub lends : Lends r (Entered 4 made ∷ []) v after
 
+-- if the pool was asked, it gave a super page by its entry of that index; if not, the caller's view is as it was
 abbrev pub AskedIf : (r p line : ℕ) → Option ℕ → View → View → Type 0
 AskedIf r p line None v after = after ≡ v
 AskedIf r p line (Some index) v after = PoolGave r p line index v after

@@ -17,6 +17,7 @@ use Rattle.pa_root.specs.Filling.{CanCutAll, MakesMore, after_cuts}
 abbrev pub titles_new_in : Span → List Title
 titles_new_in s = titles_beside (title_at s s.made) 0 (count_cut s.free s)
 
+-- the slots that are cut before one is taken from the span that was found, none if none was found
 abbrev pub cut_for : Option Found → List Title
 cut_for None = []
 cut_for (Some f) = titles_new_in f.span

@@ -74,6 +74,7 @@ pub record HandsBack (first : ℕ) (t : Title) (c : View) : Type 0 where
   pub can : CanHand (run_parcel first (supers_for t.len) t.born) c
   pub has : HasRunOnly first (supers_for t.len) (t.born + 1) t.born (given_after (run_parcel first (supers_for t.len) t.born) c)
 
+-- once its title came back and was uncut, a direct map's super pages can be handed back so
 abbrev pub UnmapsHandBack : Type 0
 UnmapsHandBack = (p first : ℕ) (s : RootState) (w c : View) (t : Title) → IsCutBack p first s w c t → HandsBack first t c
 

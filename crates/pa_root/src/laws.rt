@@ -22,7 +22,7 @@ pub fn seeing_more_keeps_a_root()
     ensures { SeeingMoreKeeps }
 {}
 
-/// A root stays sound where its seat writes records and links.
+/// A root stays sound when its seat writes records and links.
 pub fn rewriting_keeps_a_root()
     ensures { RewritingKeeps }
 {}

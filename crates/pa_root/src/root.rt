@@ -22,7 +22,7 @@ use std::alloc::Global;
 use std::marker::{Model, PhantomData};
 
 /// The root of partition `P`, 0 to 3, of the region that the name says. It is kept behind a lock. Contracts see it as the view of
-/// its seat, its journal, and what the journal replays to. Its spans stand in the metadata pages, and their free slots in chains.
+/// its seat, its journal, and what the journal replays to. Its spans are records in the metadata pages, and their free slots are in chains.
 #[derive(Drop)]
 pub struct Root<N: Name, const P: u32> {
     pub(crate) ledger: Ledger<P>,

@@ -1,4 +1,4 @@
-//! Slots that are taken from a root's spans, cut where they are new, and handed over.
+//! Slots that are taken from a root's spans, cut if they are new, and handed over.
 ghost use Rattle.std.specs.Prelude.{◌≡◌, ℕ, ◌+◌, ◌<◌, ◌≤◌, ◌^◌, Option};
 ghost use Rattle.pa_buckets.specs.Bands.{fill_of};
 ghost use Rattle.pa_record.specs.Root.{Root};
@@ -19,7 +19,7 @@ use pa_record::Batch;
 use pa_region::{Note, Region, Seat};
 use pa_shelf::Shelf;
 
-// Takes a slot of the class, and cuts before it those of its span that are new. `None` where the pool has to be asked.
+// Takes a slot of the class, and cuts before it those of its span that are new. `None` if the pool has to be asked.
 fn take_one(shelf: &mut Shelf, region: &Region, own: &mut Seat, class: Class) -> Option<Title>
     requires region { own.old.region ≡ region.now }
     requires turn { shelf.old.lists.turn < 2 ^ 63 }
@@ -38,7 +38,7 @@ fn take_one(shelf: &mut Shelf, region: &Region, own: &mut Seat, class: Class) ->
     None
 }
 
-// Takes so many slots of the class, at most 16, or those that there are without asking the pool, and cuts those that are new.
+// Takes this many slots of the class, at most 16, or those that there are without asking the pool, and cuts those that are new.
 pub(crate) fn take_slots(
     shelf: &mut Shelf,
     region: &Region,

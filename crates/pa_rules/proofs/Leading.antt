@@ -1,5 +1,5 @@
 -- A row changes the registers as the answer says, and a step that was done is of the slot that the register names.
-use Rattle.std.proofs.Common.{◌≡◌, ℕ, List, Option, Some, None, refl, sym, ◌∙◌, ap, subst, inl, inr}
+use Rattle.std.proofs.Common.{◌≡◌, ℕ, List, Option, Some, None, refl, sym, ◌∙◌, ap, subst, inl, inr, [], ◌∷◌, ◌++◌}
 use Rattle.pa_machine.specs.declared.word.SlotName.{SlotName}
 use Rattle.pa_trace.specs.declared.script.Op.{Op}
 use Rattle.pa_trace.specs.declared.script.Op.TheVariants as ops
@@ -9,8 +9,9 @@ use Rattle.pa_record.specs.declared.entry.Answer.TheVariants.{Made, Done, Value,
 use Rattle.pa_record.specs.declared.history.CellEntry.{CellEntry}
 use Rattle.pa_lists.proofs.Members.{of_some, not_some}
 use Rattle.pa_rules.specs.declared.register.Register.TheVariants.{Empty, Own, Ref, Freed, Cleared}
-use Rattle.pa_rules.specs.Registers.{Reg, Regs, Facts, Row, Becomes, with, AllocRow, RequestRow, CopyRow, CopyToRow, ResetRow, FreeRow, WriteRow, ReadRow, ReadFromRow, SwapRow, reg_of}
+use Rattle.pa_rules.specs.Registers.{Reg, Regs, Facts, Row, Becomes, with, AllocRow, RequestRow, CopyRow, CopyToRow, ResetRow, FreeRow, WriteRow, ReadRow, ReadFromRow, SwapRow, reg_of, AllRegs, RowsTo, with_thread}
 use Rattle.pa_rules.specs.Changes.{done_of, found_in, change_of, changed}
+use Rattle.pa_rules.specs.declared.played.Played.{Played}
 
 -- the slot that a handle names
 abbrev pub slot_in : Reg → Option SlotName
@@ -185,3 +186,12 @@ row_leads facts (ops.Write reg value) regs answer next h = write_leads facts.cel
 row_leads facts (ops.Read reg place) regs answer next h = read_leads facts (regs reg) regs reg place answer next h
 row_leads facts (ops.Swap cell reg) regs answer next h = swap_leads facts.cells (regs reg) regs cell reg answer next h
 row_leads facts ops.Purge regs answer next h = stays facts.cells ops.Purge regs (regs 0) answer next (Purged h.0) h.1 refl refl h.2
+
+-- ---- the registers between two records
+
+pub rows_cut : (facts : Facts) (all : AllRegs) (before rest : List Played) (after : AllRegs) → RowsTo facts all (before ++ rest) after →
+    (mid : AllRegs) × RowsTo facts all before mid × RowsTo facts mid rest after
+rows_cut facts all [] rest after h = (all, refl, h)
+rows_cut facts all (p ∷ before) rest after (next, row, more) =
+    let (mid, first, second) = rows_cut facts (with_thread all p.thread next) before rest after more in
+    (mid, (next, row, first), second)

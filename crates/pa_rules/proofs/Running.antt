@@ -1,4 +1,4 @@
--- Along a slot's run it is issued as often as it is returned, and once more where its last word isn't free.
+-- Along a slot's run it is issued as often as it is returned, and once more if its last word isn't free.
 use Rattle.std.proofs.Common.{◌≡◌, ◌≢◌, ℕ, ◌+◌, ◌<◌, ◌≤◌, Bool, true, false, ◌&&◌, cond, leb, List, [], ◌∷◌, Option, Some, None, IsSome, refl, sym, ◌∙◌, ap, subst, arith, inl, inr}
 use Rattle.std.specs.Prelude.{Contains, AllPairs, count_by, ◌==◌}
 use Rattle.std.proofs.lemmas.Bool.{cases_Bool, cases_eq, cases_lt, eq-eqb, ne_eqb, and_parts, le-leb, lt-leb, leb-true, false≢true, false_from_ne_true}
@@ -11,6 +11,7 @@ use Rattle.pa_machine.specs.Run.{Mark, IsFirstAt, IsRunFrom, IsOneRun, same_slot
 use Rattle.pa_machine.proofs.Arith.{stepped_is}
 use Rattle.pa_machine.proofs.Runs.{same_slot_eq, same_slot_yes, number_stepped}
 use Rattle.pa_lists.proofs.Members.{not_in_none, first_in, later_in, in_cases, of_some}
+use Rattle.pa_lists.proofs.Elements.{in_one}
 use Rattle.pa_lists.proofs.Pairs.{pairs_none, pairs_cons, pairs_head, pairs_tail}
 use Rattle.pa_rules.specs.declared.played.Played.{Played}
 use Rattle.pa_rules.specs.Played.{mark_of, marks_of}
@@ -231,6 +232,28 @@ run_rises ms s u (v ∷ vs) x (m, p, first, can, is, rest) among = elim (in_case
       let up : number_of v ≡ number_of u + 1 = ap number_of is ∙ number_stepped p u can in
       omega arith
 ]
+
+-- and are determined by their numbers
+pub same_word : (ms : List Mark) (s : SlotName) (u : ℕ) (vs : List ℕ) (x y : ℕ) → IsRunFrom ms s u vs → Contains (u ∷ vs) x → Contains (u ∷ vs) y → number_of x ≡ number_of y → x ≡ y
+same_word ms s u [] x y run first second e = sym (in_one u x first) ∙ in_one u y second
+same_word ms s u (v ∷ vs) x y (m, p, at, can, is, rest) first second e =
+    let up : number_of v ≡ number_of u + 1 = ap number_of is ∙ number_stepped p u can in
+    elim (in_cases u x (v ∷ vs) first) [
+      | inl f ↦ elim (in_cases u y (v ∷ vs) second) [
+        | inl g ↦ sym f ∙ g
+        | inr after ↦
+            let more = run_rises ms s v vs y rest after in
+            let same : number_of u ≡ number_of x = ap number_of f in
+            absurd (omega arith)
+      ]
+      | inr before ↦ elim (in_cases u y (v ∷ vs) second) [
+        | inl g ↦
+            let more = run_rises ms s v vs x rest before in
+            let same : number_of u ≡ number_of y = ap number_of g in
+            absurd (omega arith)
+        | inr after ↦ same_word ms s v vs x y rest before after e
+      ]
+    ]
 
 -- a test that only steps of slot s pass
 abbrev IsOfSteps : SlotName → (Mark → Bool) → Type 0

@@ -18,10 +18,11 @@ use Rattle.pa_rules.specs.declared.played.Played.{Played}
 use Rattle.pa_rules.specs.Played.{step_of}
 use Rattle.pa_rules.specs.Roots.{Journals, AsksForClass, AsksForMap}
 
--- a thread's lists, by partition and class; all threads' lists
+-- a thread's lists, by partition and class
 abbrev pub Cache : Type 0
 Cache = ℕ → ℕ → List Numbered
 
+-- the lists of each thread, by the thread's number
 abbrev pub Caches : Type 0
 Caches = ℕ → Cache
 
@@ -41,6 +42,7 @@ acts_of roots line p = map (λ (e : RootEntry). e.act) (filter (λ (e : RootEntr
 abbrev pub OnlyActs : Journals → ℕ → ℕ → List RootAct → Type 0
 OnlyActs roots line p acts = (acts_of roots line p ≡ acts) × ((q : ℕ) → (q ≡ p → ⊥) → acts_of roots line q ≡ [])
 
+-- no journal has an entry of the line
 abbrev pub NoActs : Journals → ℕ → Type 0
 NoActs roots line = (q : ℕ) → acts_of roots line q ≡ []
 
@@ -50,6 +52,7 @@ batches zero xs = []
 batches (suc n) [] = []
 batches (suc n) (x ∷ xs) = Give (take 16 (x ∷ xs)) ∷ batches n (drop 16 (x ∷ xs))
 
+-- the gives by which a whole list goes back, in order; none for an empty list
 abbrev pub gives : List Numbered → List RootAct
 gives xs = batches (length xs) xs
 
@@ -59,6 +62,7 @@ IsOfClass roots s p class =
     (e : RootEntry) × (asked : Option ℕ) × (slots : List Numbered) × Contains (roots p) e × (e.act ≡ Fill class asked slots)
     × Contains (names slots) s
 
+-- a Map in partition p's journal made the slot
 abbrev pub IsDirect : Journals → SlotName → ℕ → Type 0
 IsDirect roots s p = (e : RootEntry) × (asked len : ℕ) × Contains (roots p) e × (e.act ≡ Map asked s len)
 
@@ -66,6 +70,8 @@ IsDirect roots s p = (e : RootEntry) × (asked len : ℕ) × Contains (roots p) 
 abbrev pub FrontIs : Seen → List Numbered → List Numbered → Type 0
 FrontIs seen xs rest = xs ≡ record { slot = seen.slot; number = number_of seen.found.0 } ∷ rest
 
+-- what the list has when its front is taken: an empty one has the slots of a fill, the only entry of the line; another is as
+-- it was, and the line has no entry
 abbrev pub FilledFirst : Journals → ℕ → ℕ → ℕ → List Numbered → List Numbered → Type 0
 FilledFirst roots line p class [] xs = (asked : Option ℕ) × OnlyActs roots line p (Fill class asked xs ∷ [])
 FilledFirst roots line p class (y ∷ ys) xs = (xs ≡ y ∷ ys) × NoActs roots line
@@ -88,6 +94,7 @@ FullRow roots x cache after =
 abbrev pub kept : ℕ → List Numbered → List Numbered
 kept class xs = if nat_lt (limit_of class) (length xs) then take (limit_of class / 2) xs else xs
 
+-- the slots that don't stay: of a list above the limit all after the first half of the limit, else none
 abbrev pub spilled : ℕ → List Numbered → List Numbered
 spilled class xs = if nat_lt (limit_of class) (length xs) then drop (limit_of class / 2) xs else []
 
@@ -116,10 +123,12 @@ abbrev pub purge_acts : (ℕ → List Numbered) → ℕ → ℕ → List RootAct
 purge_acts lists class zero = Purge ∷ []
 purge_acts lists class (suc n) = gives (lists class) ++ purge_acts lists (class + 1) n
 
+-- how many slots the lists of `n` classes have, from one class on
 abbrev pub listed_slots : (ℕ → List Numbered) → ℕ → ℕ → ℕ
 listed_slots lists class zero = 0
 listed_slots lists class (suc n) = length (lists class) + listed_slots lists (class + 1) n
 
+-- how many slots a thread's lists of all classes have, in `n` partitions from p on
 abbrev pub all_listed : Cache → ℕ → ℕ → ℕ
 all_listed cache p zero = 0
 all_listed cache p (suc n) = listed_slots (cache p) 0 class_count + all_listed cache (p + 1) n
@@ -138,6 +147,7 @@ CacheRow partitions roots x (answers.Full entry) cache after = FullRow roots x c
 CacheRow partitions roots x (answers.Purged slots) cache after = PurgedRow partitions roots x slots cache after
 CacheRow partitions roots x answer cache after = NoActs roots x.line × SameLists after cache
 
+-- the lists of all threads, with those of one thread replaced
 abbrev pub with_cache : Caches → ℕ → Cache → Caches
 with_cache all thread cache t = if t == thread then cache else all t
 
@@ -152,5 +162,7 @@ CachesTo partitions roots all (x ∷ xs) after =
 abbrev pub no_caches : Caches
 no_caches thread p class = []
 
+-- from empty lists on, the records and these journals lead to some lists: each record has the entries that its answer asks
+-- for
 abbrev pub AreCaches : ℕ → Journals → List Played → Type 0
 AreCaches partitions roots ps = (after : Caches) × CachesTo partitions roots no_caches ps after

@@ -18,10 +18,12 @@ abbrev pub done_of : Answer → Option Seen
 done_of (Done seen) = Some seen
 done_of answer = None
 
+-- the number of a swap's exchange in the history of its cell; none for any other answer
 abbrev pub swapped_of : Answer → Option ℕ
 swapped_of (Swapped entry) = Some entry
 swapped_of answer = None
 
+-- the handle that an exchange found in its cell; none if there is no such exchange
 abbrev pub found_in : Option CellEntry → Held
 found_in None = held.Nothing
 found_in (Some e) = e.found
@@ -37,6 +39,7 @@ change_of cells (ops.Read reg place) answer = None
 change_of cells (ops.Swap cell reg) answer = option_map (λ (j : ℕ). (reg, reg_of (found_in (slice_get (cells cell) j)))) (swapped_of answer)
 change_of cells ops.Purge answer = None
 
+-- the registers with the one that is changed, if one is
 abbrev pub changed : Regs → Option (ℕ × Reg) → Regs
 changed regs None = regs
 changed regs (Some c) = with regs c.0 c.1

@@ -74,6 +74,8 @@ abbrev pub IsBeingFreed : (ℕ → ℕ) → (ℕ → List CellEntry) → List Pl
 IsBeingFreed usable_of cells ps x s k =
     ReadsByRef usable_of cells ps x s × (y : Played) × IsNextFree ps s k y × (y.thread ≢ x.thread) × (y.phase ≡ x.phase)
 
+-- what an answer may have read: of a held slot its content at the number found, or poison if it is being freed then; of a
+-- freed slot poison
 abbrev pub IsReadAllowed : (ℕ → ℕ) → (ℕ → List CellEntry) → List Played → Played → Answer → Type 0
 IsReadAllowed usable_of cells ps x (Value seen value) =
     IsContent ps seen.slot (number_of seen.found.0) value

@@ -27,10 +27,12 @@ returns_at Reset w = (held_of w == 0) && (refs_of w == 1)
 returns_at Free w = (held_of w == 1) && (refs_of w == 0)
 returns_at Write w = false
 
+-- the test whether a step is an issue; a look has no step and is none
 abbrev pub is_issue : Option Step → Bool
 is_issue (Some Issue) = true
 is_issue step = false
 
+-- the test whether a mark's step returns its slot, by the word that it found; a look returns none
 abbrev pub is_return : ℕ → Option Step → Bool
 is_return found None = false
 is_return found (Some step) = returns_at step found
@@ -40,6 +42,7 @@ abbrev pub at_step : (Step → ℕ → Bool) → ℕ → Option Step → Bool
 at_step test found None = false
 at_step test found (Some step) = test step found
 
+-- the test whether a mark is of slot s and its step passes
 abbrev pub steps_so : (Step → ℕ → Bool) → SlotName → Mark → Bool
 steps_so test s m = same_slot s m.slot && at_step test m.found m.step
 
@@ -47,12 +50,15 @@ steps_so test s m = same_slot s m.slot && at_step test m.found m.step
 abbrev pub is_issue_of : SlotName → Mark → Bool
 is_issue_of s m = same_slot s m.slot && is_issue m.step
 
+-- the test whether a mark returns slot s
 abbrev pub is_return_of : SlotName → Mark → Bool
 is_return_of s m = same_slot s m.slot && is_return m.found m.step
 
+-- how many of the marks issue slot s
 abbrev pub issues_of : SlotName → List Mark → ℕ
 issues_of s ms = count_by (is_issue_of s) ms
 
+-- how many of the marks return slot s
 abbrev pub returns_of : SlotName → List Mark → ℕ
 returns_of s ms = count_by (is_return_of s) ms
 
@@ -61,6 +67,7 @@ abbrev pub listed_times : SlotName → (ℕ → List Numbered) → ℕ → ℕ �
 listed_times s lists class zero = 0
 listed_times s lists class (suc n) = times s (names (lists class)) + listed_times s lists (class + 1) n
 
+-- how often slot s is in the lists of partition p, of all classes, of the threads below a number
 abbrev pub cached_times : SlotName → Caches → ℕ → ℕ → ℕ
 cached_times s all p zero = 0
 cached_times s all p (suc t) = listed_times s (all t p) 0 class_count + cached_times s all p t
@@ -70,6 +77,7 @@ abbrev pub left_in : SlotName → List RootAct → ℕ
 left_in s [] = 0
 left_in s (a ∷ acts) = times s (leaves_by a) + left_in s acts
 
+-- how often slot s comes back to the root by these acts
 abbrev pub back_in : SlotName → List RootAct → ℕ
 back_in s [] = 0
 back_in s (a ∷ acts) = times s (comes_by a) + back_in s acts
@@ -79,6 +87,7 @@ abbrev pub left_on : SlotName → Journals → ℕ → List Played → ℕ
 left_on s roots p [] = 0
 left_on s roots p (x ∷ xs) = left_in s (acts_of roots x.line p) + left_on s roots p xs
 
+-- how often slot s comes back to the root by the entries of partition p on the lines of these records
 abbrev pub back_on : SlotName → Journals → ℕ → List Played → ℕ
 back_on s roots p [] = 0
 back_on s roots p (x ∷ xs) = back_in s (acts_of roots x.line p) + back_on s roots p xs

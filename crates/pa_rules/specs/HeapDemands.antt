@@ -34,6 +34,7 @@ pub record PoolEntryFits (supers : ℕ) (ps : List Played) (pools : List PoolEnt
   pub once : (p q i k : ℕ) → Names roots p i j → Names roots q k j → (p ≡ q) × (i ≡ k)
   pub order : ComesInOrder ps (map (λ (f : PoolEntry). f.line) pools) j
 
+-- pool: each entry of the pool fits at its place
 abbrev pub PoolDemand : ℕ → List Played → List PoolEntry → Journals → Place → Type 0
 PoolDemand supers ps pools roots (places.Pool j) = (e : PoolEntry) → IsPoolEntry pools j e → PoolEntryFits supers ps pools roots j e
 PoolDemand supers ps pools roots place = Unit {0}
@@ -81,6 +82,7 @@ pub record RecordHolds (ps : List Played) (roots : Journals) (x : Played) : Type
   pub gone : (p i asked n : ℕ) (slot : Numbered) (e : RootEntry) → IsEntry roots p i e → e.act ≡ Unmap asked slot
       → IsOfSlot x slot.slot n → n < slot.number
 
+-- holders: a record holds the slot that it made and found none that had gone for good; the moves of each entry fit
 abbrev pub HoldersDemand : List Played → Journals → Place → Type 0
 HoldersDemand ps roots (places.Record i) = (x : Played) → IsRecord ps i x → RecordHolds ps roots x
 HoldersDemand ps roots (places.Root p j) = (e : RootEntry) → IsEntry roots p j e → MovesOfEntryFit ps roots p j e

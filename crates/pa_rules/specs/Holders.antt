@@ -15,6 +15,7 @@ use Rattle.pa_rules.specs.Played.{mark_of}
 use Rattle.pa_rules.specs.Roots.{Journals, IsEntry}
 use Rattle.pa_rules.specs.Order.{IsOfLine}
 
+-- the holder of a free slot: the root, or the thread with this number
 pub data Holder : Type 0 where
   InRoot : Holder
   WithThread : ℕ → Holder
@@ -31,6 +32,7 @@ pub record Move : Type 0 where
   pub number : ℕ
   pub way : Way
 
+-- what an entry of this line does with a slot at its number: out or back
 abbrev pub move_of : ℕ → Way → Numbered → Move
 move_of line way n = record { line = line; slot = n.slot; number = n.number; way = way }
 
@@ -43,6 +45,7 @@ moves_by line (Give slots) = map (move_of line Back) slots
 moves_by line (Unmap asked slot) = move_of line Back slot ∷ []
 moves_by line Purge = []
 
+-- the test whether a move is of slot s at number k
 abbrev pub is_move_of : SlotName → ℕ → Move → Bool
 is_move_of s k m = same_slot m.slot s && (m.number == k)
 
@@ -67,6 +70,7 @@ abbrev pub made_by : Way → Played → Holder
 made_by Out x = WithThread x.thread
 made_by Back x = InRoot
 
+-- the holder that a move needs: the root if the slot leaves, the thread of the record if it comes back
 abbrev pub needed_by : Way → Played → Holder
 needed_by Out x = InRoot
 needed_by Back x = WithThread x.thread
@@ -101,7 +105,7 @@ abbrev pub NamesSlot : RootEntry → SlotName → Type 0
 NamesSlot e s = (m : Move) × Contains (moves_by e.line e.act) m × (m.slot ≡ s)
 
 -- The holders.
---   moves: each entry names a slot at a number where it is free, and its holder is the one that the entry needs
+--   moves: each entry names a slot at a number at which it is free, and its holder is the one that the entry needs
 --   issues: an allocation that made a slot has it, after all entries that name the slot at that number
 --   gone: after a direct map went back no entry of its journal names it, and no record found its number or a later one
 pub record AreHolders (ps : List Played) (roots : Journals) : Type 0 where

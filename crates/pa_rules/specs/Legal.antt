@@ -19,6 +19,7 @@ use Rattle.pa_rules.specs.Report.{IsReport}
 use Rattle.pa_rules.specs.Sizes.{usable_of}
 use Rattle.pa_rules.specs.FileOrder.{IsInFileOrder}
 
+-- the test whether a line begins a phase
 abbrev pub is_phase : Line → Bool
 is_phase Phase = true
 is_phase (Do thread op) = false
@@ -47,6 +48,7 @@ pub record IsLegalBy (t : Trace) (r : Told) (ps : List Played) : Type 0 where
 abbrev pub IsLegalTold : Trace → Told → Type 0
 IsLegalTold t r = IsLegalBy t r (records_of t r)
 
+-- what a run contains is legal, and in the order of the trace's lines
 abbrev pub IsFileTold : Trace → Told → Type 0
 IsFileTold t r = IsLegalTold t r × IsInFileOrder (records_of t r) r.pools r.roots r.cells
 
@@ -54,5 +56,6 @@ IsFileTold t r = IsLegalTold t r × IsInFileOrder (records_of t r) r.pools r.roo
 abbrev pub IsLegal : Trace → Run → Type 0
 IsLegal t r = IsLegalTold t (told_by r)
 
+-- the run is legal, and in the order of the trace's lines
 abbrev pub IsFileRun : Trace → Run → Type 0
 IsFileRun t r = IsFileTold t (told_by r)

@@ -28,23 +28,29 @@ abbrev pub CopyBy : Result SlotName Answer → Regs → ℕ → Answer → Regs 
 CopyBy (Ok s) regs to answer after = CopyToRow (regs to) s regs to answer after
 CopyBy (Err refusal) regs to answer after = IsRefusedSo refusal regs answer after
 
+-- a copy is as its row requires exactly if its first register alone refuses it so, or names the slot and the second one's
+-- row is met
 abbrev pub CopiesAreNext : Type 0
 CopiesAreNext = (r : Reg) (regs : Regs) (to : ℕ) (answer : Answer) (after : Regs) →
     CopyRow r regs to answer after ↔ CopyBy (copy_next r) regs to answer after
 
+-- a reset steps on the slot and leaves its register cleared, or is refused and leaves the registers as they are
 abbrev pub ResetBy : Result SlotName Answer → Regs → ℕ → Answer → Regs → Type 0
 ResetBy (Ok s) regs reg answer after = IsStepped s (with regs reg Cleared) answer after
 ResetBy (Err refusal) regs reg answer after = IsRefusedSo refusal regs answer after
 
+-- a reset is as its row requires exactly if it does what its register alone says
 abbrev pub ResetsAreNext : Type 0
 ResetsAreNext = (r : Reg) (regs : Regs) (reg : ℕ) (answer : Answer) (after : Regs) →
     ResetRow r regs reg answer after ↔ ResetBy (reset_next r) regs reg answer after
 
+-- a free is refused, or steps on the slot and leaves its register freed, or only looks at the slot
 abbrev pub FreeBy : Next SlotName → Regs → ℕ → Answer → Regs → Type 0
 FreeBy (Refused refusal) regs reg answer after = IsRefusedSo refusal regs answer after
 FreeBy (Step s) regs reg answer after = IsStepped s (with regs reg Freed) answer after
 FreeBy (Look s) regs reg answer after = IsAnsweredBy looked_free s regs answer after
 
+-- a free is as its row requires exactly if it does what its register alone says
 abbrev pub FreesAreNext : Type 0
 FreesAreNext = (r : Reg) (regs : Regs) (reg : ℕ) (answer : Answer) (after : Regs) →
     FreeRow r regs reg answer after ↔ FreeBy (free_next r) regs reg answer after
@@ -57,6 +63,7 @@ WriteBy (Step s) regs answer after =
     × (((0 < refs_of seen.found.0) × (answer ≡ Shared seen)) ⊎ ((refs_of seen.found.0 ≡ 0) × (answer ≡ Done seen)))
 WriteBy (Look s) regs answer after = IsAnsweredBy looked_write s regs answer after
 
+-- a write is as its row requires exactly if it does what its register alone says
 abbrev pub WritesAreNext : Type 0
 WritesAreNext = (r : Reg) (regs : Regs) (answer : Answer) (after : Regs) →
     WriteRow r regs answer after ↔ WriteBy (write_next r) regs answer after
@@ -68,6 +75,7 @@ ReadBy (Ok s) facts regs place answer after =
     ((facts.usable_at s ≤ 8 * place) × (answer ≡ OutOfRange) × Becomes after regs)
     ⊎ ((8 * place < facts.usable_at s) × (value : ℕ) × IsAnsweredBy (λ seen. looked_read seen value) s regs answer after)
 
+-- a read is as its row requires exactly if it does what its register alone says
 abbrev pub ReadsAreNext : Type 0
 ReadsAreNext = (r : Reg) (facts : Facts) (regs : Regs) (place : ℕ) (answer : Answer) (after : Regs) →
     ReadRow r facts regs place answer after ↔ ReadBy (read_next r) facts regs place answer after

@@ -70,8 +70,10 @@ read_next Cleared = Err (StaleUse None)
 abbrev pub looked_free : Seen → Answer
 looked_free seen = if held_of seen.found.0 == 1 then NotOwner seen else SecondFree (Some seen)
 
+-- a write through a raw_ptr: not the owner while the allocator holds the slot, else a stale use
 abbrev pub looked_write : Seen → Answer
 looked_write seen = if held_of seen.found.0 == 1 then NotOwner seen else StaleUse (Some seen)
 
+-- a read: the value while the allocator holds the slot, else a dangling one
 abbrev pub looked_read : Seen → ℕ → Answer
 looked_read seen value = if held_of seen.found.0 == 1 then Value seen value else Dangling seen value

@@ -8,12 +8,15 @@ use Rattle.pa_rules.specs.declared.verdict.Place.TheVariants as places
 abbrev pub roots_at : Run → ℕ
 roots_at r = 2 + length r.entries.items
 
+-- the first line of the pool's entries: after those of all journals
 abbrev pub pool_at : Run → ℕ
 pool_at r = roots_at r + sum_by length r.roots.items
 
+-- the first line of the histories of the cells: after the pool's entries
 abbrev pub cells_at : Run → ℕ
 cells_at r = pool_at r + length r.pool.items
 
+-- the first line of the report: after all histories
 abbrev pub report_at : Run → ℕ
 report_at r = cells_at r + sum_by length r.cells.items
 

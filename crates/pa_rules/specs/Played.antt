@@ -31,6 +31,7 @@ op_lines n phase (Do thread op ∷ ls) = record { line = n; thread = thread; pha
 abbrev pub op_line_of : Played → OpLine
 op_line_of p = record { line = p.line; thread = p.thread; phase = p.phase; op = p.op }
 
+-- what the run says of a record: its line, its thread and its answer
 abbrev pub entry_of : Played → Entry
 entry_of p = record { line = p.line; thread = p.thread; answer = p.answer }
 
@@ -42,6 +43,7 @@ AreLines ls ps = map op_line_of ps ≡ op_lines 2 1 ls
 abbrev pub beside : OpLine × Entry → Played
 beside (o, e) = record { line = o.line; thread = o.thread; phase = o.phase; op = o.op; answer = e.answer }
 
+-- the entries of a run, each with the op line at its place; what one list has beyond the other's end is left out
 abbrev pub played : List Line → List Entry → List Played
 played ls es = map beside (zip (op_lines 2 1 ls) es)
 
@@ -49,9 +51,11 @@ played ls es = map beside (zip (op_lines 2 1 ls) es)
 abbrev pub key_of_line : OpLine → ℕ × ℕ
 key_of_line o = (o.line, o.thread)
 
+-- the line and the thread that an entry of the run states
 abbrev pub key_of_entry : Entry → ℕ × ℕ
 key_of_entry e = (e.line, e.thread)
 
+-- the entries of the run have the lines and the threads of the trace's op lines, in order
 abbrev pub AreDue : List Line → List Entry → Type 0
 AreDue ls es = map key_of_entry es ≡ map key_of_line (op_lines 2 1 ls)
 
@@ -67,6 +71,7 @@ step_of (ops.Read reg place) = None
 step_of (ops.Swap cell reg) = None
 step_of ops.Purge = None
 
+-- what was seen on this line, with the step that was made; with none it is a look
 abbrev pub mark_at : ℕ → Seen → Option Step → Mark
 mark_at line seen step = record { line = line; slot = seen.slot; found = seen.found.0; step = step }
 
@@ -95,6 +100,7 @@ mark_of_answer line op (Full entry) = None
 mark_of_answer line op (Swapped entry) = None
 mark_of_answer line op (Purged slots) = None
 
+-- what a record reports of a slot: a step, a look, or nothing
 abbrev pub mark_of : Played → Option Mark
 mark_of p = mark_of_answer p.line p.op p.answer
 

@@ -126,6 +126,7 @@ handle_of (Ref s) = held.Ref s
 handle_of Freed = held.Nothing
 handle_of Cleared = held.Nothing
 
+-- the register that holds this handle; an empty one if there is none
 abbrev pub reg_of : Held → Reg
 reg_of held.Nothing = Empty
 reg_of (held.Own s) = Own s
@@ -153,6 +154,7 @@ Row facts ops.Purge regs answer after = (slots : ℕ) × (answer ≡ Purged slot
 abbrev pub AllRegs : Type 0
 AllRegs = ℕ → Regs
 
+-- the registers of all threads, with those of one thread replaced
 abbrev pub with_thread : AllRegs → ℕ → Regs → AllRegs
 with_thread all thread regs t = if t == thread then regs else all t
 

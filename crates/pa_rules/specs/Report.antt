@@ -55,10 +55,12 @@ abbrev pub listed_bytes : (ℕ → ℕ) → ℕ → ℕ → ℕ
 listed_bytes counts class zero = 0
 listed_bytes counts class (suc n) = slot_of class * counts class + listed_bytes counts (class + 1) n
 
+-- how many slots the lists of partition p have, of all classes, of the threads below a number
 abbrev pub cached_slots : Caches → ℕ → ℕ → ℕ
 cached_slots all p zero = 0
 cached_slots all p (suc t) = listed_slots (all t p) 0 class_count + cached_slots all p t
 
+-- how many bytes those slots have, each as many as its class says
 abbrev pub cached_bytes : Caches → ℕ → ℕ → ℕ
 cached_bytes all p zero = 0
 cached_bytes all p (suc t) = listed_bytes (λ class. length (all t p class)) 0 class_count + cached_bytes all p t
@@ -73,9 +75,11 @@ IsCached partitions threads roots ps p tally =
 abbrev pub InPhases : List Played → ℕ → RootEntry → Type 0
 InPhases ps phase e = (x : Played) × IsOfLine ps e.line x × (x.phase ≤ phase)
 
+-- the entry's record is in a later phase
 abbrev pub PastPhases : List Played → ℕ → RootEntry → Type 0
 PastPhases ps phase e = (x : Played) × IsOfLine ps e.line x × (phase < x.phase)
 
+-- `before` is the front of the journal, up to the end of the phase; the rest of it is of later phases
 pub record AreUntil (ps : List Played) (phase : ℕ) (journal before : List RootEntry) : Type 0 where
   pub rest : List RootEntry
   pub parts : journal ≡ before ++ rest
@@ -87,6 +91,7 @@ abbrev pub HasCensus : List Played → List PoolEntry → Journals → ℕ → �
 HasCensus ps pools roots phase p c =
     (before : List RootEntry) × AreUntil ps phase (roots p) before × (c ≡ census (root_replayed pools before new_root))
 
+-- what a line of the report says of its partition's root
 abbrev pub census_of : ReportLine → Census
 census_of l =
     record {
@@ -112,6 +117,7 @@ abbrev pub partitions_of : ℕ → ℕ → ℕ → List (ℕ × ℕ)
 partitions_of phase p zero = []
 partitions_of phase p (suc n) = (phase, p) ∷ partitions_of phase (p + 1) n
 
+-- the pairs of phase and partition, for `n` phases from one on and all partitions in each, in order
 abbrev pub phases_of : ℕ → ℕ → ℕ → List (ℕ × ℕ)
 phases_of partitions phase zero = []
 phases_of partitions phase (suc n) = partitions_of phase 0 partitions ++ phases_of partitions (phase + 1) n

@@ -29,6 +29,7 @@ IsEntry roots p j e = slice_get (roots p) j ≡ Some e
 abbrev pub AsksForClass : Op → ℕ → ℕ → Type 0
 AsksForClass op p class = (reg size : ℕ) × (op ≡ ops.Alloc reg p size) × IsClassOf (max size 1 + 8) class
 
+-- the op is an allocation of this size from partition p, and the size gets a direct map
 abbrev pub AsksForMap : Op → ℕ → ℕ → Type 0
 AsksForMap op p size = (reg : ℕ) × (op ≡ ops.Alloc reg p size) × IsDirectSize size
 
@@ -36,6 +37,8 @@ AsksForMap op p size = (reg : ℕ) × (op ≡ ops.Alloc reg p size) × IsDirectS
 abbrev pub IsFreeing : Op → Type 0
 IsFreeing op = ((reg : ℕ) × (op ≡ ops.Free reg)) ⊎ ((reg : ℕ) × (op ≡ ops.Reset reg))
 
+-- the op asks for a slot of the class; without a class for a direct map, and the pool's entry `asked` found no room for its
+-- super pages
 abbrev pub MakesFull : List PoolEntry → ℕ → Option ℕ → ℕ → Op → Type 0
 MakesFull pools p None asked op = (size : ℕ) × AsksForMap op p size × FoundNone pools asked (shape_of size).supers
 MakesFull pools p (Some class) asked op = AsksForClass op p class

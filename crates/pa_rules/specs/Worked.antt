@@ -23,6 +23,7 @@ first_slot word = record { slot = record { start = 16384; born = 0 }; found = re
 abbrev pub of_first_thread : ℕ → Op → Answer → Played
 of_first_thread line op answer = record { line = line; thread = 0; phase = 1; op = op; answer = answer }
 
+-- lines 2 to 5: 8 bytes get the first slot, its free returns it, a purge gives 8 slots back, and 8 bytes get the slot again
 abbrev pub purge_records : List Played
 purge_records =
     of_first_thread 2 (ops.Alloc 0 0 8) (answers.Made (first_slot 0) 8)

@@ -1,11 +1,11 @@
 -- The text of each item is one line with its LF.
-use Rattle.std.proofs.Common.{◌≡◌, ℕ, zero, suc, ◌+◌, ◌/◌, ◌%◌, Bool, true, false, not, ◌&&◌, eqb, List, [], ◌∷◌, ◌++◌, codes, Option, Some, None, inl, inr, refl, arith}
+use Rattle.std.proofs.Common.{◌≡◌, ℕ, zero, suc, ◌+◌, ◌/◌, ◌%◌, true, false, eqb, List, [], ◌∷◌, ◌++◌, codes, Option, Some, None, inl, inr, refl, arith}
 use Rattle.std.specs.Fmt.{decimal, digits, digits_onto, digit_glyph}
-use Rattle.std.proofs.lemmas.Bool.{and_parts, eqb-false, not-true, cases_lt, cases_Bool, lt-ltb, le-ltb}
+use Rattle.std.proofs.lemmas.Bool.{cases_lt, cases_Bool, lt-ltb, le-ltb}
 use Rattle.pa_machine.specs.declared.word.SlotName.{SlotName}
 use Rattle.pa_text.specs.Hex.{hex, slot_text}
 use Rattle.pa_trace.specs.Cut.{IsOneLine}
-use Rattle.pa_trace.proofs.Cuts.{one_line_append, hex_line}
+use Rattle.pa_trace.proofs.Cuts.{has_no_lf, word_line, one_line_append, hex_line}
 use Rattle.pa_record.specs.declared.entry.Seen.{Seen}
 use Rattle.pa_record.specs.declared.entry.Answer.{Answer}
 use Rattle.pa_record.specs.declared.entry.Answer.TheVariants.{Made, Done, Value, Dangling, SecondFree, NotOwner, StaleReset, StaleUse, Nothing, Filled, NotRef, Shared, OutOfRange, TooLarge, Full, Swapped, Purged}
@@ -23,18 +23,7 @@ use Rattle.pa_run_reader.specs.declared.item.Item.{Item}
 use Rattle.pa_run_reader.specs.declared.item.Item.TheVariants as items
 use Rattle.pa_run_reader.specs.Item.{item_text}
 
--- ---- words, numbers and digits
-
--- the test of a word that is written out
-abbrev has_no_lf : List ℕ → Bool
-has_no_lf [] = true
-has_no_lf (b ∷ bs) = not (eqb b 10) && has_no_lf bs
-
-word_line : (w : List ℕ) → has_no_lf w ≡ true → IsOneLine w
-word_line [] e = tt
-word_line (b ∷ bs) e =
-    let p = and_parts (not (eqb b 10)) (has_no_lf bs) e in
-    (eqb-false b 10 (not-true (eqb b 10) p.0), word_line bs p.1)
+-- ---- numbers and digits
 
 glyph_line : (d : ℕ) → digit_glyph false d ≡ 10 → ⊥
 glyph_line d e =

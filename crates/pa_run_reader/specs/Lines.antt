@@ -21,6 +21,7 @@ use Rattle.pa_run_reader.specs.Roots.{number_or_in, root_in}
 
 -- ---- the pool
 
+-- after `take `: how many super pages, and the first of them, or `none`
 unfoldable pub take_in : List ℕ → Option (PoolAct × List ℕ)
 take_in bytes = do
   count ← below_at 4294967296 bytes
@@ -28,12 +29,14 @@ take_in bytes = do
   first ← number_or_in (codes "none") 4294967296 rest
   Some (turns.Take count.0 first.0, first.1)
 
+-- after `give `: how many super pages, and the first of them
 unfoldable pub given_back_in : List ℕ → Option (PoolAct × List ℕ)
 given_back_in bytes = do
   count ← below_at 4294967296 bytes
   first ← below_in (codes " ") 4294967296 count.1
   Some (turns.Give count.0 first.0, first.1)
 
+-- what the pool did: a take or a give, by its word
 unfoldable pub pool_act_in : List ℕ → Option (PoolAct × List ℕ)
 pool_act_in bytes = either (after_word (codes "take ") bytes) take_in (either (after_word (codes "give ") bytes) given_back_in None)
 
@@ -50,11 +53,13 @@ pool_in bytes = do
 
 -- ---- cells
 
+-- after `own:`: the slot of an Own
 unfoldable pub own_in : List ℕ → Option (Held × List ℕ)
 own_in bytes = do
   slot ← slot_in bytes
   Some (handles.Own slot.0, slot.1)
 
+-- after `ref:`: the slot of a Ref
 unfoldable pub ref_in : List ℕ → Option (Held × List ℕ)
 ref_in bytes = do
   slot ← slot_in bytes
@@ -81,6 +86,7 @@ cell_in bytes = do
 
 -- ---- the report
 
+-- a word, how many slots, a space and how many bytes, each number of 64 bits
 unfoldable pub tally_in : List ℕ → List ℕ → Option (Tally × List ℕ)
 tally_in word bytes = do
   slots ← wide_in word bytes
@@ -91,6 +97,7 @@ tally_in word bytes = do
 abbrev pub PlacesFit : Places → Type 0
 PlacesFit p = Is32 p.phase × Is32 p.partition × TallyInBits p.live × TallyInBits p.quarantined × TallyInBits p.cached × TallyInBits p.root
 
+-- the number of spans in each state has 32 bits
 abbrev pub StatesFit : States → Type 0
 StatesFit s = Is32 s.full × Is32 s.active × Is32 s.empty × Is32 s.decommitted
 
@@ -101,11 +108,13 @@ places_before p x =
     ++ (tally_text (codes " quarantined ") p.quarantined
     ++ (tally_text (codes " cached ") p.cached ++ (tally_text (codes " root ") p.root ++ x))))))
 
+-- the text of the numbers of spans in each state, and what follows it
 abbrev pub states_before : States → List ℕ → List ℕ
 states_before s x =
     codes " full " ++ (decimal s.full ++ (codes " active " ++ (decimal s.active ++ (codes " empty " ++ (decimal s.empty
     ++ (codes " decommitted " ++ (decimal s.decommitted ++ x)))))))
 
+-- after `s `: phase and partition, and then what is live, quarantined, cached and with the root
 unfoldable pub places_in : List ℕ → Option (Places × List ℕ)
 places_in bytes = do
   phase ← below_at 4294967296 bytes
@@ -126,6 +135,7 @@ places_in bytes = do
     root.1,
   )
 
+-- ` full N active N empty N decommitted N`, each number of 32 bits
 unfoldable pub states_in : List ℕ → Option (States × List ℕ)
 states_in bytes = do
   full ← below_in (codes " full ") 4294967296 bytes
@@ -163,11 +173,13 @@ report_in bytes = do
 
 -- ---- each line
 
+-- after `e `: a record, as an item of the run
 unfoldable pub record_item_in : List ℕ → Option (Item × List ℕ)
 record_item_in bytes = do
   entry ← record_in bytes
   Some (items.Record entry.0, entry.1)
 
+-- after `s `: a line of the report, as an item of the run
 unfoldable pub report_item_in : List ℕ → Option (Item × List ℕ)
 report_item_in bytes = do
   line ← report_in bytes

@@ -60,7 +60,7 @@ Follows None next = next ≡ items.Head
 Follows (Some last) next = StandsBehind (item_place last) (item_place next)
 
 -- line m is the first bad one of these, of which the first is line n and comes after the last item: it isn't the text of an item
--- that may follow, or there is none where one is due
+-- that may follow, or there is none when one is due
 abbrev pub IsFirstBad : ℕ → Option Item → List (List ℕ) → ℕ → Type 0
 IsFirstBad n last [] m = (m ≡ n) × (last ≡ Some items.End → ⊥)
 IsFirstBad n last (line ∷ lines) m =

@@ -33,6 +33,7 @@ wide_at bytes = do
   x ← number_at bytes
   narrowed x
 
+-- the number at the start, if it has at most 64 bits and is below the limit
 unfoldable pub below_at : ℕ → List ℕ → Option (ℕ × List ℕ)
 below_at limit bytes = do
   x ← wide_at bytes
@@ -44,6 +45,7 @@ below_in word limit bytes = do
   rest ← after_word word bytes
   below_at limit rest
 
+-- a word and the number after it, if that has at most 64 bits
 unfoldable pub wide_in : List ℕ → List ℕ → Option (ℕ × List ℕ)
 wide_in word bytes = do
   rest ← after_word word bytes

@@ -17,11 +17,13 @@ seen_in bytes = do
   found ← hexes_in slot.1
   Some (record { slot = slot.0; found = record { 0 = found.0 } }, found.1)
 
+-- ` SLOT FOUND`, for an answer that may have it or not
 abbrev pub some_seen_in : List ℕ → Option (Option Seen × List ℕ)
 some_seen_in bytes = do
   seen ← seen_in bytes
   Some (Some seen.0, seen.1)
 
+-- ` SLOT FOUND` if a space comes next, and else nothing
 unfoldable pub seen_if_in : List ℕ → Option (Option Seen × List ℕ)
 seen_if_in bytes = either (after_word (codes " ") bytes) (λ rest. some_seen_in bytes) (Some (None, bytes))
 
@@ -34,38 +36,45 @@ made_in bytes = do
   found ← hexes_in usable.1
   Some (Made (record { slot = slot.0; found = record { 0 = found.0 } }) usable.0, found.1)
 
+-- after `done`: ` SLOT FOUND`
 unfoldable pub done_in : List ℕ → Option (Answer × List ℕ)
 done_in bytes = do
   seen ← seen_in bytes
   Some (Done seen.0, seen.1)
 
+-- after `word`: ` SLOT FOUND VALUE`
 unfoldable pub value_in : List ℕ → Option (Answer × List ℕ)
 value_in bytes = do
   seen ← seen_in bytes
   value ← hexes_in seen.1
   Some (Value seen.0 value.0, value.1)
 
+-- after `dangling`: ` SLOT FOUND VALUE`
 unfoldable pub dangling_in : List ℕ → Option (Answer × List ℕ)
 dangling_in bytes = do
   seen ← seen_in bytes
   value ← hexes_in seen.1
   Some (Dangling seen.0 value.0, value.1)
 
+-- after `second-free`: ` SLOT FOUND` or nothing
 unfoldable pub second_free_in : List ℕ → Option (Answer × List ℕ)
 second_free_in bytes = do
   seen ← seen_if_in bytes
   Some (SecondFree seen.0, seen.1)
 
+-- after `not-owner`: ` SLOT FOUND`
 unfoldable pub not_owner_in : List ℕ → Option (Answer × List ℕ)
 not_owner_in bytes = do
   seen ← seen_in bytes
   Some (NotOwner seen.0, seen.1)
 
+-- after `stale-use`: ` SLOT FOUND` or nothing
 unfoldable pub stale_use_in : List ℕ → Option (Answer × List ℕ)
 stale_use_in bytes = do
   seen ← seen_if_in bytes
   Some (StaleUse seen.0, seen.1)
 
+-- after `shared`: ` SLOT FOUND`
 unfoldable pub shared_in : List ℕ → Option (Answer × List ℕ)
 shared_in bytes = do
   seen ← seen_in bytes
@@ -79,6 +88,7 @@ slot_answer_in bytes =
     (either (after_word (codes "second-free") bytes) second_free_in (either (after_word (codes "not-owner") bytes) not_owner_in
     (either (after_word (codes "stale-use") bytes) stale_use_in (either (after_word (codes "shared") bytes) shared_in None)))))))
 
+-- the answers that are a word and nothing more
 unfoldable pub plain_answer_in : List ℕ → Option (Answer × List ℕ)
 plain_answer_in bytes =
     either (after_word (codes "stale-reset") bytes) (λ rest. Some (StaleReset, rest))
@@ -88,16 +98,19 @@ plain_answer_in bytes =
     (either (after_word (codes "out-of-range") bytes) (λ rest. Some (OutOfRange, rest))
     (either (after_word (codes "too-large") bytes) (λ rest. Some (TooLarge, rest)) None)))))
 
+-- the answer with the number that was read, if one was
 abbrev pub with_number : (ℕ → Answer) → Option (ℕ × List ℕ) → Option (Answer × List ℕ)
 with_number answer None = None
 with_number answer (Some x) = Some (answer x.0, x.1)
 
+-- the answers that are a word and a number of 32 bits: full, swapped and purged
 unfoldable pub counted_answer_in : List ℕ → Option (Answer × List ℕ)
 counted_answer_in bytes =
     first_read (with_number (λ n. Full n) (below_in (codes "full ") 4294967296 bytes))
     (first_read (with_number (λ n. Swapped n) (below_in (codes "swapped ") 4294967296 bytes))
     (with_number (λ n. Purged n) (below_in (codes "purged ") 4294967296 bytes)))
 
+-- an answer of any of the three kinds
 unfoldable pub answer_in : List ℕ → Option (Answer × List ℕ)
 answer_in bytes = first_read (slot_answer_in bytes) (first_read (plain_answer_in bytes) (counted_answer_in bytes))
 

@@ -16,6 +16,7 @@ some_below_at limit bytes = do
   x ← below_at limit bytes
   Some (Some x.0, x.1)
 
+-- nothing if the word is there, and else a number below the limit
 unfoldable pub number_or_in : List ℕ → ℕ → List ℕ → Option (Option ℕ × List ℕ)
 number_or_in word limit bytes = either (after_word word bytes) (λ rest. Some (None, rest)) (some_below_at limit bytes)
 
@@ -41,6 +42,7 @@ slots_in (suc k) bytes =
 abbrev pub if_any : List Numbered × List ℕ → Option (List Numbered × List ℕ)
 if_any x = if length x.0 == 0 then None else Some x
 
+-- ` SLOT@K` for each of 1 to 16 slots
 unfoldable pub batch_in : List ℕ → Option (List Numbered × List ℕ)
 batch_in bytes = do
   x ← slots_in 16 bytes
@@ -55,6 +57,7 @@ fill_in bytes = do
   slots ← batch_in pool.1
   Some (acts.Fill class.0 pool.0 slots.0, slots.1)
 
+-- after `map `: the pool's entry, and then `SLOT@0 ` and the length
 unfoldable pub map_act_in : List ℕ → Option (RootAct × List ℕ)
 map_act_in bytes = do
   pool ← below_at 4294967296 bytes
@@ -63,17 +66,20 @@ map_act_in bytes = do
   len ← below_in (codes "@0 ") 4294967296 slot.1
   Some (acts.Map pool.0 slot.0 len.0, len.1)
 
+-- after `full `: a class or `direct`, and the pool's entry
 unfoldable pub full_in : List ℕ → Option (RootAct × List ℕ)
 full_in bytes = do
   class ← number_or_in (codes "direct") class_count bytes
   pool ← below_in (codes " ") 4294967296 class.1
   Some (acts.Full class.0 pool.0, pool.1)
 
+-- after `give`: 1 to 16 slots
 unfoldable pub give_in : List ℕ → Option (RootAct × List ℕ)
 give_in bytes = do
   slots ← batch_in bytes
   Some (acts.Give slots.0, slots.1)
 
+-- after `unmap `: the pool's entry, and then `SLOT@K`
 unfoldable pub unmap_in : List ℕ → Option (RootAct × List ℕ)
 unmap_in bytes = do
   pool ← below_at 4294967296 bytes
@@ -81,6 +87,7 @@ unmap_in bytes = do
   slot ← numbered_in rest
   Some (acts.Unmap pool.0 slot.0, slot.1)
 
+-- what a root did, by its word
 unfoldable pub root_act_in : List ℕ → Option (RootAct × List ℕ)
 root_act_in bytes =
     either (after_word (codes "fill ") bytes) fill_in (either (after_word (codes "map ") bytes) map_act_in

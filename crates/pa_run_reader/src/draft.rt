@@ -1,4 +1,4 @@
-ghost use Rattle.std.specs.Prelude.{◌≡◌, [], ◌∷◌, ◌++◌, IfOk, OnOk};
+ghost use Rattle.std.specs.Prelude.{◌≡◌, [], ◌∷◌, ◌++◌, IfOk, OnOk, OnErr};
 ghost use Rattle.pa_run_reader.specs.Gathered.{gathered_with, HasListOf, IsUngathered, TellsGathered};
 
 use crate::Item;
@@ -55,10 +55,11 @@ impl Draft {
         })
     }
 
-    // Appends the item to its list, which must be there.
+    // Appends the item to its list, which must be there. If memory runs out, the lists are as they were.
     pub fn put(&mut self, item: Item) -> Result<(), OutOfMemory>
         requires { HasListOf item self.old }
-        ensures { OnOk result (self.new ≡ gathered_with item self.old) }
+        ensures gathered { OnOk result (self.new ≡ gathered_with item self.old) }
+        ensures same { OnErr result (self.new ≡ self.old) }
     {
         match item {
             Item::Record(entry) => self.entries.push(entry)?,

@@ -8,7 +8,7 @@ use std::fmt;
 /// Why a text isn't a run. Lines count from 1.
 #[derive(Clone, Copy, Debug, PartialEq, Eq)]
 pub enum RunFault {
-    /// This line is the first bad one: it isn't a line that may come there, or it is missing where one is due.
+    /// This line is the first bad one: it isn't a line that may come there, or it is missing when one is due.
     BadLine(u32),
     /// Memory ran out.
     OutOfMemory,

@@ -17,7 +17,7 @@ use pa_record::Run;
 use std::alloc::Global;
 
 /// Reads a run from its text, with 4 journals and 64 histories, some of them empty. `BadLine(n)` names the first
-/// line, counted from 1, that isn't the line of an item that may come there; n is one more than the number of lines where
+/// line, counted from 1, that isn't the line of an item that may come there; n is one more than the number of lines if
 /// each of them may and `end` is missing. There are fewer than 2^32 - 1 bytes.
 pub fn read_run(alloc: Global, bytes: &[u8]) -> Result<Run, RunFault>
     requires { length bytes.now < 2 ^ 32 - 1 }

@@ -1,3 +1,2 @@
-pub mod Walks
 pub mod Growing
 pub mod Telling

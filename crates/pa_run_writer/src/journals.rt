@@ -42,15 +42,15 @@ impl Journals {
         Ok(Journals { of })
     }
 
-    /// Appends an entry to the journal of a partition, and returns its index there. If memory runs out, that journal has no
-    /// entries.
+    /// Appends an entry to the journal of a partition, and returns its index there. If memory runs out, the journals are as
+    /// before.
     #[inline(always)]
     pub fn push(&mut self, partition: u32, entry: &LentEntry<'_>) -> Result<u32, OutOfMemory>
         requires partition { partition < length self.old }
         requires few { length (slice_index_or self.old partition []) < 2 ^ 32 }
         ensures place { IfOk result (λ place. place ≡ length (slice_index_or self.old partition [])) }
         ensures pushed { OnOk result (self.new ≡ slice_set self.old partition (slice_index_or self.old partition [] ++ entry.now ∷ [])) }
-        ensures lost { OnErr result (self.new ≡ slice_set self.old partition []) }
+        ensures kept { OnErr result (self.new ≡ self.old) }
     {
         let lines = &mut self.of[partition as usize];
         lines.push(entry)

@@ -3,10 +3,10 @@ ghost use Rattle.std.specs.List.{AllByRecursion};
 ghost use Rattle.pa_record.specs.Bits.{RootInBits};
 ghost use Rattle.pa_record.specs.Text.{journal_text};
 
-use crate::past::Past;
+use crate::past::and_lent;
 use pa_machine::OutOfMemory;
 use pa_record::{LentEntry, RootEntry, push_root, root_fits};
-use pa_text::Text;
+use pa_text::{Past, Text};
 use std::alloc::Global;
 use std::marker::Model;
 
@@ -42,27 +42,26 @@ impl Lines {
         }
     }
 
-    // Appends an entry, and returns its index. If memory runs out, there are none.
+    // Appends an entry, and returns its index. If memory runs out, the entries are as before.
     #[inline(always)]
     pub(crate) fn push(&mut self, entry: &LentEntry<'_>) -> Result<u32, OutOfMemory>
         requires few { length self.old.entries < 2 ^ 32 }
         ensures partition { self.new.partition ≡ self.old.partition }
         ensures place { IfOk result (λ place. place ≡ length self.old.entries) }
         ensures pushed { OnOk result (self.new ≡ record self.old { entries = self.old.entries ++ entry.now ∷ [] }) }
-        ensures lost { OnErr result (self.new ≡ record self.old { entries = [] }) }
+        ensures kept { OnErr result (self.new ≡ self.old) }
     {
         root_fits(entry);
         let place = self.len;
+        let len = self.text.len();
         match push_root(&mut self.text, u64::from(self.partition), place, entry) {
             Ok(()) => {
-                self.past = self.past.and_lent(entry);
+                self.past = and_lent(&self.past, entry);
                 self.len += 1;
                 Ok(place as u32)
             }
             Err(error) => {
-                self.text.truncate(0);
-                self.past = Past::new();
-                self.len = 0;
+                self.text.truncate(len);
                 Err(error)
             }
         }

@@ -1,42 +1,12 @@
-// A list that only proofs read. It needs no memory, and its calls do nothing when they run.
-ghost use Rattle.std.specs.Prelude.{◌≡◌, List, [], ◌∷◌, ◌++◌};
-ghost use Rattle.std.specs.Borrow.{ftrue};
+ghost use Rattle.std.specs.Prelude.{◌≡◌, [], ◌∷◌, ◌++◌};
 
 use pa_record::{LentEntry, RootEntry};
-use std::marker::{Model, PhantomData};
+use pa_text::Past;
+use std::marker::PhantomData;
 
-// What was reported so far. A clause reads it as `items`.
-#[derive(Drop)]
-pub(crate) struct Past<A> {
-    of: PhantomData<A>,
-    pub(crate) ghost items: { List A },
-}
-
-impl<A> Model for Past<A> {
-    ghost also_owns = { λ _. ftrue };
-}
-
-impl<A> Past<A> {
-    // Nothing.
-    pub(crate) fn new() -> Past<A>
-        ensures { result.items ≡ [] }
-    {
-        Past { of: PhantomData }
-    }
-
-    // The same, with one more at its end.
-    pub(crate) fn and(&self, item: &A) -> Past<A>
-        ensures { result.items ≡ self.now.items ++ item.now ∷ [] }
-    {
-        Past { of: PhantomData }
-    }
-}
-
-impl Past<RootEntry> {
-    // The same, of an entry that is lent.
-    pub(crate) fn and_lent(&self, entry: &LentEntry<'_>) -> Past<RootEntry>
-        ensures { result.items ≡ self.now.items ++ entry.now ∷ [] }
-    {
-        Past { of: PhantomData }
-    }
+// The list that only proofs read, with one more entry at its end, which is lent. It does nothing when it runs.
+pub(crate) fn and_lent(past: &Past<RootEntry>, entry: &LentEntry<'_>) -> Past<RootEntry>
+    ensures { result.items ≡ past.now.items ++ entry.now ∷ [] }
+{
+    Past { of: PhantomData }
 }

@@ -1,4 +1,3 @@
-mod Lines
 mod Opened
 mod Summed
 mod Reported

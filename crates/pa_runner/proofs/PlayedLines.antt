@@ -18,6 +18,7 @@ use Rattle.pa_rules.specs.declared.played.Played.{Played}
 use Rattle.pa_rules.specs.Played.{op_line_of, entry_of}
 use Rattle.pa_logs.specs.Told.{ToldRecord, played_in}
 use Rattle.pa_totals.specs.Settled.{none_owed, all_added}
+use Rattle.pa_op_specs.specs.Stocks.{StockValue}
 use Rattle.pa_op_specs.specs.Workers.{WorkerValue, IsWorker, HasItsStake, CanPlayOp, KeepsOn}
 use Rattle.pa_op_specs.specs.Plays.{PlaysOp, PlaysAll}
 use Rattle.pa_op_specs.specs.Settling.{SettlingEndsPhase, last_lengthened, settled_worker}
@@ -186,6 +187,10 @@ stopped_keeps w v stake same = subst (λ (z : WorkerValue). KeepsItsStake w.stoc
 pub stopped_owes : (w v : WorkerValue) → v ≡ record w { stopped = true; owed = none_owed } → v.owed ≡ none_owed
 stopped_owes w v same = ap (λ (z : WorkerValue). z.owed) same
 
+-- a worker that stopped has no record more, whatever its thread state and room are
+pub stopped_records : (w v : WorkerValue) {s : StockValue} {n : ℕ} → v ≡ record w { stock = s; room = n; stopped = true; owed = none_owed } → v.records ≡ w.records
+stopped_records w v same = ap (λ (z : WorkerValue). z.records) same
+
 -- ---- whether there are lines
 
 pub none_there : (n : ℕ) (b : Bool) → b ≡ (n == 0) → b ≡ true → n ≡ 0
@@ -244,13 +249,13 @@ back_settled ends ds i u v w past some played kept is stake =
     subst (IsPlayed ds u) (sym is) (back_whole ds u (settled_worker v) (settled_lines ends ds u v some kept whole (subst (λ (z : WorkerValue). HasItsStake z.stock) is stake)) refl)
 
 pub back_stopped : (ds : List LineOp) (i : ℕ) (u w v : WorkerValue) → i < length ds → PlaysLines (take i ds) u w → KeepsItsStake w.stock v.stock → v.stopped ≡ true → v.owed ≡ none_owed →
-    IsPlayed ds u v
-back_stopped ds i u w v low played keeps stopped settled =
+    v.records ≡ w.records → IsPlayed ds u v
+back_stopped ds i u w v low played keeps stopped settled records =
     record {
       keeps = record { thread = keeps.thread ∙ same_thread played; stake = keeps.stake };
       settled = settled;
       played = λ going. let no : true ≡ false = sym stopped ∙ going in absurd cc;
-      stopped = λ is. record { count = i; more = low; last = w; played = played; keeps = keeps };
+      stopped = λ is. record { count = i; more = low; last = w; played = played; keeps = keeps; records = records };
     }
 
 -- after the next line was played, without running out of memory

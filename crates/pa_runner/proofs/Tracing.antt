@@ -11,7 +11,7 @@ use Rattle.pa_trace.specs.declared.script.Line.TheVariants.{Phase, Do}
 use Rattle.pa_trace.specs.declared.script.Op.{Op}
 use Rattle.pa_rules.specs.Played.{OpLine, op_lines}
 use Rattle.pa_rules.specs.Legal.{phases_in}
-use Rattle.pa_runner.proofs.Lines.{phase_after, lines_push, phases_are}
+use Rattle.pa_rules.proofs.Lined.{phase_after, lines_push, phases_are}
 use Rattle.pa_execution.specs.Courses.{is_line_of, lines_in}
 use Rattle.pa_runner.specs.Tracing.{is_by, lines_by}
 use Rattle.pa_rules.proofs.Lined.{lines_phase}

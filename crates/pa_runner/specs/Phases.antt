@@ -24,9 +24,11 @@ no_worker = record {
   owed = none_owed;
 }
 
+-- the worker at place k; one that has stopped and has nothing if there is none
 abbrev pub worker_in : List WorkerValue → ℕ → WorkerValue
 worker_in workers k = slice_index_or workers k no_worker
 
+-- the queue of lines at place k; empty if there is none
 abbrev pub queue_in : List (List LineOp) → ℕ → List LineOp
 queue_in queues k = slice_index_or queues k []
 

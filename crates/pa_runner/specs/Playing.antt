@@ -48,13 +48,15 @@ pub record PlaysLines (lines : List LineOp) (before after : WorkerValue) : Type 
       × (map (λ (e : Entry). e.line) es ≡ map (λ (due : LineOp). due.line) lines)
   pub room : after.room ≡ before.room
 
--- Memory ran out at one of these lines: the worker played those before it, and was as `last` then, and it has its stake still.
+-- Memory ran out at one of these lines: the worker played those before it, and was as `last` then. It has its stake still, and the
+-- records that it had, so none of that line.
 pub record StopsAt (lines : List LineOp) (before after : WorkerValue) : Type 0 where
   pub count : ℕ
   pub more : count < length lines
   pub last : WorkerValue
   pub played : PlaysLines (take count lines) before last
   pub keeps : KeepsItsStake last.stock after.stock
+  pub records : after.records ≡ last.records
 
 -- A worker is back from these lines: it has its stake still, and owes nothing to the totals words. If it isn't stopped, it played them,
 -- and if it is, it stopped at one.

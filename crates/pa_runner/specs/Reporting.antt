@@ -23,7 +23,7 @@ pub record AreCountedBy (p threads : ℕ) (workers : ℕ → WorkerValue) (count
   pub entered : IsCountedBy (λ (n : Count). n.entered) p threads workers count.entered
   pub left : IsCountedBy (λ (n : Count). n.left) p threads workers count.left
 
--- So many bytes of partition p are live, and so many quarantined, by what the logs of a seat added to the totals words.
+-- These are the live bytes of partition p, and the quarantined ones, by what the logs of a seat added to the totals words.
 pub record IsBalance (p : ℕ) (seat : View) (bytes : ℕ × ℕ) : Type 0 where
   pub live : bytes.0 ≡ added_in seat (4 * p) - added_in seat (4 * p + 1)
   pub quarantined : bytes.1 ≡ added_in seat (4 * p + 2) - added_in seat (4 * p + 3)

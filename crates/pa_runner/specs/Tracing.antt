@@ -8,5 +8,6 @@ abbrev pub is_by : ℕ → Line → Bool
 is_by k Phase = false
 is_by k (Do thread op) = thread == k
 
+-- how many of the lines are thread k's
 abbrev pub lines_by : ℕ → List Line → ℕ
 lines_by k ls = count_by (is_by k) ls

@@ -34,7 +34,7 @@ pub record HasPlayed (t : Trace) (workers : List WorkerValue) (seat : View) (rep
   pub places : map (λ (l : ReportLine). (l.phase, l.partition)) report ≡ phases_of t.partitions 1 (phases_in t.lines)
   pub right : (l : ReportLine) → Contains report l → IsLineFor l.phase t.threads (course.ends l.phase) (course.seats l.phase) l
 
--- The run is a legal run of the trace, all its steps stand in one order in which it could have been played, the words are all those of the
+-- The run is a legal run of the trace, all its steps are in one order in which it could have been played, the words are all those of the
 -- closed region's super pages, hold the run, and have the threads' lists and the spans of each partition, and it can be printed.
 pub record IsHeldRun (t : Trace) (run : Run) (words : List ℕ) : Type 0 where
   pub legal : IsLegal t run

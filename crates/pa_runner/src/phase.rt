@@ -38,7 +38,7 @@ impl<R: Threads + Wait + Sync, N: Name + Send + Sync, G: Gate> Playing<'_, R, N,
         self.play_from(0, workers, queues);
     }
 
-    // The workers from this thread on play their lines. If the first of them has lines and one behind it too, they play beside each
+    // The workers from this thread on play their lines. If the first of them has lines and one after it too, they play beside each
     // other; else all that the first one does is done here, before the others play.
     #[cycle(playing)]
     fn play_from(&self, first: u32, workers: &mut [Worker<N>], queues: &[Queue])
@@ -62,7 +62,7 @@ impl<R: Threads + Wait + Sync, N: Name + Send + Sync, G: Gate> Playing<'_, R, N,
         }
     }
 
-    // The worker of this thread plays its lines on a thread of its own if it gets one, and else on this one, after those behind it.
+    // The worker of this thread plays its lines on a thread of its own if it gets one, and else on this one, after those that follow it.
     #[cycle(playing)]
     fn play_beside(
         &self,

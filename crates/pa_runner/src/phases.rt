@@ -76,7 +76,7 @@ impl<R: Threads + Wait + Sync, N: Name + Send + Sync, G: Gate> Playing<'_, R, N,
     }
 
     // The lines of a phase are played, and the next phase begins: all workers have their stakes back, and their queues are empty. If
-    // memory runs out, all are back from the phase, and have told.
+    // memory runs out, all are back from the phase, and have handed over.
     fn next_phase(
         &self,
         workers: &mut [Worker<N>],

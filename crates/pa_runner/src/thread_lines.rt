@@ -28,7 +28,7 @@ pub struct LineOp {
 
 impl<R: Threads + Wait + Sync, N: Name, G: Gate> Playing<'_, R, N, G> {
     /// Plays a thread's lines in their order, and adds the bytes of its steps to the totals words then. If an op runs out of memory the
-    /// worker is stopped, and plays no more; it has its stake all the same, and owes nothing.
+    /// worker is stopped, and plays no more; it has no record of that op, but has its stake all the same, and owes nothing.
     pub fn play_lines(&self, worker: &mut Worker<N>, thread: u32, lines: &[LineOp])
         requires thread { worker.old.stock.thread ≡ thread }
         requires ready { CanPlay lines.now worker.old }
@@ -60,6 +60,7 @@ impl<R: Threads + Wait + Sync, N: Name, G: Gate> Playing<'_, R, N, G> {
         ensures stops { OnErr result (worker.new.stopped ≡ true) }
         ensures stake { OnErr result (KeepsItsStake worker.old.stock worker.new.stock) }
         ensures settled { OnErr result (worker.new.owed ≡ none_owed) }
+        ensures records { OnErr result (worker.new.records ≡ worker.old.records) }
     {
         self.gate.pass(self.rt, worker, thread, due.line);
         let answer = play_op(self.rt, self.heap, worker, due)?;
@@ -83,6 +84,7 @@ fn play_op<R: Wait, N: Name>(
     ensures stops { OnErr result (worker.new.stopped ≡ true) }
     ensures stake { OnErr result (KeepsItsStake worker.old.stock worker.new.stock) }
     ensures settled { OnErr result (worker.new.owed ≡ none_owed) }
+    ensures records { OnErr result (worker.new.records ≡ worker.old.records) }
 {
     let line = due.line;
     match due.op {

@@ -8,7 +8,7 @@ use Rattle.pa_script.specs.declared.script.ScriptLine.{ScriptLine}
 use Rattle.pa_script.specs.Grammar.{IsScriptHeadText, IsScriptLineText}
 use Rattle.pa_script.specs.Limits.{IsScriptLineWithin, most_script_lines}
 
--- line n, after so many bytes, is line 10,001 or contains byte 4,194,305, or is after such a line
+-- line n, after this many bytes, is line 10,001 or contains byte 4,194,305, or is after such a line
 abbrev pub IsPastScript : ℕ → ℕ → List ℕ → Type 0
 IsPastScript n before line = (most_script_lines < n) ⊎ (most_bytes < before + length line)
 
@@ -17,6 +17,7 @@ abbrev pub IsScriptHeadLine : ℕ → ℕ → ℕ → List ℕ → Type 0
 IsScriptHeadLine region partitions threads line =
     (text : List ℕ) × IsScriptHeadText region partitions threads text × (line ≡ text ++ 10 ∷ [])
 
+-- the line is the text of a line after the head, and an LF
 abbrev pub IsScriptBodyLine : ScriptLine → List ℕ → Type 0
 IsScriptBodyLine l line = (text : List ℕ) × IsScriptLineText l text × (line ≡ text ++ 10 ∷ [])
 
@@ -24,6 +25,7 @@ IsScriptBodyLine l line = (text : List ℕ) × IsScriptLineText l text × (line 
 abbrev pub IsBadScriptHead : List ℕ → Type 0
 IsBadScriptHead line = (region partitions threads : ℕ) → IsScriptHeadLine region partitions threads line → ⊥
 
+-- as a line after a head, the line is outside the grammar or has no LF
 abbrev pub IsBadScriptLine : List ℕ → Type 0
 IsBadScriptLine line = (l : ScriptLine) → IsScriptBodyLine l line → ⊥
 
@@ -32,11 +34,12 @@ abbrev pub IsScriptHeadOverLimit : List ℕ → Type 0
 IsScriptHeadOverLimit line =
     (region partitions threads : ℕ) × IsScriptHeadLine region partitions threads line × (IsHeadWithin region partitions threads → ⊥)
 
+-- as a line after a head, the line is in the grammar and a number passes its limit
 abbrev pub IsScriptLineOverLimit : ℕ → ℕ → List ℕ → Type 0
 IsScriptLineOverLimit partitions threads line =
     (l : ScriptLine) × IsScriptBodyLine l line × (IsScriptLineWithin partitions threads l → ⊥)
 
--- the first faulty one of the lines after a head, of which the first is line n and stands after so many bytes:
+-- the first faulty one of the lines after a head, of which the first is line n and comes after this many bytes:
 -- it is faulty itself, or it is in the grammar and the limits and a later one is the first faulty one
 abbrev pub IsFirstScriptBehind : ℕ → ℕ → ℕ → ℕ → List (List ℕ) → TraceFault → Type 0
 IsFirstScriptBehind partitions threads n before [] e = ⊥

@@ -19,6 +19,7 @@ named_count = 63
 abbrev pub most_script_lines : ℕ
 most_script_lines = 10000
 
+-- an op names only registers and cells 0 to 62
 abbrev pub NamesFewIn : Op → Type 0
 NamesFewIn (Alloc reg partition size) = reg < named_count
 NamesFewIn (Copy from to) = (from < named_count) × (to < named_count)
@@ -34,7 +35,7 @@ abbrev pub NamesFew : Line → Type 0
 NamesFew Phase = Unit {0}
 NamesFew (Do thread op) = NamesFewIn op
 
--- a line of a script with so many partitions and threads
+-- a line of a script with this many partitions and threads
 abbrev pub IsScriptLineWithin : ℕ → ℕ → ScriptLine → Type 0
 IsScriptLineWithin partitions threads (Plain l) = IsLineWithin partitions threads l × NamesFew l
 IsScriptLineWithin partitions threads (Resize thread reg size) = (thread < threads) × (reg < named_count) × (size ≤ 4294967295)

@@ -12,6 +12,7 @@ use Rattle.pa_script.specs.declared.script.ScriptLine.{ScriptLine}
 use Rattle.pa_script.specs.declared.script.ScriptLine.TheVariants.{Plain, Resize}
 use Rattle.pa_script.specs.Limits.{named_count}
 
+-- the head, without its LF
 unfoldable pub script_head_in : List ℕ → Result Head LineFault
 script_head_in bytes = do
   numbers ← three_in bytes (codes "script 1 region ") (codes " partitions ") (codes " threads ")
@@ -37,10 +38,12 @@ names_few_in (Read reg place) = nat_lt reg named_count
 names_few_in (Swap cell reg) = nat_lt cell named_count && nat_lt reg named_count
 names_few_in Purge = true
 
+-- the test that a line names only registers and cells of a script
 abbrev pub names_few : Line → Bool
 names_few Phase = true
 names_few (Do thread op) = names_few_in op
 
+-- a line of a trace as a line of a script: past the limits, if it names a register or a cell that a script may not
 abbrev pub plain_of : Line → Result ScriptLine LineFault
 plain_of l = if names_few l then Ok (Plain l) else Err Past
 

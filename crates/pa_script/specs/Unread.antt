@@ -35,7 +35,7 @@ pub record IsScriptLineRead (u : Unread) (l : ScriptLine) (v : Unread) : Type 0 
   pub shorter : length v.rest < length u.rest
   pub read : (bytes : List ℕ) (ls : List ScriptLine) → IsScriptReadUpTo bytes ls u → IsScriptReadUpTo bytes (ls ++ l ∷ []) v
 
--- the end was read, where the reader stays: the bytes are the text of the script of the lines so far, which is within the limits
+-- the end was read, and the reader stays there: the bytes are the text of the script of the lines so far, which is within the limits
 pub record IsScriptEndRead (u v : Unread) : Type 0 where
   pub stays : v ≡ u
   pub read : (bytes : List ℕ) (ls : List ScriptLine) → IsScriptReadUpTo bytes ls u → IsScriptInput (script_with u.head ls) bytes

@@ -90,14 +90,14 @@ impl<'a> ScriptReader<'a> {
     }
 }
 
-// Whether line n, which has so many bytes, and so many may still come, is one line or one byte too many.
+// Whether line n, of `length` bytes, is one line too many, or is too long when `room` bytes may still come.
 fn is_past(n: u32, length: usize, room: usize) -> bool
     ensures { IsTrue result ↔ ((most_script_lines < n) ⊎ (room < length)) }
 {
     n > MOST_SCRIPT_LINES || length > room
 }
 
-// The fault of line n, which has so many bytes, and so many may still come, and no LF.
+// The fault of line n, which has `length` bytes and no LF, when `room` bytes may still come.
 fn without_end(n: u32, length: usize, room: usize) -> TraceFault
     ensures past { (most_script_lines < n) ⊎ (room < length) → result ≡ faults.Limit n }
     ensures bad { n ≤ most_script_lines → length ≤ room → result ≡ faults.BadLine n }

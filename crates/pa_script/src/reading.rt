@@ -11,8 +11,8 @@ use std::alloc::Global;
 const LINE: usize = 4;
 
 /// The script that the bytes are the text of. `BadLine(n)` and `Limit(n)` name the first faulty line; lines and bytes count
-/// from 1. A line is faulty by `Limit` where it is line 10,001 or contains byte 4,194,305; else by `BadLine` where it is
-/// outside the grammar or has no LF; else by `Limit` where a number passes its limit. No bytes are `BadLine(1)`.
+/// from 1. A line is faulty by `Limit` if it is line 10,001 or contains byte 4,194,305; else by `BadLine` if it is
+/// outside the grammar or has no LF; else by `Limit` if a number passes its limit. No bytes are `BadLine(1)`.
 pub fn read_script(alloc: Global, bytes: &[u8]) -> Result<Script, TraceFault>
     ensures found { IfOk result (λ s. IsScriptInput s bytes.now) }
     ensures fault { IfErr result (λ e. IsScriptFault e bytes.now) }

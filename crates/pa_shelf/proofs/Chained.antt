@@ -1,4 +1,4 @@
--- Chains stay where records alone were written.
+-- Chains stay if records alone were written.
 use Rattle.std.proofs.Common.{◌≡◌, ℕ, ◌+◌, ◌/◌, ◌<◌, ◌≤◌, inl, inr, false, List, sym, subst, arith}
 use Rattle.std.specs.Prelude.{AllPairs, slice_index_or}
 use Rattle.std.proofs.lemmas.Bool.{cases_Bool}

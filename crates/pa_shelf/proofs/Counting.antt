@@ -1,26 +1,24 @@
 -- The sums over the records of the payload pages are those over the root's spans.
-use Rattle.std.proofs.Common.{◌≡◌, ◌≢◌, ◌⊎◌, ℕ, ◌+◌, ◌-◌, ◌*◌, ◌%◌, ◌<◌, ◌≤◌, inl, inr, Bool, true, false, if◌then◌else◌, List, map, flat_map, [], ◌∷◌, length, refl, sym, ◌∙◌, ap, subst, arith}
+use Rattle.std.proofs.Common.{◌≡◌, ◌≢◌, ◌⊎◌, ℕ, ◌+◌, ◌-◌, ◌*◌, ◌%◌, ◌<◌, ◌≤◌, inl, inr, Bool, true, false, if◌then◌else◌, List, map, flat_map, [], ◌∷◌, refl, sym, ◌∙◌, ap, subst, arith}
 use Rattle.std.specs.Prelude.{AllPairs, Contains, sum_by}
 use Rattle.std.proofs.lemmas.Bool.{cases_Bool, both_ways}
 use Rattle.std.proofs.lemmas.List.Sums.{sum_by-cons, sum_by-append}
 use Rattle.pa_lists.specs.Numbers.{numbers}
 use Rattle.pa_lists.proofs.Different.{numbers_in, numbers_has, numbers_once}
 use Rattle.pa_lists.proofs.Joined.{map_cases, map_in, flat_cases, flat_in, pairs_map, pairs_flat}
-use Rattle.pa_machine.specs.declared.title.Title.{Title}
-use Rattle.pa_layout.specs.Pages.{super_page_at, page_at, page_place, supers_for}
+use Rattle.pa_layout.specs.Pages.{super_page_at, page_at, page_place}
 use Rattle.pa_buckets.specs.declared.spans.State.{State}
 use Rattle.pa_buckets.specs.declared.spans.State.TheVariants as state
 use Rattle.pa_buckets.specs.Table.{slot_of, pages_of}
 use Rattle.pa_buckets.proofs.Facts.{IsRow-of}
 use Rattle.pa_record.specs.declared.taken.SuperPage.{SuperPage}
 use Rattle.pa_record.specs.Spans.{Span, is_in, same_place, same_state}
-use Rattle.pa_record.specs.declared.census.Census.{Census}
-use Rattle.pa_record.specs.Census.{kept_of, count_in, census}
+use Rattle.pa_record.specs.Census.{kept_of, count_in}
 use Rattle.pa_record.specs.Laws.{IsUsed}
 use Rattle.pa_record.specs.Root.{Root}
 use Rattle.pa_record.specs.Sound.{IsSound}
 use Rattle.pa_record.proofs.Entering.{same_state-true}
-use Rattle.pa_record.proofs.Places.{place_self, place_tells}
+use Rattle.pa_record.proofs.Places.{place_self}
 use Rattle.pa_region.specs.declared.view.View.{View}
 use Rattle.pa_region.proofs.Adding.{sum_map, sum_same}
 use Rattle.pa_spans.specs.declared.span.Span.{Span as SpanRecord}
@@ -32,7 +30,7 @@ use Rattle.pa_meta.specs.Stores.{IsPayloadOf, HasSpanAt}
 use Rattle.pa_shelf.specs.Counting.{IsSmall, HasPagesOf, kept_in, slot_bytes_in, one_if, if_used, sum_of_pages, sum_of_supers, no_sums, AreAdded}
 use Rattle.pa_shelf.specs.declared.counts.Sums.{Sums}
 use Rattle.pa_shelf.specs.Shelves.{ShelfParts, RecordsRoot}
-use Rattle.pa_shelf.proofs.Finding.{one_number}
+use Rattle.pa_shelf.proofs.Finding.{none_behind}
 use Rattle.pa_shelf.proofs.Oldest.{state_at}
 use Rattle.pa_shelf.proofs.Sums.{sums_placed}
 
@@ -145,25 +143,6 @@ pages_alike x s e = ap (λ (y : SpanRecord). y.committed) e
 pub one_alike : (a : State) → CountsAlike (one_if a) (λ s. if is_in a s then 1 else 0)
 one_alike a x s e = ap (λ (y : SpanRecord). if same_state y.state a then 1 else 0) e
 
--- no span starts behind the first page of another one, up to its end
-pub none_behind : (v : View) (l : ShelfParts) (r : Root) (s t : Span) → IsSound r → RecordsRoot v l r → Contains r.spans s → Contains r.spans t →
-    s.place < t.place → t.place < s.place + 16384 * pages_of s.class → ⊥
-none_behind v l r s t sound k among inside low high =
-    let (a, page, p) = sound.placed s among in
-    let (c, other, q) = sound.placed t inside in
-    let number = same_super a.number c.number page other (pages_of s.class) (pages_of t.class) s.place t.place p.place q.place p.last q.last low high in
-    let one = one_number a c l.supers k.apart (subst (λ zs. Contains zs a) k.supers p.among) (subst (λ zs. Contains zs c) k.supers q.among) number in
-    let born : s.born ≡ t.born = p.born ∙ (ap (λ (z : SuperPage). z.born) one ∙ sym q.born) in
-    let far : same_place s t ≡ false = elim (cases_Bool (same_place s t)) [
-      | inl same ↦ let e = (place_tells s t same).0 in absurd (omega arith)
-      | inr away ↦ away
-    ] in
-    elim (sound.apart s t among inside far born) [ inl before ↦ omega arith | inr after ↦ omega arith ]
-  where
-    same_super : (a b p q n m s u : ℕ) → s ≡ 2097152 * a + 16384 * p → u ≡ 2097152 * b + 16384 * q → p + n ≤ 127 → q + m ≤ 127 → s < u →
-        u < s + 16384 * n → a ≡ b
-    same_super a b p q n m s u is too first second low high = omega arith
-
 -- a super page's records
 pub pages_had : (v : View) (l : ShelfParts) (r : Root) (at : SuperPage) → IsSound r → RecordsRoot v l r → Contains l.supers at → HasPagesOf v at.number
 pages_had v l r at sound k inside =
@@ -204,22 +183,6 @@ pages_had v l r at sound k inside =
   where
     page_less : (page n class : ℕ) → class < 59 → n ≡ pages_of class → page + n ≤ 127 → page < 127
     page_less page n class real is last = let some = (IsRow-of class real).some_pages in omega arith
-
--- the census from its numbers
-pub census_by : (r : Root) (slots bytes pages mapped n supers full active empty gone k m : ℕ) → slots ≡ sum_by kept_of r.spans →
-    bytes ≡ sum_by (λ (s : Span). slot_of s.class * kept_of s) r.spans → pages ≡ sum_by (λ (s : Span). s.committed) r.spans →
-    mapped ≡ sum_by (λ (t : Title). t.len) r.maps → n ≡ length r.supers → supers ≡ sum_by (λ (t : Title). supers_for t.len) r.maps →
-    full ≡ count_in state.Full r → active ≡ count_in state.Active r → empty ≡ count_in state.Empty r → gone ≡ count_in state.Decommitted r → k ≡ 4096 → m ≡ 2097152 →
-    (let x : Census = record {
-      root = record { slots = slots; bytes = bytes };
-      committed = k * pages + mapped;
-      reserved = m * (n + supers);
-      full = full;
-      active = active;
-      empty = empty;
-      decommitted = gone;
-    } in x ≡ census r)
-census_by r slots bytes pages mapped n supers full active empty gone k m a b c d e f g h i j p q = rw (a, b, c, d, e, f, g, h, i, j, p, q) refl
 
 -- and its numbers are those that were added up
 pub record AreCensus (r : Root) (a : Sums) : Type 0 where

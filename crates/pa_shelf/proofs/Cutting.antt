@@ -32,7 +32,7 @@ made_inside v l x t r s b small =
     let inside = span_inside v l x t r s b small in
     omega arith
 
--- how many are cut: none where the list isn't empty
+-- how many are cut: none if the list isn't empty
 no_cut : (v : View) (l : ShelfParts) (x : SpanRecord) (t : Title) (r : Root) (s : Span) → HasSlotOf v l x t r s → x.allocated < x.provisioned →
     0 ≡ count_cut s.free s
 no_cut v l x t r s b some =

@@ -91,7 +91,7 @@ empty_chain v s e = subst (λ (ns : List ℕ). IsChain v (chain_of (record s { f
   links = tt;
 })
 
--- what is shown where a span was decommitted
+-- what is shown when a span was decommitted
 pub decommit_shown : (v w : View) (l after : ShelfParts) (at : ℕ) (x y : SpanRecord) (r : Root) → IsAware v → Rerecorded l.supers v w →
     first_of_ring l.lists.ring ≡ Some at → x ≡ spans_in v.words at → y ≡ without_pages_of x →
     ((s t : Span) → RecordsRoot v l r → Contains r.spans s → IsRecordFor at y s t → RecordsRoot w after (entered state.Decommitted t r)) →
@@ -112,7 +112,7 @@ decommit_shown v w l after at x y r aware wrote first x_is y_is moved sound show
           (entered_chain w state.Decommitted r.turn t (empty_chain w t refl));
     })
 
--- and where none is empty
+-- and if none is empty
 pub none_shown : (v : View) (l : ShelfParts) (r : Root) → first_of_ring l.lists.ring ≡ None → ShowsRoot v l r → ShowsRoot v l (oldest_decommitted r)
 none_shown v l r none shown =
     let k = shown.kept in

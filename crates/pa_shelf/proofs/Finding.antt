@@ -11,7 +11,7 @@ use Rattle.pa_buckets.proofs.SpanRule.{FollowsRule-of}
 use Rattle.pa_record.specs.declared.taken.SuperPage.{SuperPage}
 use Rattle.pa_record.specs.Spans.{Span, same_state, same_place}
 use Rattle.pa_record.specs.Root.{Root}
-use Rattle.pa_record.specs.Sound.{StateSays}
+use Rattle.pa_record.specs.Sound.{StateSays, IsSound}
 use Rattle.pa_record.proofs.Places.{place_tells}
 use Rattle.pa_record.proofs.Entering.{same_state-true}
 use Rattle.pa_record.proofs.Slots.{slot_within}
@@ -83,26 +83,24 @@ page_has v l t r s n at b aligned low high =
     let i = inside v l s.place t r s n b in let end = i.high in
     b.shown.kept.pages at (on_page v l r s at b.shown.kept a page p.among p.place p.first p.last aligned low (omega arith))
 
--- no span starts between the start of another one and its end
-same_super : (a b p q pages s u : ℕ) → s ≡ 2097152 * a + 16384 * p → u ≡ 2097152 * b + 16384 * q → 1 ≤ p → p + pages ≤ 127 → 1 ≤ q → q ≤ 127 →
-    s < u → u < s + 16384 * pages → a ≡ b
-same_super a b p q pages s u is too first last least most low high = omega arith
-
-none_starts : (v : View) (l : ShelfParts) (t : Title) (r : Root) (s u : Span) (n : ℕ) → IsBackAt v l s.place t r s n → Contains r.spans u →
-    s.place < u.place → u.place < s.place + 16384 * pages_of s.class → ⊥
-none_starts v l t r s u n b among low high =
-    let k = b.shown.kept in
-    let (a, page, p) = b.sound.placed s b.among in
-    let (c, other, q) = b.sound.placed u among in
-    let first = q.first in let last = q.last in
-    let number = same_super a.number c.number page other (pages_of s.class) s.place u.place p.place q.place p.first p.last q.first (omega arith) low high in
+-- no span starts after the first page of another one, up to its end
+pub none_behind : (v : View) (l : ShelfParts) (r : Root) (s t : Span) → IsSound r → RecordsRoot v l r → Contains r.spans s → Contains r.spans t →
+    s.place < t.place → t.place < s.place + 16384 * pages_of s.class → ⊥
+none_behind v l r s t sound k among inside low high =
+    let (a, page, p) = sound.placed s among in
+    let (c, other, q) = sound.placed t inside in
+    let number = same_super a.number c.number page other (pages_of s.class) (pages_of t.class) s.place t.place p.place q.place p.last q.last low high in
     let one = one_number a c l.supers k.apart (subst (λ zs. Contains zs a) k.supers p.among) (subst (λ zs. Contains zs c) k.supers q.among) number in
-    let born : s.born ≡ u.born = p.born ∙ (ap (λ (z : SuperPage). z.born) one ∙ sym q.born) in
-    let far : same_place s u ≡ false = elim (cases_Bool (same_place s u)) [
-      | inl same ↦ let e = (place_tells s u same).0 in absurd (omega arith)
+    let born : s.born ≡ t.born = p.born ∙ (ap (λ (z : SuperPage). z.born) one ∙ sym q.born) in
+    let far : same_place s t ≡ false = elim (cases_Bool (same_place s t)) [
+      | inl same ↦ let e = (place_tells s t same).0 in absurd (omega arith)
       | inr away ↦ away
     ] in
-    elim (b.sound.apart s u b.among among far born) [ inl before ↦ omega arith | inr after ↦ omega arith ]
+    elim (sound.apart s t among inside far born) [ inl before ↦ omega arith | inr after ↦ omega arith ]
+  where
+    same_super : (a b p q n m s u : ℕ) → s ≡ 2097152 * a + 16384 * p → u ≡ 2097152 * b + 16384 * q → p + n ≤ 127 → q + m ≤ 127 → s < u →
+        u < s + 16384 * n → a ≡ b
+    same_super a b p q n m s u is too first second low high = omega arith
 
 -- so the pages after its first have records of no state, and the first has one of some state
 pub none_between : (v : View) (l : ShelfParts) (t : Title) (r : Root) (s : Span) (n at : ℕ) → IsBackAt v l s.place t r s n → at % 16384 ≡ 0 →
@@ -113,7 +111,7 @@ none_between v l t r s n at b aligned low high = elim (cases_Bool (same_state (s
       let used : IsInUse (spans_in v.words at) = λ none. both_ways _ some (subst (λ a. same_state a state.None ≡ true) (sym none) refl) in
       let (u, among, place) = b.shown.kept.stored.each at (page_has v l t r s n at b aligned (omega arith) high) used in
       let i = inside v l s.place t r s n b in let end = i.high in
-      absurd (none_starts v l t r s u n b among (omega arith) (omega arith))
+      absurd (none_behind v l r s u b.sound b.shown.kept b.among among (omega arith) (omega arith))
 ]
 
 pub some_first : (v : View) (l : ShelfParts) (t : Title) (r : Root) (s : Span) (n : ℕ) → IsBackAt v l s.place t r s n →
@@ -126,7 +124,7 @@ some_first v l t r s n b none =
     let some = b.some in
     omega arith
 
--- so a page that has no span is behind the first
+-- so a page that has no span is after the first
 pub goes_on : (v : View) (l : ShelfParts) (t : Title) (r : Root) (s : Span) (n at : ℕ) → IsBackAt v l s.place t r s n → at % 16384 ≡ 0 →
     s.place ≤ at → same_state (spans_in v.words at).state state.None ≡ true → s.place + 16384 ≤ at
 goes_on v l t r s n at b aligned low none =

@@ -106,7 +106,7 @@ never_listed v l r s z n m aware shown real real' among member free free' e =
     let some = size_some s.class real in let some' = size_some z.class real' in
     aware.apart (title_at s n) (title_at z m) (title_at s n).start (omega arith) (omega arith) (omega arith, omega arith) (omega arith, omega arith)
 
--- what stays where they are pushed
+-- what stays when they are pushed
 pub record IsPushed (v w : View) (l : ShelfParts) (s : Span) (from count : ℕ) : Type 0 where
   pub aware : IsAware v
   pub relinked : Relinked v w
@@ -316,7 +316,7 @@ can_push v l x y t r s from count b all y_is small from_is end_is =
       inside = omega arith;
     }
 
--- so many more than before
+-- this many more than before
 pub more_left : (v : View) (l : ShelfParts) (x y : SpanRecord) (t : Title) (r : Root) (s : Span) → IsTakeOf v l x t r s → x.provisioned ≤ x.allocated →
     y ≡ with_more t.start x → x.provisioned ≤ y.provisioned
 more_left v l x y t r s b all y_is =

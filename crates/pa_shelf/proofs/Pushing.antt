@@ -20,7 +20,7 @@ use Rattle.pa_link.proofs.Gaps.{relinked_none, relinked_once, relinked_more, bes
 use Rattle.pa_shelf.specs.Taking.{slot_beside, slots_beside}
 use Rattle.pa_shelf.proofs.Returning.{parts_alike}
 
--- so many are pushed, of those from a number on
+-- this many are pushed, of those from a number on
 pub record ArePushed (v w : View) (first : Title) (from count done : ℕ) (c : ChainParts) : Type 0 where
   pub size : c.slot_len ≡ first.len
   pub many : c.len ≡ done

@@ -1,4 +1,4 @@
--- A slot is put back in front of its span's list: what is shown then.
+-- A slot is put back at the front of its span's list: what is shown then.
 use Rattle.std.proofs.Common.{◌≡◌, ℕ, ◌+◌, ◌-◌, ◌<◌, ◌≤◌, inl, inr, Bool, if◌then◌else◌, List, length, [], ◌∷◌, Option, Some, None, refl, sym, ◌∙◌, ap, subst, arith}
 use Rattle.std.specs.Prelude.{Contains}
 use Rattle.std.proofs.lemmas.Bool.{cases_Bool, eq-eqb}
@@ -131,7 +131,7 @@ pub front_stays : (x y z : SpanRecord) (h : ℕ) → x ≡ z → y ≡ with_fron
 front_stays x y z h e f = subst (λ (u : SpanRecord). StaysListed u y) e (subst (StaysListed x) (sym f)
     (record { class = inl refl; state = refl; turn = refl; previous = refl; next = refl }))
 
--- what is shown where a slot was put back
+-- what is shown when a slot was put back
 pub back_shown : (words : ℕ) (v w : View) (l after : ShelfParts) (at : ℕ) (t : Title) (link : ℕ) (r : Root) (s : Span) (n : ℕ) (x y : SpanRecord) (to : State) →
     IsBackAt v l at t r s n → IsAware v → IsWellFormed words t → 0 < free_of v t → IsAware (after_link t link v) →
     Rerecorded l.supers (after_link t link v) w → x ≡ spans_in v.words at → y ≡ with_front_of t.start x → to ≡ state_with y.allocated →

@@ -52,7 +52,7 @@ free_like s = by_list s.free s
 pub front : (v : View) (l : ShelfParts) (x : SpanRecord) (t : Title) (r : Root) (s : Span) → IsReadyAt v l x t r s → HasFront (with_free s)
 front v l x t r s b = with_free_front s (b.sound.spans s b.among).counted b.less
 
--- where a list isn't empty, nothing has to be provisioned
+-- if a list isn't empty, nothing has to be provisioned
 pub ready_listed : (v : View) (l : ShelfParts) (x : SpanRecord) (t : Title) (r : Root) (s : Span) → IsTakeOf v l x t r s → x.allocated < x.provisioned →
     IsReadyAt v l x t r s
 ready_listed v l x t r s b some =
@@ -155,7 +155,7 @@ pub front_listed : (x y z : SpanRecord) (h : ℕ) → StaysListed z x → y ≡ 
 front_listed x y z h st f = subst (StaysListed z) (sym f)
     (record { class = st.class; state = st.state; turn = st.turn; previous = st.previous; next = st.next })
 
--- what is shown where the front was taken
+-- what is shown when the front was taken
 pub take_shown : (v w : View) (l after : ShelfParts) (x y : SpanRecord) (t : Title) (r : Root) (s : Span) (n h : ℕ) (rest : List ℕ) (to : State) →
     IsReadyAt v l x t r s → IsAware v → Rerecorded l.supers v w → (with_free s).free ≡ n ∷ rest → y ≡ without_front_of h x →
     h ≡ name_start (front_of (slot_names (map (title_at (with_free s)) rest))) → to ≡ state_out y.class y.allocated →

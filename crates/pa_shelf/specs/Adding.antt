@@ -13,6 +13,7 @@ abbrev pub found_start : Option Found → Option ℕ
 found_start None = None
 found_start (Some f) = Some f.span.place
 
+-- the root with the new span; as it was if there was no room for one
 abbrev pub found_root : Option Found → Root → Root
 found_root None r = r
 found_root (Some f) r = f.root

@@ -18,7 +18,7 @@ use Rattle.pa_shelf.specs.declared.counts.Sums.{Sums}
 abbrev pub IsSmall : SpanRecord → Type 0
 IsSmall x = (x.allocated ≤ x.made) × (x.made ≤ 1024) × (x.committed ≤ 224)
 
--- The payload pages of a super page have records; behind one that is in use, up to the end of its span, none is.
+-- The payload pages of a super page have records; after one that is in use, up to the end of its span, none is.
 pub record HasPagesOf (v : View) (number : ℕ) : Type 0 where
   pub raw : HasRawRecords v number
   pub readable : (page : ℕ) → 1 ≤ page → page ≤ 126 →
@@ -35,9 +35,11 @@ pub record HasPagesOf (v : View) (number : ℕ) : Type 0 where
 abbrev pub kept_in : SpanRecord → ℕ
 kept_in x = x.made - x.allocated
 
+-- the bytes of the slots that were made and aren't out
 abbrev pub slot_bytes_in : SpanRecord → ℕ
 slot_bytes_in x = slot_of x.class * kept_in x
 
+-- 1 if the record's span is in the state, else 0
 abbrev pub one_if : State → SpanRecord → ℕ
 one_if a x = if same_state x.state a then 1 else 0
 
@@ -45,13 +47,15 @@ one_if a x = if same_state x.state a then 1 else 0
 abbrev pub if_used : (SpanRecord → ℕ) → SpanRecord → ℕ
 if_used f x = if same_state x.state state.None then 0 else f x
 
--- of the payload pages of a super page below this one; and of these super pages
+-- an amount of the record of one payload page of a super page, and 0 if it isn't in use
 abbrev pub sum_of_page : (SpanRecord → ℕ) → List ℕ → ℕ → ℕ → ℕ
 sum_of_page f words number page = if_used f (spans_in words (page_place number page))
 
+-- an amount summed over the records in use of a super page's first `count` payload pages
 abbrev pub sum_of_pages : (SpanRecord → ℕ) → List ℕ → ℕ → ℕ → ℕ
 sum_of_pages f words number count = sum_by (sum_of_page f words number) (numbers 1 count)
 
+-- an amount summed over the records in use of all 126 payload pages of each of these super pages
 abbrev pub sum_of_supers : (SpanRecord → ℕ) → List ℕ → List SuperPage → ℕ
 sum_of_supers f words supers = sum_by (λ (at : SuperPage). sum_of_pages f words at.number 126) supers
 

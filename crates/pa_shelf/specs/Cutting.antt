@@ -18,11 +18,12 @@ use Rattle.pa_shelf.specs.declared.cuts.NewSlots.{NewSlots}
 use Rattle.pa_shelf.specs.Shelves.{ShelfParts, KeepsRecords, ShowsRoot}
 use Rattle.pa_shelf.specs.Taking.{HasSlotAt, IsTakeAt}
 
--- How many: where its list is empty, those that are provisioned then and were never made; else none.
+-- How many: if its list is empty, those that are provisioned then and were never made; else none.
 abbrev pub count_cut : List ℕ → Span → ℕ
 count_cut [] s = more_slots s - s.made
 count_cut (n ∷ rest) s = 0
 
+-- the slots that are cut before one is taken from s: so many, from the first one on that was never made
 abbrev pub cut_before : Span → NewSlots
 cut_before s = record { first = title_at s s.made; count = count_cut s.free s }
 

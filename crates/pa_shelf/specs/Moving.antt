@@ -29,7 +29,7 @@ parts_of_record x t = record {
   len = x.provisioned - x.allocated;
 }
 
--- with the slot in front
+-- with the slot at the front
 abbrev pub pushed_parts : Title → ChainParts → ChainParts
 pushed_parts t c = record { slot_len = c.slot_len; head = Some (name_of t); len = c.len + 1 }
 
@@ -37,7 +37,7 @@ pushed_parts t c = record { slot_len = c.slot_len; head = Some (name_of t); len 
 abbrev pub with_front_of : ℕ → SpanRecord → SpanRecord
 with_front_of start x = record x { allocated = x.allocated - 1; head = start }
 
--- the state of a span with so many slots out, once one came back
+-- the state of a span with this many slots out, once one came back
 abbrev pub state_with : ℕ → State
 state_with allocated = if allocated == 0 then state.Empty else state.Active
 

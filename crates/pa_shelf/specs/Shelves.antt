@@ -40,7 +40,7 @@ abbrev pub StartsAtZero : SpanRecord → Type 0
 StartsAtZero x = x.state ≡ state.None → x.turn ≡ 0
 
 -- The records keep the root: it has these super pages, which lie in a region and differ in number, direct maps and turn; each payload
--- page has a record of its own, of turn 0 if it isn't in use; the lists stand for the spans that the words have, and these are the
+-- page has a record of its own, of turn 0 if it isn't in use; the lists are those of the spans that the words have, and these are the
 -- root's spans.
 pub record RecordsRoot (v : View) (l : ShelfParts) (r : Root) : Type 0 where
   pub supers : r.supers ≡ l.supers
@@ -94,7 +94,7 @@ pub record IsBackAt (v : View) (l : ShelfParts) (at : ℕ) (t : Title) (r : Root
 abbrev pub IsSlotOut : Root → Title → Type 0
 IsSlotOut r t = (s : Span) × Contains r.spans s × (n : ℕ) × IsOutOf s (name_of t) n × (t ≡ title_at s n)
 
--- Slots are out of a sound root that is shown, of which at most 16 spans are empty; they have different names, and the view has them free.
+-- Slots are out of a sound root that is shown and has at most 16 empty spans; they have different names, and the view has them free.
 pub record AreBack (v : View) (l : ShelfParts) (ts : List Title) (r : Root) : Type 0 where
   pub sound : IsSound r
   pub settled : IsSettled r

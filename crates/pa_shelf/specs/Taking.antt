@@ -21,7 +21,7 @@ use Rattle.pa_link.specs.Chains.{IsChain}
 use Rattle.pa_shelf.specs.Adding.{found_start, found_root}
 use Rattle.pa_shelf.specs.Shelves.{ShelfParts, ShowsRoot, chain_of}
 
--- the first of two, or the second where there is no first one
+-- the first of two, or the second if there is no first one
 abbrev pub first_some : Option ℕ → Option ℕ → Option ℕ
 first_some None o = o
 first_some (Some n) o = Some n
@@ -31,17 +31,20 @@ abbrev pub start_of : Option Span → Option ℕ
 start_of None = None
 start_of (Some s) = Some s.place
 
+-- where the slot starts, 0 if there is none
 abbrev pub name_start : Option SlotName → ℕ
 name_start None = 0
 name_start (Some s) = s.start
 
--- the first slot of a span; and the slots that are side by side with it: the one with a number, and so many from a number on
+-- the first slot of a span; and the slots that are side by side with it: the one with a number, and a range of them from a number on
 abbrev pub first_title : Span → Title
 first_title s = record { start = s.place; len = slot_of s.class; born = s.born }
 
+-- the slot with number n among those side by side from the first one on, which has number 0
 abbrev pub slot_beside : Title → ℕ → Title
 slot_beside first n = record { start = first.start + first.len * n; len = first.len; born = first.born }
 
+-- `count` slots side by side with the first one, from number `from` on
 abbrev pub slots_beside : Title → ℕ → ℕ → List Title
 slots_beside first from count = map (slot_beside first) (numbers from count)
 
@@ -49,7 +52,7 @@ slots_beside first from count = map (slot_beside first) (numbers from count)
 abbrev pub without_front_of : ℕ → SpanRecord → SpanRecord
 without_front_of head x = record x { allocated = x.allocated + 1; head = head }
 
--- the state of a span of this class with so many slots out, once one was taken
+-- the state of a span of this class with this many slots out, once one was taken
 abbrev pub state_out : ℕ → ℕ → State
 state_out class allocated = if allocated == slots_of class then state.Full else state.Active
 
@@ -58,9 +61,11 @@ state_out class allocated = if allocated == slots_of class then state.Full else 
 abbrev pub pages_more : SpanRecord → ℕ
 pages_more x = max (x.committed + 1) ((slot_of x.class * (x.provisioned + 1) + 4095) / 4096)
 
+-- the slots that are provisioned then: as many as fit into those pages of 4096 bytes, and no more than the class has
 abbrev pub slots_more : SpanRecord → ℕ
 slots_more x = min (4096 * pages_more x / slot_of x.class) (slots_of x.class)
 
+-- the record of a span that starts there, with those slots and pages: its list begins at the first slot that wasn't provisioned before
 abbrev pub with_more : ℕ → SpanRecord → SpanRecord
 with_more at x = record x {
   provisioned = slots_more x;
@@ -92,6 +97,7 @@ pub record IsTakeAt (v : View) (l : ShelfParts) (at : ℕ) (r : Root) (s : Span)
   pub slot : HasSlotAt v l at r s
   pub held : HoldsMore v s
 
+-- A slot can be taken from s, whose record is x and whose first slot is t, and the seat holds what is provisioned then.
 pub record IsTakeOf (v : View) (l : ShelfParts) (x : SpanRecord) (t : Title) (r : Root) (s : Span) : Type 0 where
   pub slot : HasSlotOf v l x t r s
   pub held : HoldsMore v s
@@ -112,7 +118,7 @@ pub record IsReadyAt (v : View) (l : ShelfParts) (x : SpanRecord) (t : Title) (r
 abbrev pub take_of : Span → Root → Took
 take_of s r = taken_from (Some (record { span = s; root = r })) r
 
--- One take in parts: from the span that was found, or is new, a slot can be taken, and that is the root's one take. Where none was
+-- One take in parts: from the span that was found, or is new, a slot can be taken, and that is the root's one take. If none was
 -- found, the root has no slot to give.
 pub record TakesAreInParts : Type 0 where
   pub found : (v : View) (l : ShelfParts) (class at : ℕ) (r : Root) → IsSound r → class < class_count → found_start (span_for class r) ≡ Some at →

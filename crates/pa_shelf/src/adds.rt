@@ -29,7 +29,7 @@ pub(crate) const END: u32 = 127;
 
 impl Shelf {
     /// Where the span starts from which a slot of the class is taken: the one that is listed, and else a new one, if the current super
-    /// page has room for it. `None` exactly where the pool has to be asked. It allocates nothing.
+    /// page has room for it. `None` exactly if the pool has to be asked. It allocates nothing.
     pub fn span_for(&mut self, region: &Region, own: &mut Seat, class: Class) -> Option<u32>
         requires region { own.old.region ≡ region.now }
         requires able { (r : Root) × IsSound r × ShowsRoot own.old.view self.old r }
@@ -46,7 +46,7 @@ impl Shelf {
     }
 
     /// Starts a span of the class on the next free page of the current super page: none of its slots is provisioned. It answers
-    /// where the span starts, `None` exactly where there is no room for it. It allocates nothing.
+    /// where the span starts, `None` exactly if there is no room for it. It allocates nothing.
     pub fn add_span(&mut self, region: &Region, own: &mut Seat, class: Class) -> Option<u32>
         requires region { own.old.region ≡ region.now }
         requires able { (r : Root) × IsSound r × ShowsRoot own.old.view self.old r }
@@ -119,7 +119,7 @@ impl Shelf {
     }
 }
 
-// Puts the record of a span of the class, which isn't in use, at a page whose record isn't in use. The lists stand as before.
+// Puts the record of a span of the class, which isn't in use, at a page whose record isn't in use. The lists are right as before.
 fn record_in<S: SpanStore>(lists: &SpanLists, store: &mut S, class: Class, at: u32)
     requires stand { Stand lists.now (S.spans store.old) (S.has store.old) }
     requires has { S.has store.old at }

@@ -19,8 +19,8 @@ use pa_region::{Region, Seat};
 use pa_spans::Span;
 
 impl Shelf {
-    /// Puts a slot in front of the list of its span, which starts at this offset. The span is empty then if no slot of it is out,
-    /// and active else. It answers the empty span of least turn exactly where 17 are empty then. It allocates nothing.
+    /// Puts a slot at the front of the list of its span, which starts at this offset. The span is empty then if no slot of it is out,
+    /// and active else. It answers the empty span of least turn exactly if 17 are empty then. It allocates nothing.
     pub fn put_back(
         &mut self,
         region: &Region,
@@ -50,7 +50,7 @@ impl Shelf {
         self.change(region, own, at, with_front(span, start), to)
     }
 
-    /// Takes a slot back to its span, which starts at this offset: it is in front of the span's list then, and of 17 empty spans
+    /// Takes a slot back to its span, which starts at this offset: it is at the front of the span's list then, and of 17 empty spans
     /// the one of least turn is decommitted. It allocates nothing.
     pub fn give_back(&mut self, region: &Region, own: &mut Seat, at: u32, title: Title)
         requires region { own.old.region ≡ region.now }
@@ -87,7 +87,7 @@ impl Shelf {
     }
 }
 
-// Puts a slot in front of the chain of the span that has this record.
+// Puts a slot at the front of the chain of the span that has this record.
 fn push_onto(region: &Region, own: &mut Seat, span: &Span, title: Title)
     requires region { own.old.region ≡ region.now }
     requires able { 0 < free_of own.old.view title }
@@ -132,7 +132,7 @@ fn with_front(span: Span, start: u32) -> Span
     }
 }
 
-// The state of a span with so many slots out, once one of them came back.
+// The state of a span with this many slots out, once one of them came back.
 fn state_back(allocated: u16) -> State
     requires { 1 ≤ allocated }
     ensures { result ≡ state_with (allocated - 1) }

@@ -11,7 +11,7 @@ use pa_buckets::State;
 use pa_spans::{Span, SpanLists, SpanStore};
 
 // Puts a span in the place of the one at this offset, in the same list, and moves it into the state. It answers the empty span of
-// least turn exactly where 17 are empty then.
+// least turn exactly if 17 are empty then.
 pub(crate) fn change_in<S: SpanStore>(
     lists: &mut SpanLists,
     store: &mut S,

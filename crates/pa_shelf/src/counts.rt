@@ -1,8 +1,6 @@
 //! What a root has, by its records.
-ghost use Rattle.std.specs.Prelude.{◌≡◌, ℕ, ◌+◌, ◌*◌, ◌<◌, ◌≤◌, ◌^◌, length, sum_by, All, Contains};
-ghost use Rattle.pa_machine.specs.declared.title.Title.{Title as Slot};
+ghost use Rattle.std.specs.Prelude.{◌≡◌, ℕ, ◌+◌, ◌<◌, ◌≤◌, length, All, Contains};
 ghost use Rattle.pa_layout.specs.Limits.{most_supers};
-ghost use Rattle.pa_layout.specs.Pages.{supers_for};
 ghost use Rattle.pa_record.specs.declared.taken.SuperPage.{SuperPage as Super};
 ghost use Rattle.pa_record.specs.Root.{Root};
 ghost use Rattle.pa_record.specs.Sound.{IsSound};
@@ -15,10 +13,9 @@ use crate::adds::END;
 use crate::finds::starts_none;
 use crate::shelf::Shelf;
 use pa_buckets::{State, slot_size, span_of};
-use pa_layout::{SUPER_PAGE, SYSTEM_PAGE, page_start, supers_for};
-use pa_machine::Title;
+use pa_layout::{SUPER_PAGE, SYSTEM_PAGE, page_start};
 use pa_meta::read_meta;
-use pa_record::{Census, SuperPage, Tally};
+use pa_record::{Census, SuperPage, Tally, mapped_of};
 use pa_region::{Region, Seat};
 use pa_spans::Span;
 
@@ -92,7 +89,7 @@ fn sums_of(region: &Region, own: &mut Seat, supers: &[SuperPage]) -> Sums
     sums
 }
 
-// With the spans of a super page. After a span's record that of the page behind it is next.
+// With the spans of a super page. After a span's record that of the page after it is next.
 fn with_super_page(region: &Region, own: &mut Seat, number: u32, sums: Sums) -> Sums
     requires region { own.old.region ≡ region.now }
     requires number { number < most_supers }
@@ -141,28 +138,4 @@ fn count_of(span: &Span, is: State) -> u32
     ensures { result ≡ one_if is span.now }
 {
     u32::from(span.state == is)
-}
-
-// The bytes of the direct maps' slots, and the super pages of the direct maps.
-#[derive(Clone, Copy)]
-struct Mapped {
-    bytes: u64,
-    supers: u64,
-}
-
-// They are counted in one pass.
-fn mapped_of(maps: &[Title]) -> Mapped
-    requires { length maps.now ≤ 2147483647 }
-    ensures bytes { result.bytes ≡ sum_by (λ (t : Slot). t.len) maps.now }
-    ensures low_bytes { result.bytes ≤ 2 ^ 63 }
-    ensures supers { result.supers ≡ sum_by (λ (t : Slot). supers_for t.len) maps.now }
-    ensures low_supers { result.supers ≤ 2049 * 2147483647 }
-{
-    let mut bytes = 0;
-    let mut supers = 0;
-    for map in maps {
-        bytes += u64::from(map.len);
-        supers += u64::from(supers_for(map.len));
-    }
-    Mapped { bytes, supers }
 }

@@ -18,7 +18,7 @@ use pa_meta::read_meta;
 use pa_region::{Region, Seat};
 use pa_spans::Span;
 
-/// Slots of a span that lie side by side: so many, from this one on.
+/// Slots of a span that lie side by side: this many, from this one on.
 #[derive(Clone, Copy)]
 pub struct NewSlots {
     pub first: Title,
@@ -27,7 +27,7 @@ pub struct NewSlots {
 
 impl Shelf {
     /// The slots that have to be cut before a slot is taken from the span that starts at this offset, of which not all slots are
-    /// out: where its list is empty, those that are provisioned then and were never made. Else there are none.
+    /// out: if its list is empty, those that are provisioned then and were never made. Else there are none.
     pub fn to_cut(&self, region: &Region, own: &mut Seat, at: u32) -> NewSlots
         requires region { own.old.region ≡ region.now }
         requires able { (r : Root) × (s : RootSpan) × HasSlotAt own.old.view self.now at r s }

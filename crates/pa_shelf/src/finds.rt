@@ -40,7 +40,7 @@ impl Shelf {
     }
 
     /// Where the span starts from which a slot of the class is taken: of its active spans the one that became so last, else of the
-    /// empty ones, else of the decommitted ones. `None` exactly where there is none of these.
+    /// empty ones, else of the decommitted ones. `None` exactly if there is none of these.
     pub fn listed(&self, class: Class) -> Option<u32>
         ensures { (v : View) (r : Root) → IsSound r → RecordsRoot v self.now r → result ≡ start_of (listed class r.spans) }
     {
@@ -52,7 +52,7 @@ impl Shelf {
     }
 }
 
-// The first of two, or the second where there is no first one.
+// The first of two, or the second if there is no first one.
 fn first_some(first: Option<u32>, second: Option<u32>) -> Option<u32>
     ensures { result ≡ first_some first second }
 {

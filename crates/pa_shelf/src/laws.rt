@@ -18,7 +18,7 @@ pub fn shown_stays()
     ensures { ShownStays }
 {}
 
-/// The law that a root which is shown stays shown where titles are cut out of raw bytes beside its records.
+/// The law that a root which is shown stays shown when titles are cut out of raw bytes beside its records.
 pub fn cuts_keep_shown()
     ensures { CutsKeepShown }
 {}

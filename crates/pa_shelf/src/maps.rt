@@ -9,7 +9,7 @@ use crate::shelf::Shelf;
 use pa_machine::{SlotName, Title};
 
 impl Shelf {
-    /// A direct map joins, behind the others. It allocates nothing.
+    /// A direct map joins, after the others. It allocates nothing.
     pub fn map(&mut self, title: Title)
         requires few { length self.old.maps < most_supers }
         ensures parts { self.new ≡ record self.old { maps = self.old.maps ++ title ∷ [] } }
@@ -18,7 +18,7 @@ impl Shelf {
         self.maps.push_reserved(title);
     }
 
-    /// The direct map of this name goes; nothing changes where there is none.
+    /// The direct map of this name goes; nothing changes if there is none.
     pub fn unmap(&mut self, name: SlotName)
         ensures parts { self.new ≡ record self.old { maps = without_map name self.old.maps } }
         ensures shown { (v : View) (r : Root) → ShowsRoot v self.old r → ShowsRoot v self.new (unmapped name r) }

@@ -24,7 +24,7 @@ use std::marker::Model;
 // The most super pages of a region, and so the most direct maps.
 const SUPERS: usize = 16;
 
-/// The super pages of a root, its direct maps and the heads of its lists of spans. The spans' records stand in the metadata
+/// The super pages of a root, its direct maps and the heads of its lists of spans. The spans' records are in the metadata
 /// pages, and their free slots in chains: the root's seat has both. Contracts see it as the record `ShelfParts`; which root it shows,
 /// `ShowsRoot` says.
 #[derive(Drop)]
@@ -73,7 +73,7 @@ impl Shelf {
         let _ = &self.supers;
     }
 
-    /// Decommits the empty span of least turn: its free list is emptied, and its pages go back to the system. Nothing changes where
+    /// Decommits the empty span of least turn: its free list is emptied, and its pages go back to the system. Nothing changes if
     /// no span is empty. It allocates nothing.
     pub fn decommit_oldest(&mut self, region: &Region, own: &mut Seat)
         requires region { own.old.region ≡ region.now }
@@ -109,7 +109,7 @@ impl Shelf {
     }
 
     // Puts a span in the place of the one at this offset, in the same list, and moves it into the state. It answers the empty span of
-    // least turn exactly where 17 are empty then.
+    // least turn exactly if 17 are empty then.
     pub(crate) fn change(
         &mut self,
         region: &Region,

@@ -114,7 +114,7 @@ fn without_front(span: Span, next: u32) -> Span
     }
 }
 
-// The state of a span of this class with so many slots out, once one of them was taken.
+// The state of a span of this class with this many slots out, once one of them was taken.
 fn state_out(class: Class, allocated: u16) -> State
     ensures { result ≡ state_out class allocated }
 {
@@ -174,7 +174,7 @@ pub(crate) fn with_more(span: Span, at: u32) -> Span
     }
 }
 
-// Puts slots that are side by side on a new chain, from the last to the first: so many, from the one with this number on.
+// Puts slots that are side by side on a new chain, from the last to the first: this many, from the one with this number on.
 fn push_all(region: &Region, own: &mut Seat, first: Title, from: u32, count: u32)
     requires region { own.old.region ≡ region.now }
     requires able { (n : ℕ) → from ≤ n → n < from + count → 0 < free_of own.old.view (slot_beside first n) }

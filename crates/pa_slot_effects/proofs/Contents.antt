@@ -271,7 +271,7 @@ content_stays ps x word content next s w p runs h none held st =
     } in
     content_kept ps (ps ++ x ∷ []) s (number_of (word s)) (number_of (next s)) (content s) quiet (h.held s held)
 
--- a slot that was held before its step where it is held after
+-- a slot that was held before its step if it is held after
 pub held_before : (p : Step) (w : ℕ) → (p ≡ steps.Issue → ⊥) → held_of (stepped p w) ≡ 1 → CanStep p w → held_of w ≡ 1
 held_before steps.Issue w ne h c = absurd (ne refl)
 held_before steps.Copy w ne h c = omega (arith, h)

@@ -1,4 +1,4 @@
--- Sums over registers and cells, and what changes where one of them does.
+-- Sums over registers and cells, and what changes when one of them does.
 use Rattle.std.proofs.Common.{◌≡◌, ℕ, ◌+◌, ◌*◌, ◌<◌, ◌≤◌, inl, inr, refl, ap, arith, zero, suc}
 use Rattle.std.proofs.lemmas.Bool.{cases_eq, eq-eqb, ne_eqb}
 use Rattle.pa_record.specs.declared.history.Held.{Held}

@@ -62,7 +62,7 @@ module _ (word next usable later : SlotName → ℕ) (cells after : ℕ → List
   row_like (ops.Swap cell reg) regs answer then' used h = (h.0, h.1, h.2, like.exchanges cell h.0 h.1 h.3, h.4, h.5)
   row_like ops.Purge regs answer then' used h = h
 
-  -- the same rows where more was stepped on, made and exchanged
+  -- the same rows if more was stepped on, made and exchanged
   pub rows_on : (all : AllRegs) (ps : List Played) (end : AllRegs) → RowsNamed word usable cells all ps end → RowsNamed next later after all ps end
   rows_on all [] end h = h
   rows_on all (x ∷ xs) end h = (

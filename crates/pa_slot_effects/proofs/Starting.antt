@@ -68,7 +68,7 @@ phase_goes_on threads ls ps a h =
       handles = h.handles;
     }
 
--- with other contents and usable numbers where they don't count
+-- with other contents and usable numbers if they don't count
 changed : (threads : ℕ) (ls : List Line) (ps : List Played) (a : Shown) (content usable : SlotName → ℕ) → IsToldTo threads ls ps a
     → ((s : SlotName) → held_of (a.word s) ≡ 1 → content s ≡ a.content s) → ((s : SlotName) → 0 < a.word s → usable s ≡ a.usable s)
     → IsToldTo threads ls ps (record a { content = content; usable = usable })

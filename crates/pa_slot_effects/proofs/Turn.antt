@@ -146,7 +146,7 @@ turn_extends threads ls ps thread op answer a b h t =
       handles = t.handles;
     }
 
--- the registers where none of the thread's is changed
+-- the registers if none of the thread's is changed
 pub same_regs : (regs : AllRegs) (thread : ℕ) → regs ≡ with_thread regs thread (regs thread)
 same_regs regs thread = fun_ext (λ t. elim (cases_eq t thread) [
   | inl e ↦ rw (eq-eqb t thread e) (ap regs e)

@@ -33,6 +33,7 @@ use Rattle.pa_slot_effects.specs.Turns.{CanPlay, LeadsTo, Names, HoldsNone, Tell
 abbrev pub nothing_shown : Shown
 nothing_shown = record { regs = no_regs; held = λ k. Nothing; cells = λ k. []; word = λ s. 0; content = λ s. 0; usable = λ s. 0 }
 
+-- no lines and no records leave this, for any number of threads
 abbrev pub StartsTold : Type 0
 StartsTold = (threads : ℕ) → IsToldTo threads [] [] nothing_shown
 
@@ -119,6 +120,7 @@ pub record LetsStep (a : Shown) (thread reg : ℕ) : Type 0 where
   pub writes : (s : SlotName) → a.regs thread reg ≡ Own s → refs_of (a.word s) ≡ 0 → CanStep steps.Write (a.word s)
   pub issues : (s : SlotName) → held_of (a.word s) ≡ 0 → refs_of (a.word s) ≡ 0 → CanStep steps.Issue (a.word s)
 
+-- this holds for each register of a thread that can play the next line
 abbrev pub HandleLets : Type 0
 HandleLets =
     (threads : ℕ) (ls : List Line) (ps : List Played) (a : Shown) (thread reg : ℕ) → CanPlay threads ls ps a thread → reg < register_count →
@@ -139,5 +141,6 @@ pub record IsToldRight (ls : List Line) (ps : List Played) (a : Shown) : Type 0 
   pub numbers : AreNumbersInFileOrder (marks_of ps)
   pub exact : AreExactContents ps
 
+-- lines and records that leave what is shown are right
 abbrev pub EndsRight : Type 0
 EndsRight = (threads : ℕ) (ls : List Line) (ps : List Played) (a : Shown) → IsToldTo threads ls ps a → IsToldRight ls ps a

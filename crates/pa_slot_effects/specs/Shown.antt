@@ -22,12 +22,15 @@ pub record Shown : Type 0 where
 abbrev pub with_reg : AllRegs → ℕ → ℕ → Reg → AllRegs
 with_reg regs thread reg x = with_thread regs thread (with (regs thread) reg x)
 
+-- a number for each slot, with that of slot s changed
 abbrev pub with_slot : (SlotName → ℕ) → SlotName → ℕ → SlotName → ℕ
 with_slot f s n t = if same_slot t s then n else f t
 
+-- what each cell holds, with one cell's changed
 abbrev pub with_held : (ℕ → Held) → ℕ → Held → ℕ → Held
 with_held held cell h k = if k == cell then h else held k
 
+-- the histories of the cells, with one exchange more at the end of one
 abbrev pub with_entry : (ℕ → List CellEntry) → ℕ → CellEntry → ℕ → List CellEntry
 with_entry cells cell e k = if k == cell then cells k ++ e ∷ [] else cells k
 
@@ -48,6 +51,7 @@ owns s (Ref t) = 0
 owns s Freed = 0
 owns s Cleared = 0
 
+-- 1 if the register is a raw_ptr to the slot, else 0
 abbrev pub points : SlotName → Reg → ℕ
 points s Empty = 0
 points s (Own t) = 0

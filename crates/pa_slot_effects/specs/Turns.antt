@@ -42,6 +42,7 @@ Names s (Ref t) = t ≡ s
 Names s Freed = ⊥
 Names s Cleared = ⊥
 
+-- the register has no handle: it is empty, freed or cleared
 abbrev pub HoldsNone : Reg → Type 0
 HoldsNone Empty = Unit {0}
 HoldsNone (Own s) = ⊥
@@ -58,24 +59,28 @@ after_made a thread reg seen = record a {
   content = with_slot a.content seen.slot 0;
 }
 
+-- after a copy the register `to` is a raw_ptr to the slot, and the slot's word is the one after the step
 abbrev pub after_copy : Shown → ℕ → ℕ → Seen → Shown
 after_copy a thread to seen = record a {
   regs = with_reg a.regs thread to (Ref seen.slot);
   word = with_slot a.word seen.slot (stepped steps.Copy seen.found.0);
 }
 
+-- after a reset the register is cleared, and the slot's word is the one after the step
 abbrev pub after_reset : Shown → ℕ → ℕ → Seen → Shown
 after_reset a thread reg seen = record a {
   regs = with_reg a.regs thread reg Cleared;
   word = with_slot a.word seen.slot (stepped steps.Reset seen.found.0);
 }
 
+-- after a free the register is freed, and the slot's word is the one after the step
 abbrev pub after_free : Shown → ℕ → ℕ → Seen → Shown
 after_free a thread reg seen = record a {
   regs = with_reg a.regs thread reg Freed;
   word = with_slot a.word seen.slot (stepped steps.Free seen.found.0);
 }
 
+-- after a write the slot's content is the value, and its word is the one after the step
 abbrev pub after_write : Shown → ℕ → Seen → Shown
 after_write a value seen = record a {
   word = with_slot a.word seen.slot (stepped steps.Write seen.found.0);
@@ -86,6 +91,7 @@ after_write a value seen = record a {
 abbrev pub exchange_of : Shown → ℕ → ℕ → ℕ → ℕ → CellEntry
 exchange_of a line thread cell reg = record { line = line; gave = handle_of (a.regs thread reg); found = a.held cell }
 
+-- after an exchange the register and the cell have each other's handle, and the cell's history has one entry more
 abbrev pub after_swap : Shown → ℕ → ℕ → ℕ → ℕ → Shown
 after_swap a line thread cell reg = record a {
   regs = with_reg a.regs thread reg (reg_of (a.held cell));

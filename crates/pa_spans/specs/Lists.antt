@@ -42,6 +42,7 @@ list_head l class state.Empty = slice_index l.empty class
 list_head l class state.Decommitted = slice_index l.decommitted class
 list_head l class state.Full = 0
 
+-- the lists with this head for a class and a state; as they are if spans in the state are in no list
 abbrev pub with_head : ℕ → State → ℕ → SpanListParts → SpanListParts
 with_head class state.None at l = l
 with_head class state.Active at l = record l { active = slice_set l.active class at }
@@ -53,7 +54,7 @@ with_head class state.Full at l = l
 abbrev pub top_of : SpanListParts → ℕ → State → Option ℕ
 top_of l class a = if list_head l class a == 0 then None else Some (list_head l class a)
 
--- n is the member that is nearest before u: no member is between them. It is 0 where no member is before u.
+-- n is the member that is nearest before u: no member is between them. It is 0 if no member is before u.
 abbrev pub IsNearest : (ℕ → Type 0) → (ℕ → ℕ → Type 0) → ℕ → ℕ → Type 0
 IsNearest Member Before u n =
     ((n ≡ 0) × ((v : ℕ) → Member v → Before v u → ⊥))
@@ -63,10 +64,11 @@ IsNearest Member Before u n =
 abbrev pub IsNextByTurn : (ℕ → Type 0) → (ℕ → ℕ) → ℕ → ℕ → Type 0
 IsNextByTurn Member turn u n = IsNearest Member (λ v w. turn v < turn w) u n
 
+-- n is the member with the next greater turn than u, 0 if there is none
 abbrev pub IsPreviousByTurn : (ℕ → Type 0) → (ℕ → ℕ) → ℕ → ℕ → Type 0
 IsPreviousByTurn Member turn u n = IsNearest Member (λ v w. turn w < turn v) u n
 
--- h is the member with the greatest turn, 0 where there is no member
+-- h is the member with the greatest turn, 0 if there is no member
 abbrev pub IsHead : (ℕ → Type 0) → (ℕ → ℕ) → ℕ → Type 0
 IsHead Member turn h = ((h ≡ 0) × ((v : ℕ) → Member v → ⊥)) ⊎ (Member h × ((v : ℕ) → Member v → turn v ≤ turn h))
 
@@ -112,6 +114,7 @@ pub record Stand (l : SpanListParts) (spans : ℕ → Span) (has : ℕ → Type 
 abbrev pub with_next : ℕ → ℕ → (ℕ → Span) → ℕ → Span
 with_next at n spans u = if nat_lt 0 at && (u == at) then record (spans u) { next = n } else spans u
 
+-- the spans with n as the previous one of the span at a place; as they are if the place is 0
 abbrev pub with_previous : ℕ → ℕ → (ℕ → Span) → ℕ → Span
 with_previous at n spans u = if nat_lt 0 at && (u == at) then record (spans u) { previous = n } else spans u
 
@@ -119,15 +122,16 @@ with_previous at n spans u = if nat_lt 0 at && (u == at) then record (spans u) {
 abbrev pub without : Span → (ℕ → Span) → ℕ → Span
 without s spans = with_previous s.next s.previous (with_next s.previous s.next spans)
 
--- s in another state, in front of the list with this head, with this turn
+-- s in another state, at the front of the list with this head, with this turn
 abbrev pub in_front_of : ℕ → State → ℕ → Span → Span
 in_front_of head to turn s = record s { state = to; turn = turn; previous = 0; next = head }
 
+-- the spans with s in its new state and turn in front of this head, which names it as its previous one
 abbrev pub in_front : ℕ → Span → State → ℕ → ℕ → (ℕ → Span) → ℕ → Span
 in_front at s to head turn spans =
     with_previous head at (λ u. if u == at then in_front_of head to turn s else spans u)
 
--- the lists without the span s at a place, and with it in front of those of a class and a state
+-- the ring of empty spans without this one, if the state that it leaves is Empty
 abbrev pub ring_without : ℕ → State → List ℕ → List ℕ
 ring_without at state.None ring = ring
 ring_without at state.Active ring = ring
@@ -135,6 +139,7 @@ ring_without at state.Empty ring = filter (λ u. not (u == at)) ring
 ring_without at state.Decommitted ring = ring
 ring_without at state.Full ring = ring
 
+-- the ring of empty spans with this one at its end, if the state that it enters is Empty
 abbrev pub ring_with : ℕ → State → List ℕ → List ℕ
 ring_with at state.None ring = ring
 ring_with at state.Active ring = ring
@@ -142,22 +147,27 @@ ring_with at state.Empty ring = ring ++ at ∷ []
 ring_with at state.Decommitted ring = ring
 ring_with at state.Full ring = ring
 
+-- the heads without s: if s was the first of its list, the head is the one after it, 0 if there is none
 abbrev pub unheaded : Span → SpanListParts → SpanListParts
 unheaded s l = if s.previous == 0 then with_head s.class s.state s.next l else l
 
+-- the heads and the ring without the span s at this place
 abbrev pub lists_without : ℕ → Span → SpanListParts → SpanListParts
 lists_without at s l = record (unheaded s l) { ring = ring_without at s.state l.ring }
 
+-- the lists with this span in front for a class and a state, if that has lists, and at the ring's end if it is Empty; the next turn is 1
+-- greater
 abbrev pub lists_with : ℕ → ℕ → State → SpanListParts → SpanListParts
 lists_with at class to l = record (with_head class to at l) { ring = ring_with at to l.ring; turn = l.turn + 1 }
 
 -- The span at this place enters a state. Nothing changes if it is in the state. Else it leaves its list, and gets the state, the next
--- turn and the place in front of its new list.
+-- turn and the place at the front of its new list.
 abbrev pub spans_entered : ℕ → State → SpanListParts → (ℕ → Span) → ℕ → Span
 spans_entered at to l spans u =
     if same_state (spans at).state to then spans u
     else in_front at (spans at) to (list_head (lists_without at (spans at) l) (spans at).class to) l.turn (without (spans at) spans) u
 
+-- the lists after the span s at this place entered the state: as they were if it was in that state already
 abbrev pub lists_entered : ℕ → State → SpanListParts → Span → SpanListParts
 lists_entered at to l s = if same_state s.state to then l else lists_with at s.class to (lists_without at s l)
 
@@ -169,7 +179,7 @@ oldest_of ring = if length ring == 17 then Some (slice_index ring 0) else None
 abbrev pub first_of_ring : List ℕ → Option ℕ
 first_of_ring ring = if length ring == 0 then None else Some (slice_index ring 0)
 
--- the span that is put in the place of s stands in the same list between the same neighbours; the class changes only if s isn't in use
+-- the span that is put in the place of s is in the same list between the same neighbours; the class changes only if s isn't in use
 pub record StaysListed (s t : Span) : Type 0 where
   pub class : (t.class ≡ s.class) ⊎ (s.state ≡ state.None)
   pub state : t.state ≡ s.state

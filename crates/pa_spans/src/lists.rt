@@ -18,7 +18,7 @@ const COUNT: usize = CLASSES as usize;
 const RING: usize = 17;
 
 /// The heads of the lists of spans of one class and state, and the ring of the empty ones. The lists themselves go on in the
-/// spans' records. Contracts see it as the record `SpanListParts`; whose lists they are, `Stand` says.
+/// spans' records. Contracts see it as the record `SpanListParts`; of which spans they are the lists, `Stand` says.
 #[derive(Drop)]
 pub struct SpanLists {
     active: [u32; COUNT],
@@ -37,7 +37,7 @@ impl Model for SpanLists {
 }
 
 impl SpanLists {
-    /// Lists with no span. They stand for a store whose spans all have the state None (`lists_begin`).
+    /// Lists with no span. They are those of a store whose spans all have the state None (`lists_begin`).
     pub fn new() -> SpanLists
         ensures { result ≡ no_lists }
     {
@@ -50,7 +50,7 @@ impl SpanLists {
         }
     }
 
-    /// The span of the class that entered the state last, by its offset in bytes. `None` exactly where there is none.
+    /// The span of the class that entered the state last, by its offset in bytes. `None` exactly if there is none.
     pub fn top(&self, class: Class, state: State) -> Option<u32>
         ensures { result ≡ top_of self.now class state }
     {
@@ -58,8 +58,8 @@ impl SpanLists {
         if head == 0 { None } else { Some(head) }
     }
 
-    /// Moves the span at this offset into the state, with the next turn, in front of the list of its class and that state.
-    /// Nothing changes if it is in the state. It answers the empty span of least turn exactly where 17 are empty then.
+    /// Moves the span at this offset into the state, with the next turn, at the front of the list of its class and that state.
+    /// Nothing changes if it is in the state. It answers the empty span of least turn exactly if 17 are empty then.
     pub fn enter<S: SpanStore>(&mut self, store: &mut S, at: u32, to: State) -> Option<u32>
         requires stand { Stand self.old (S.spans store.old) (S.has store.old) }
         requires has { S.has store.old at }
@@ -89,7 +89,7 @@ impl SpanLists {
         self.ring.len() as u32
     }
 
-    /// The empty span of least turn, which a purge decommits next. `None` exactly where no span is empty.
+    /// The empty span of least turn, which a purge decommits next. `None` exactly if no span is empty.
     pub fn first_empty(&self) -> Option<u32>
         ensures { result ≡ first_of_ring self.now.ring }
     {
@@ -101,7 +101,7 @@ impl SpanLists {
     }
 
     /// Puts a span in the place of the one at this offset. It has the same state, turn and neighbours, and another class only
-    /// if it isn't in use. So the lists stand as before.
+    /// if it isn't in use. So the lists are right as before.
     pub fn put<S: SpanStore>(&self, store: &mut S, at: u32, span: Span)
         requires stand { Stand self.now (S.spans store.old) (S.has store.old) }
         requires has { S.has store.old at }
@@ -132,7 +132,7 @@ impl SpanLists {
         set_previous(store, span.next, span.previous);
     }
 
-    // Puts the span in front of the list of a state.
+    // Puts the span at the front of the list of a state.
     fn put_in<S: SpanStore>(&mut self, store: &mut S, at: u32, span: Span, to: State)
         requires has { S.has store.old at }
         requires head { list_head self.old span.class to ≢ 0 → S.has store.old (list_head self.old span.class to) }
@@ -160,7 +160,7 @@ impl SpanLists {
         self.enter_ring(at, to);
     }
 
-    // The head of the list of the class and the state, 0 where there is none.
+    // The head of the list of the class and the state, 0 if there is none.
     fn head(&self, class: Class, state: State) -> u32
         ensures { result ≡ list_head self.now class state }
     {
@@ -207,7 +207,7 @@ impl SpanLists {
         self.turn += 1;
     }
 
-    // The empty span of least turn, where 17 are empty.
+    // The empty span of least turn, if 17 are empty.
     fn oldest(&self) -> Option<u32>
         ensures { result ≡ oldest_of self.now.ring }
     {

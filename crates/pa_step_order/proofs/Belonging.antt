@@ -1,35 +1,35 @@
 -- The moments of the order, poisonings among them, are such as a timeline needs: each finds its number, and each poisoning comes before
 -- its free.
-use Rattle.std.proofs.Common.{◌≡◌, ℕ, List, [], ◌∷◌, ◌++◌, map, length, take, Some, refl, sym, ◌∙◌, ap, subst, arith, inl, inr, append_assoc, append-nil}
+use Rattle.std.proofs.Common.{◌≡◌, ℕ, List, [], ◌∷◌, ◌++◌, length, take, Some, refl, sym, ◌∙◌, ap, subst, arith, inl, inr, append_assoc, append-nil}
 use Rattle.std.specs.Prelude.{Contains, option_map, option_and_then}
+use Rattle.std.proofs.Math.Seq.{take-append_seam}
 use Rattle.std.proofs.lemmas.List.Elements.{Contains-append_cases}
 use Rattle.pa_machine.specs.declared.title.Title.{Title}
 use Rattle.pa_machine.specs.declared.word.SlotName.{SlotName}
 use Rattle.pa_machine.specs.declared.word.Step.TheVariants as steps
 use Rattle.pa_machine.specs.Count.{number_of}
 use Rattle.pa_region.specs.declared.view.Entry.TheVariants.{Counted}
-use Rattle.pa_region.specs.Order.{Stamped, OneStep, Logged, Spoiled, logged_among, spoiled, AreInPlace}
-use Rattle.pa_lists.proofs.Elements.{in_middle}
+use Rattle.pa_region.specs.Order.{Stamped, OneStep, Logged, Spoiled, logged_among}
+use Rattle.pa_lists.proofs.Elements.{in_middle, length_same}
 use Rattle.pa_lists.proofs.Joined.{map_in}
 use Rattle.pa_lists.proofs.Members.{in_cases, of_some}
 use Rattle.pa_lists.proofs.Parts.{parts_at}
-use Rattle.pa_rules.specs.Roots.{Journals}
 use Rattle.pa_logs.specs.Told.{ToldRecord, played_in}
-use Rattle.pa_logs.specs.Touches.{title_of, StepMade, step_by, AreTold}
-use Rattle.pa_logs.specs.Listed.{AreRising}
+use Rattle.pa_logs.specs.Touches.{title_of, StepMade, step_by}
 use Rattle.pa_timeline.specs.Timeline.{Spoiling, Moment, counted_steps}
 use Rattle.pa_timeline.proofs.Outlined.{counts_stay}
-use Rattle.pa_step_order.proofs.Named.{Named, AreNamed, named_in}
+use Rattle.pa_step_order.proofs.Named.{Named, named_in}
 use Rattle.pa_step_order.proofs.Moments.{moment_of, moments_in, moment_from}
-use Rattle.pa_step_order.proofs.Found.{IsFound, found_in_logs}
+use Rattle.pa_step_order.proofs.Found.{found_in_logs}
 use Rattle.pa_step_order.proofs.Stays.{FindsItsNumber, found_stays}
 use Rattle.pa_step_order.proofs.Marked.{IsBeforeFree}
-use Rattle.pa_step_order.proofs.Laid.{stamped_of, back_at, front_at, first, spoiling, piece, laid, cut_laid, never_spoils, parted, IsNext, next_named, laid_stays, length_same, take_len}
+use Rattle.pa_step_order.proofs.Ordered.{OrderedRun}
+use Rattle.pa_step_order.proofs.Laid.{stamped_of, back_at, front_at, first, spoiling, piece, laid, cut_laid, never_spoils, parted, IsNext, next_named, laid_stays}
 use Rattle.pa_step_order.proofs.Owned.{free_entry, IsFirstFree, owner, IsStepOf, step_of_entry, number_named, counts_front, counts_past, step_named}
 
-module _ (sizes : SlotName → ℕ) (ts : List ToldRecord) (told : AreTold sizes ts) (rising : AreRising ts) (all : List Stamped) (ns : List Named)
-    (are : AreNamed ts all ns) (roots : Journals) (rule : IsFound all)
-    (order : List OneStep) (agree : map stamped_of ns ≡ logged_among order) (placed : AreInPlace order) (closed : (t : Title) → spoiled t order ≡ 0) where
+module _ (run : OrderedRun) where
+  open run use {sizes, ts, told, rising, all, ns, are, roots, rule, order, agree, placed, closed}
+
   abbrev pub front_count : SlotName → List Named → ℕ
   front_count s a = counted_steps s (moments_in roots a)
 
@@ -39,7 +39,7 @@ module _ (sizes : SlotName → ℕ) (ts : List ToldRecord) (told : AreTold sizes
 
   pub front_all : front_at ns order ≡ ns
   front_all =
-      ap (λ k. take k ns) (length_same stamped_of ns (logged_among order) agree) ∙ ap (take (length ns)) (sym (append-nil ns)) ∙ take_len ns []
+      ap (λ k. take k ns) (length_same stamped_of ns (logged_among order) agree) ∙ ap (take (length ns)) (sym (append-nil ns)) ∙ take-append_seam ns []
 
   pub finds : FindsItsNumber (laid roots ns order)
   finds = found_stays (laid roots ns order)

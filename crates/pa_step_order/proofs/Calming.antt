@@ -1,5 +1,5 @@
 -- A read gives what the steps before it left, and nothing fills its slot between its look and the read.
-use Rattle.std.proofs.Common.{◌≡◌, ℕ, ◌≤◌, eqb, Bool, true, List, [], ◌∷◌, ◌++◌, map, filter, Option, Some, None, ◌⊎◌, refl, sym, ◌∙◌, ap, subst, arith, inl, inr, append_assoc}
+use Rattle.std.proofs.Common.{◌≡◌, ℕ, ◌≤◌, eqb, Bool, true, List, [], ◌∷◌, ◌++◌, map, filter, Option, Some, None, refl, sym, ◌∙◌, ap, subst, arith, inl, inr, append_assoc}
 use Rattle.std.specs.Prelude.{Contains, AllPairs, find, option_map}
 use Rattle.std.specs.List.{cons_option}
 use Rattle.std.proofs.lemmas.Bool.{cases_Bool, eq-eqb, ne_eqb}
@@ -13,34 +13,34 @@ use Rattle.pa_machine.specs.Count.{number_of}
 use Rattle.pa_trace.specs.declared.script.Op.TheVariants as ops
 use Rattle.pa_record.specs.declared.entry.Seen.{Seen}
 use Rattle.pa_record.specs.declared.entry.Answer.{Answer}
-use Rattle.pa_record.specs.declared.root.RootEntry.{RootEntry}
 use Rattle.pa_region.specs.declared.view.Deeds.{Deeds}
 use Rattle.pa_region.specs.declared.view.Entry.{Entry}
 use Rattle.pa_region.specs.declared.view.Entry.TheVariants.{Counted, Looked, Read, Added, Entered, Uncut}
-use Rattle.pa_region.specs.Order.{Stamped, by_stake, OneStep, Logged, Spoiled, logged_among, spoiled, DoesNotFill, IsCalm, IsReadInPlace, IsEntryInPlace, AreInPlace}
+use Rattle.pa_region.specs.Order.{Stamped, by_stake, OneStep, Logged, Spoiled, logged_among, DoesNotFill, IsCalm, IsReadInPlace, IsEntryInPlace}
 use Rattle.pa_region.specs.Pairs.{last_entry}
 use Rattle.pa_region.proofs.OneRead.{quiet_handed}
 use Rattle.pa_lists.proofs.Elements.{in_middle, in_one}
-use Rattle.pa_lists.proofs.Joined.{map_cases, map_in, filter_cases, filter_in}
+use Rattle.pa_lists.proofs.Joined.{map_cases, map_in, filter_cases, filter_in, filter_here}
 use Rattle.pa_lists.proofs.Members.{first_in, later_in, in_cases, not_in_none, of_some, not_some}
 use Rattle.pa_lists.proofs.Pairs.{pairs_head}
 use Rattle.pa_lists.proofs.Parts.{parts_at, pairs_across, pairs_after}
+use Rattle.pa_lists.proofs.Cuts.{none_cons, last_split, only_front, only_one}
 use Rattle.pa_rules.specs.declared.played.Played.{Played}
 use Rattle.pa_rules.specs.Played.{mark_at}
 use Rattle.pa_rules.specs.Roots.{Journals}
-use Rattle.pa_logs.specs.Told.{ToldRecord, played_in}
-use Rattle.pa_logs.specs.Touches.{title_of, StepMade, step_by, is_touch, touches, IsReadTold, IsToldBy, AreTold}
-use Rattle.pa_logs.specs.Listed.{AreRising}
-use Rattle.pa_timeline.specs.Timeline.{Asking, Entering, Swapping, Looking, Loading, Spoiling, Counting, Moment, GivesAt}
+use Rattle.pa_logs.specs.Told.{played_in}
+use Rattle.pa_logs.specs.Touches.{title_of, StepMade, step_by, is_touch, touches, IsReadTold, IsToldBy}
+use Rattle.pa_timeline.specs.Timeline.{Looking, Loading, Spoiling, Counting, Moment, GivesAt}
 use Rattle.pa_timeline.proofs.Places.{moment}
-use Rattle.pa_step_order.specs.Segments.{look_part, entry_with, entering, part_of}
-use Rattle.pa_step_order.proofs.Looks.{look_looks}
-use Rattle.pa_step_order.proofs.Named.{Named, named_as, AreNamed, InLines, named_in, line_named, threads_rise}
+use Rattle.pa_step_order.specs.Segments.{look_part, part_of}
+use Rattle.pa_step_order.proofs.Looks.{look_looks, entered_is}
+use Rattle.pa_step_order.proofs.Named.{Named, named_as, InLines, named_in, line_named, threads_rise}
 use Rattle.pa_step_order.proofs.Moments.{moment_of, moments_in, moment_from}
-use Rattle.pa_step_order.proofs.Found.{IsFound, found_in_logs}
+use Rattle.pa_step_order.proofs.Found.{found_in_logs}
 use Rattle.pa_step_order.proofs.Marked.{Fills, IsReadAfter}
 use Rattle.pa_step_order.proofs.Reading.{gives_read, read_marked}
-use Rattle.pa_step_order.proofs.Laid.{stamped_of, back_at, front_at, spoiling, frees, piece, laid, cut_laid, in_place, none_cons, parted, IsNext}
+use Rattle.pa_step_order.proofs.Ordered.{OrderedRun}
+use Rattle.pa_step_order.proofs.Laid.{stamped_of, back_at, front_at, spoiling, frees, piece, laid, cut_laid, in_place, parted, IsNext}
 use Rattle.pa_step_order.proofs.Owned.{number_named, counts_front, counts_past, step_named}
 use Rattle.pa_step_order.proofs.Filling.{content_laid}
 use Rattle.pa_step_order.proofs.Belonging.{front_count, counts_laid, logged_at}
@@ -54,51 +54,10 @@ loading_entry roots answer (Counted t step found value) is = absurd (let both : 
 loading_entry roots answer (Looked t found) is = absurd (let both = look_looks answer Loading is in cc)
 loading_entry roots answer (Read t place value since owned unclean) is = (t, place, value, since, owned, unclean, refl)
 loading_entry roots answer (Added total bytes) is = absurd (not_some Loading is)
-loading_entry roots answer (Entered q made) is = elim (cases_Bool (eqb q 4)) [
-  | inl four ↦ absurd (let both : Asking ≡ Loading = of_some Asking Loading (rw four at is) in cc)
-  | inr more ↦ elim (cases_Bool (eqb q 5)) [
-    | inl five ↦ absurd (let both : Swapping ≡ Loading = of_some Swapping Loading (rw (more, five) at is) in cc)
-    | inr other ↦ absurd (journal (entry_with made.numbers (roots q)) (rw (more, other) at is))
-  ]
-]
-  where
-    journal : (o : Option RootEntry) → entering q o ≡ Some Loading → ⊥
-    journal None e = not_some Loading e
-    journal (Some r) e = let both : Entering q r.act ≡ Loading = of_some (Entering q r.act) Loading e in cc
+loading_entry roots answer (Entered q made) is = absurd (entered_is (λ p. p ≡ Loading → ⊥) (λ e. cc) (λ e. cc) (λ k act e. cc) roots q made.numbers Loading is refl)
 loading_entry roots answer (Uncut t) is = absurd (not_some Loading is)
 
 -- ---- lists
-
-last_split : {A : Type 0} (xs : List A) (z : A) (us : List A) (m : A) (vs : List A) → xs ++ z ∷ [] ≡ us ++ m ∷ vs →
-    (vs ≡ []) ⊎ ((ws : List A) × (xs ≡ us ++ m ∷ ws) × (vs ≡ ws ++ z ∷ []))
-last_split [] z [] m vs e = inl cc
-last_split [] z (u ∷ us) m vs e = absurd (let rest : [] ≡ us ++ m ∷ vs = cc in none_cons us m vs rest)
-last_split (x ∷ xs) z [] m vs e =
-    let same : x ≡ m = cc in
-    let rest : vs ≡ xs ++ z ∷ [] = cc in
-    inr (xs, ap (λ w. w ∷ xs) same, rest)
-last_split (x ∷ xs) z (u ∷ us) m vs e =
-    let same : x ≡ u = cc in
-    let rest : xs ++ z ∷ [] ≡ us ++ m ∷ vs = cc in
-    elim (last_split xs z us m vs rest) [
-      | inl none ↦ inl none
-      | inr (ws, within, back) ↦ inr (ws, ap (λ w. w ∷ xs) same ∙ ap (λ zs. u ∷ zs) within, back)
-    ]
-
--- what stands before a member that the list has but once
-only_front : {A : Type 0} (F G C : List A) (n a b : A) → F ++ n ∷ G ≡ a ∷ b ∷ C → (n ≡ a → ⊥) → (Contains C n → ⊥) → F ≡ a ∷ []
-only_front [] G C n a b e first rest = absurd (let same : n ≡ a = cc in first same)
-only_front (y ∷ []) G C n a b e first rest = let same : y ≡ a = cc in ap (λ z. z ∷ []) same
-only_front (y ∷ z ∷ more) G C n a b e first rest =
-    let back : more ++ n ∷ G ≡ C = cc in
-    absurd (rest (in_middle more G C n (sym back)))
-
-filter_here : {A : Type 0} (test : A → Bool) (x : A) (xs : List A) → test x ≡ true → filter test (x ∷ xs) ≡ x ∷ filter test xs
-filter_here test x xs is = rw is refl
-
-only_one : {A : Type 0} (F G : List A) (a : A) → F ++ a ∷ G ≡ a ∷ [] → G ≡ []
-only_one [] G a e = cc
-only_one (y ∷ F) G a e = absurd (let rest : [] ≡ F ++ a ∷ G = cc in none_cons F a G rest)
 
 last_push : (xs : List Entry) (y : Entry) → last_entry (xs ++ y ∷ []) ≡ Some y
 last_push [] y = refl
@@ -152,9 +111,9 @@ pub record IsReadOf (sizes : SlotName → ℕ) (n : Named) (seen : Seen) (place 
 no_touch : (rest : List Entry) (e : Entry) → touches rest ≡ [] → is_touch e ≡ true → Contains rest e → ⊥
 no_touch rest e none is among = not_in_none e (subst (λ es. Contains es e) none (filter_in is_touch rest e among is))
 
-module _ (sizes : SlotName → ℕ) (ts : List ToldRecord) (told : AreTold sizes ts) (rising : AreRising ts) (all : List Stamped) (ns : List Named)
-    (are : AreNamed ts all ns) (roots : Journals) (rule : IsFound all)
-    (order : List OneStep) (agree : map stamped_of ns ≡ logged_among order) (placed : AreInPlace order) (closed : (t : Title) → spoiled t order ≡ 0) where
+module _ (run : OrderedRun) where
+  open run use {sizes, ts, told, rising, all, ns, are, roots, rule, order, agree, placed, closed}
+
   same_place : (reg reg' place place' : ℕ) → ops.Read reg place ≡ ops.Read reg' place' → place' ≡ place
   same_place reg reg' place place' e = cc
 
@@ -234,7 +193,7 @@ module _ (sizes : SlotName → ℕ) (ts : List ToldRecord) (told : AreTold sizes
         (a, b, at, only_one (filter on_line a) (filter on_line b) look (sym (ap (filter on_line) at ∙ filter-append on_line a (look ∷ b) ∙ ap (λ z. filter on_line a ++ z) own) ∙ one))
 
     module _ (a b : List Named) (at : front ≡ a ++ look ∷ b) (none : filter on_line b ≡ []) where
-      -- none of its thread stands between the look and the read
+      -- none of its thread is between the look and the read
       no_other : (m : Named) → Contains b m → m.x.played.thread ≡ n.x.played.thread → ⊥
       no_other m within same =
           let pairs = threads_rise ts all ns are rising in
@@ -275,7 +234,7 @@ module _ (sizes : SlotName → ℕ) (ts : List ToldRecord) (told : AreTold sizes
       -- ---- numbers
 
       abbrev counts : List Named → ℕ
-      counts xs = front_count sizes ts told rising all ns are roots rule order agree placed closed here xs
+      counts xs = front_count run here xs
 
       looks_at : number_of seen.found.0 ≡ counts a
       looks_at =
@@ -303,7 +262,7 @@ module _ (sizes : SlotName → ℕ) (ts : List ToldRecord) (told : AreTold sizes
                 let (c, d, at') = parts_at (n ∷ back) m behind in
                 let whole : ns ≡ (front ++ c) ++ m ∷ d = next.whole ∙ ap (λ z. front ++ z) at' ∙ sym (append_assoc front c (m ∷ d)) in
                 let number = number_named sizes ts told all ns are roots rule (front ++ c) d m u e.step e.found e.value e whole entry made_m in
-                let number' : number_of e.found ≡ counts (front ++ c) = number ∙ ap (λ s. front_count sizes ts told rising all ns are roots rule order agree placed closed s (front ++ c)) slot in
+                let number' : number_of e.found ≡ counts (front ++ c) = number ∙ ap (λ s. front_count run s (front ++ c)) slot in
                 let more = counts_front sizes ts told all ns are roots here front c in
                 omega arith
             | inl before ↦ elim (Contains-append_cases a (look ∷ b) m (subst (λ zs. Contains zs m) at before)) [
@@ -313,7 +272,7 @@ module _ (sizes : SlotName → ℕ) (ts : List ToldRecord) (told : AreTold sizes
                   next.whole ∙ ap (λ z. z ++ n ∷ back) (at ∙ ap (λ z. z ++ look ∷ b) at' ∙ append_assoc c (m ∷ d) (look ∷ b)) ∙ append_assoc c (m ∷ (d ++ look ∷ b)) (n ∷ back)
                   ∙ ap (λ z. c ++ m ∷ z) (append_assoc d (look ∷ b) (n ∷ back)) in
                   let number = number_named sizes ts told all ns are roots rule c (d ++ ((look ∷ b) ++ (n ∷ back))) m u e.step e.found e.value e whole entry made_m in
-                  let number' : number_of e.found ≡ counts c = number ∙ ap (λ s. front_count sizes ts told rising all ns are roots rule order agree placed closed s c) slot in
+                  let number' : number_of e.found ≡ counts c = number ∙ ap (λ s. front_count run s c) slot in
                   let past = counts_past sizes ts told all ns are roots here c d m u e.step e.found e.value e entry made_m slot in
                   let same_a : counts a ≡ counts (c ++ m ∷ d) = ap (λ z. counts z) at' in
                   absurd (omega arith)
@@ -329,7 +288,7 @@ module _ (sizes : SlotName → ℕ) (ts : List ToldRecord) (told : AreTold sizes
       pub is_after : IsReadAfter (played_in ts) (laid roots ns o) seen place value
       is_after =
           let pre : order ≡ (later ++ Logged st ∷ []) ++ o = cut ∙ sym (append_assoc later (Logged st ∷ []) o) in
-          let same = counts_laid sizes ts told rising all ns are roots rule order agree placed closed here (later ++ Logged st ∷ []) o pre in
+          let same = counts_laid run here (later ++ Logged st ∷ []) o pre in
           let looked = looks_at in
           let up = upto in
           record {
@@ -346,7 +305,7 @@ module _ (sizes : SlotName → ℕ) (ts : List ToldRecord) (told : AreTold sizes
     where
       by_step : (later : List OneStep) (s : OneStep) (o : List OneStep) → order ≡ later ++ s ∷ o → piece roots ns s o ≡ Some m → IsReadAfter (played_in ts) (laid roots ns o) seen place value
       by_step later (Logged st) o parts is =
-          let (n, l) = logged_at sizes ts told rising all ns are roots rule order agree placed closed later st o m parts is in
+          let (n, l) = logged_at run later st o m parts is in
           let from = moment_from roots n m l.moment_is in
           let gives_n = subst (λ (z : Played). GivesAt z.op z.answer seen place value) from.0 gives in
           let read = read_of n seen place value l.among (from.1 ∙ ap Some load) gives_n in

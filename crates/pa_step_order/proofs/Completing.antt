@@ -3,6 +3,7 @@ use Rattle.std.proofs.Common.{◌≡◌, ℕ, ◌+◌, ◌/◌, eqb, Bool, List,
 use Rattle.std.specs.Prelude.{Contains, AllPairs, find, option_map}
 use Rattle.std.specs.List.{cons_option, filter_map, range_with_len}
 use Rattle.std.proofs.lemmas.Bool.{cases_eq, eq-eqb, ne_eqb}
+use Rattle.std.proofs.Math.Seq.{take-append_seam, drop-append_seam}
 use Rattle.std.proofs.lemmas.List.{map-append}
 use Rattle.std.proofs.lemmas.List.Elements.{filter-append, filter_map-append, Contains-append_right}
 use Rattle.pa_machine.specs.declared.title.Title.{Title}
@@ -11,26 +12,26 @@ use Rattle.pa_machine.specs.declared.word.Step.{Step}
 use Rattle.pa_machine.specs.declared.word.Step.TheVariants as steps
 use Rattle.pa_machine.specs.Titles.{content_count}
 use Rattle.pa_region.specs.declared.view.Entry.{Entry}
-use Rattle.pa_region.specs.Order.{Stamped, OneStep, Logged, Spoiled, logged_among, spoiled, AreInPlace}
-use Rattle.pa_lists.proofs.Elements.{in_middle}
+use Rattle.pa_region.specs.Order.{OneStep, Logged, Spoiled, logged_among}
+use Rattle.pa_lists.proofs.Elements.{in_middle, length_same}
 use Rattle.pa_lists.proofs.Joined.{map_cases, map_in, filter_in}
-use Rattle.pa_lists.proofs.Members.{first_in, not_in_none, of_some, not_some}
+use Rattle.pa_lists.proofs.Members.{first_in, of_some, not_some}
 use Rattle.pa_lists.proofs.Parts.{parts_at}
+use Rattle.pa_lists.proofs.Cuts.{pairs_cuts, not_again}
 use Rattle.pa_rules.specs.declared.played.Played.{Played}
 use Rattle.pa_rules.specs.Roots.{Journals}
 use Rattle.pa_logs.specs.Told.{ToldRecord, played_in}
-use Rattle.pa_logs.specs.Touches.{title_of, StepMade, step_by, AreTold}
-use Rattle.pa_logs.specs.Listed.{AreRising}
+use Rattle.pa_logs.specs.Touches.{title_of, StepMade, step_by}
 use Rattle.pa_timeline.specs.Timeline.{Part, Spoiling, Counting, Moment, entry_parts, due_parts, outline_parts, parts_in}
 use Rattle.pa_timeline.proofs.Kept.{none_or_some, kept_in, kept_pairs}
 use Rattle.pa_timeline.proofs.Places.{part_on, parts_kept}
 use Rattle.pa_timeline.proofs.Outlined.{part_stays, parts_stay}
 use Rattle.pa_step_order.specs.Segments.{part_of, AreInTheirOrder}
-use Rattle.pa_step_order.proofs.Named.{Named, named_as, AreNamed, line_named}
+use Rattle.pa_step_order.proofs.Named.{Named, named_as, line_named}
 use Rattle.pa_step_order.proofs.Moments.{moments_in, moment_from, whole_logs}
-use Rattle.pa_step_order.proofs.Found.{IsFound, pairs_cuts}
 use Rattle.pa_step_order.proofs.Due.{free_due, free_outline, other_due}
-use Rattle.pa_step_order.proofs.Laid.{stamped_of, back_at, front_at, spoiling, frees, piece, laid, cut_laid, never_spoils, length_same, take_len, drop_len, parted, laid_stays}
+use Rattle.pa_step_order.proofs.Ordered.{OrderedRun}
+use Rattle.pa_step_order.proofs.Laid.{stamped_of, back_at, front_at, spoiling, frees, piece, laid, cut_laid, never_spoils, parted, laid_stays}
 use Rattle.pa_step_order.proofs.Owned.{step_named}
 use Rattle.pa_step_order.proofs.Belonging.{front_all, IsSpoil, spoil_at, spoils_piece, logged_at}
 use Rattle.pa_step_order.proofs.Lining.{front_within}
@@ -65,19 +66,13 @@ kept_named : (roots : Journals) (y : ToldRecord) (es : List Entry) →
 kept_named roots y [] = refl
 kept_named roots y (e ∷ es) = ap (cons_option (part_of roots y.played.answer e)) (kept_named roots y es)
 
--- what a list begins with is in none of the rest
-not_again : (F B E : List Part) (p q : Part) → F ++ B ≡ q ∷ E → Contains F p → Contains B q → Contains E q
-not_again [] B E p q e first second = absurd (not_in_none p first)
-not_again (z ∷ F) B E p q e first second = let rest : F ++ B ≡ E = cc in subst (λ zs. Contains zs q) rest (Contains-append_right F B q second)
-
 spoiling_part : (word : ℕ) (o : Option Named) (m : Moment) → option_map (spoiling word) o ≡ Some m → part_stays m.part ≡ None
 spoiling_part word None m is = absurd (not_some m is)
 spoiling_part word (Some f) m is = ap part_stays (sym (ap (λ (z : Moment). z.part) (of_some (spoiling word f) m is)))
 
-module _ (sizes : SlotName → ℕ) (ts : List ToldRecord) (told : AreTold sizes ts) (rising : AreRising ts) (all : List Stamped) (ns : List Named)
-    (are : AreNamed ts all ns) (roots : Journals) (rule : IsFound all)
-    (order : List OneStep) (agree : map stamped_of ns ≡ logged_among order) (placed : AreInPlace order) (closed : (t : Title) → spoiled t order ≡ 0)
-    (partitions : ℕ) (in_order : AreInTheirOrder partitions roots ts) where
+module _ (run : OrderedRun) (partitions : ℕ) (in_order : AreInTheirOrder partitions run.roots run.ts) where
+  open run use {sizes, ts, told, rising, all, ns, are, roots, rule, order, agree, placed, closed}
+
   abbrev ms : List Moment
   ms = laid roots ns order
 
@@ -98,9 +93,9 @@ module _ (sizes : SlotName → ℕ) (ts : List ToldRecord) (told : AreTold sizes
 
     -- a step of the record before one of its poisonings
     none_before : (later : List OneStep) (t : Title) (word : ℕ) (o : List OneStep) (f n : Named) (part : Part) → order ≡ later ++ Spoiled t word ∷ o →
-        IsSpoil sizes ts told rising all ns are roots rule order agree placed closed t o f → f.x.played.line ≡ line → Contains (front_at ns o) n → n.x.played.line ≡ line → part_at n ≡ Some part → ⊥
+        IsSpoil run t o f → f.x.played.line ≡ line → Contains (front_at ns o) n → n.x.played.line ≡ line → part_at n ≡ Some part → ⊥
     none_before later t word o f n part cut spoil here in_front mine some =
-        let free = spoil_step sizes ts told rising all ns are roots rule order agree placed closed y.played of_y t o f spoil here in
+        let free = spoil_step run y.played of_y t o f spoil here in
         let outline : filter_map part_at (filter on_line ns) ≡ Counting ∷ entry_parts partitions roots line =
         ap (filter_map part_at) (line_named ts all ns are rising y there) ∙ kept_named roots y y.stretch ∙ in_order y there
         ∙ free_outline (λ s. 0) partitions roots y.played spoil.d free (sym spoil.of.step_is) in
@@ -123,17 +118,17 @@ module _ (sizes : SlotName → ℕ) (ts : List ToldRecord) (told : AreTold sizes
         o ≡ middle ++ s' ∷ older → piece roots ns s' older ≡ Some a → OnLineFirst a b
     by_steps later s o b cut is middle (Spoiled t word) older a within is' here here' w spoils = spoiling_part word (find (frees t) (back_at ns older)) a is'
     by_steps later (Logged st) o b cut is middle (Logged st') older a within is' here here' w spoils =
-        let (n, l) = logged_at sizes ts told rising all ns are roots rule order agree placed closed later st o b cut is in
+        let (n, l) = logged_at run later st o b cut is in
         absurd (never_spoils roots n.x.played.answer n.entry w ((moment_from roots n b l.moment_is).1 ∙ ap Some spoils))
     by_steps later (Spoiled t word) o b cut is middle (Logged st') older a within is' here here' w spoils =
-        let (f, spoil) = spoil_at sizes ts told rising all ns are roots rule order agree placed closed later t word o cut in
-        let same = spoils_piece sizes ts told rising all ns are roots rule order agree placed closed later t word o f b cut spoil is in
+        let (f, spoil) = spoil_at run later t word o cut in
+        let same = spoils_piece run later t word o f b cut spoil is in
         let cut' : order ≡ (later ++ Spoiled t word ∷ middle) ++ Logged st' ∷ older = cut ∙ ap (λ z. later ++ Spoiled t word ∷ z) within
         ∙ sym (append_assoc later (Spoiled t word ∷ middle) (Logged st' ∷ older)) in
-        let (n, l) = logged_at sizes ts told rising all ns are roots rule order agree placed closed (later ++ Spoiled t word ∷ middle) st' older a cut' is' in
+        let (n, l) = logged_at run (later ++ Spoiled t word ∷ middle) st' older a cut' is' in
         let from = moment_from roots n a l.moment_is in
         let own : Contains (front_at ns (Logged st' ∷ older)) n = subst (λ zs. Contains zs n) (sym l.next.front) (Contains-append_right (front_at ns older) (n ∷ []) n (first_in n [])) in
-        let in_front = subst (λ z. Contains (front_at ns z) n) (sym within) (front_within sizes ts told rising all ns are roots rule order agree placed closed middle (Logged st' ∷ older) n own) in
+        let in_front = subst (λ z. Contains (front_at ns z) n) (sym within) (front_within run middle (Logged st' ∷ older) n own) in
         absurd (none_before later t word o f n a.part cut spoil (ap (λ (z : Moment). z.x.line) same ∙ here') in_front (sym (ap (λ (z : Played). z.line) from.0) ∙ here) from.1)
 
     spoils_first : AllPairs SpoilsFirst (parts_in line ms)
@@ -154,7 +149,7 @@ module _ (sizes : SlotName → ℕ) (ts : List ToldRecord) (told : AreTold sizes
     outline_stays : filter_map part_stays (parts_in line ms) ≡ outline_parts partitions roots y.played
     outline_stays =
         sym (parts_stay line ms)
-        ∙ ap (parts_in line) (laid_stays ns order agree roots [] order refl ∙ ap (moments_in roots) (front_all sizes ts told rising all ns are roots rule order agree placed closed))
+        ∙ ap (parts_in line) (laid_stays ns order agree roots [] order refl ∙ ap (moments_in roots) (front_all run))
         ∙ whole_logs ts all ns are roots rising partitions in_order y there
 
     parts_are : (words : List ℕ) → filter_map word_of (parts_in line ms) ≡ words → parts_in line ms ≡ map Spoiling words ++ outline_parts partitions roots y.played
@@ -164,20 +159,20 @@ module _ (sizes : SlotName → ℕ) (ts : List ToldRecord) (told : AreTold sizes
     whole_of : (usable : SlotName → ℕ) → ((d : StepMade) → step_by y.played ≡ Some d → usable d.slot + 8 ≡ sizes d.slot) → parts_in line ms ≡ due_parts usable partitions roots y.played
     whole_of usable fits = elim (freeing y.played) [
       | inr other ↦
-          parts_are [] (spoilt_parts sizes ts told rising all ns are roots rule order agree placed closed y.played of_y ms
-          ∙ none_spoilt sizes ts told rising all ns are roots rule order agree placed closed y.played of_y other [] order refl)
+          parts_are [] (spoilt_parts run y.played of_y ms
+          ∙ none_spoilt run y.played of_y other [] order refl)
           ∙ sym (other_due usable partitions roots y.played other)
       | inl (d, is, free) ↦
           let (n, among, same, entry) = step_named sizes ts told all ns are roots rising y.played d of_y is in
           let (a, b, cut) = parts_at ns n among in
           let (later, o, cut_o, logged) = logged_cut order (map stamped_of a) (map stamped_of b) (stamped_of n) (sym agree ∙ ap (map stamped_of) cut ∙ map-append stamped_of a (n ∷ b)) in
           let k : length (logged_among o) ≡ length a = length_same stamped_of a (logged_among o) (sym logged) in
-          let front : front_at ns o ≡ a = ap (λ i. take i ns) k ∙ ap (take (length a)) cut ∙ take_len a (n ∷ b) in
-          let back : back_at ns o ≡ n ∷ b = ap (λ i. drop i ns) k ∙ ap (drop (length a)) cut ∙ drop_len a (n ∷ b) in
-          let words = all_words sizes ts told rising all ns are roots rule order agree placed closed y.played of_y d is free n same entry a b cut later (stamped_of n) o cut_o front back refl in
+          let front : front_at ns o ≡ a = ap (λ i. take i ns) k ∙ ap (take (length a)) cut ∙ take-append_seam a (n ∷ b) in
+          let back : back_at ns o ≡ n ∷ b = ap (λ i. drop i ns) k ∙ ap (drop (length a)) cut ∙ drop-append_seam a (n ∷ b) in
+          let words = all_words run y.played of_y d is free n same entry a b cut later (stamped_of n) o cut_o front back refl in
           let size = fits d is in
           let count : content_count (title_of sizes d.slot) ≡ usable d.slot / 8 = omega arith in
-          parts_are (range_with_len 0 (content_count (title_of sizes d.slot))) (spoilt_parts sizes ts told rising all ns are roots rule order agree placed closed y.played of_y ms ∙ words)
+          parts_are (range_with_len 0 (content_count (title_of sizes d.slot))) (spoilt_parts run y.played of_y ms ∙ words)
           ∙ ap (λ i. map Spoiling (range_with_len 0 i) ++ outline_parts partitions roots y.played) count
           ∙ ap (λ z. map Spoiling (range_with_len 0 (usable d.slot / 8)) ++ z) (free_outline usable partitions roots y.played d is free)
           ∙ sym (free_due usable partitions roots y.played d is free)

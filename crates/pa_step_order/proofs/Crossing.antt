@@ -1,4 +1,4 @@
--- A poisoning of a later phase that stands before a read in the order of the logs: the read gave poison, and phase by phase what stands
+-- A poisoning of a later phase that is before a read in the order of the logs: the read gave poison, and phase by phase what stands
 -- before it leaves poison too.
 use Rattle.std.proofs.Common.{◌≡◌, ℕ, ◌<◌, ◌≤◌, leb, true, List, [], ◌∷◌, ◌++◌, Option, Some, None, ◌⊎◌, refl, sym, ◌∙◌, ap, subst, arith, inl, inr, append_assoc}
 use Rattle.std.specs.Prelude.{Contains}
@@ -247,7 +247,7 @@ module _ (usable : ℕ → ℕ) (cells : ℕ → List CellEntry) (ps : List Play
           ]
         ]
 
-      -- what stands before the read and is of its phase or before left the value
+      -- what is before the read and is of its phase or before left the value
       gave_early : value ≡ last_of 0 (filter_map soon us)
       gave_early = elim (one_above leaves phase_at x.phase us) [
         | inr (c, v, among, is, late) ↦ let (f, g, cut) = parts_at us c among in crosses f g c v cut is late

@@ -1,4 +1,4 @@
--- The steps that a record is due, poisonings among them: a free has those of all content words in front, and each other record none.
+-- The steps that a record is due, poisonings among them: a free has those of all content words first, and each other record none.
 use Rattle.std.proofs.Common.{◌≡◌, ℕ, ◌/◌, List, [], ◌∷◌, ◌++◌, map, Some, refl, sym, ◌∙◌, ap, subst, inl, inr}
 use Rattle.std.specs.Prelude.{Contains}
 use Rattle.std.specs.List.{range_with_len}

@@ -16,7 +16,6 @@ use Rattle.pa_trace.specs.declared.script.Op.TheVariants as ops
 use Rattle.pa_record.specs.declared.entry.Seen.{Seen}
 use Rattle.pa_record.specs.declared.entry.Answer.{Answer}
 use Rattle.pa_record.specs.declared.entry.Answer.TheVariants as answers
-use Rattle.pa_record.specs.declared.root.RootEntry.{RootEntry}
 use Rattle.pa_region.specs.declared.view.Entry.{Entry}
 use Rattle.pa_region.specs.declared.view.Entry.TheVariants.{Counted, Looked, Read, Added, Entered, Uncut}
 use Rattle.pa_region.specs.History.{content_by}
@@ -29,10 +28,10 @@ use Rattle.pa_rules.specs.Roots.{Journals}
 use Rattle.pa_logs.specs.Told.{ToldRecord}
 use Rattle.pa_logs.specs.Touches.{title_of, StepMade, step_in, step_by, AreTold}
 use Rattle.pa_logs.proofs.StepMarks.{step_mark}
-use Rattle.pa_timeline.specs.Timeline.{Part, Asking, Entering, Swapping, Loading, Spoiling, Counting, Moment, is_of_slot, value_left, part_leaves, moment_leaves, changed_to, content_after}
+use Rattle.pa_timeline.specs.Timeline.{Part, Loading, Spoiling, Counting, Moment, is_of_slot, value_left, part_leaves, moment_leaves, changed_to, content_after}
 use Rattle.pa_timeline.proofs.Places.{moment}
-use Rattle.pa_step_order.specs.Segments.{look_part, entry_with, entering, entered_part, part_of}
-use Rattle.pa_step_order.proofs.Looks.{look_looks}
+use Rattle.pa_step_order.specs.Segments.{look_part, entered_part, part_of}
+use Rattle.pa_step_order.proofs.Looks.{look_looks, entered_is}
 use Rattle.pa_step_order.proofs.Named.{Named, AreNamed}
 use Rattle.pa_step_order.proofs.Moments.{moment_of}
 use Rattle.pa_step_order.proofs.Laid.{stamped_of, back_at, front_at, first, spoiling, piece, laid, parted, next_named}
@@ -72,19 +71,6 @@ still_by s place c x (Some part) still = elim (cases_Bool (is_of_slot s (mark_of
   | inl own ↦ rw own (ap (λ o. changed_to o c) (still_leaves place x part (still part refl)))
   | inr other ↦ rw other refl
 ]
-
-entered_still : (roots : Journals) (q : ℕ) (numbers : List ℕ) (part : Part) → entered_part roots q numbers ≡ Some part → is_still part ≡ true
-entered_still roots q numbers part is = elim (cases_Bool (eqb q 4)) [
-  | inl four ↦ ap is_still (sym (of_some Asking part (rw four at is)))
-  | inr more ↦ elim (cases_Bool (eqb q 5)) [
-    | inl five ↦ ap is_still (sym (of_some Swapping part (rw (more, five) at is)))
-    | inr other ↦ journal (entry_with numbers (roots q)) (rw (more, other) at is)
-  ]
-]
-  where
-    journal : (o : Option RootEntry) → entering q o ≡ Some part → is_still part ≡ true
-    journal None e = absurd (not_some part e)
-    journal (Some r) e = ap is_still (sym (of_some (Entering q r.act) part e))
 
 -- ---- a counted step
 
@@ -138,7 +124,7 @@ module _ (sizes : SlotName → ℕ) (ts : List ToldRecord) (told : AreTold sizes
   entry_changes n c (Read t word value since owned unclean) among is = still_by s place c n.x.played (Some Loading) (λ part e. ap is_still (sym (of_some Loading part e)))
   entry_changes n c (Added total bytes) among is = refl
   entry_changes n c (Entered q made) among is =
-      still_by s place c n.x.played (entered_part roots q made.numbers) (λ part e. entered_still roots q made.numbers part e)
+      still_by s place c n.x.played (entered_part roots q made.numbers) (entered_is (λ p. is_still p ≡ true) refl refl (λ k act. refl) roots q made.numbers)
   entry_changes n c (Uncut t) among is = refl
 
   -- ---- all steps

@@ -15,10 +15,12 @@ use Rattle.pa_machine.proofs.Runs.{same_slot_cases, same_slot_yes, same_slot_no}
 use Rattle.pa_region.specs.declared.view.Entry.{Entry}
 use Rattle.pa_region.specs.Views.{counted_on}
 use Rattle.pa_region.specs.Order.{Stamped, steps_on, Touches}
+use Rattle.pa_region.proofs.Adding.{sum_map}
 use Rattle.pa_lists.proofs.Members.{first_in, later_in}
 use Rattle.pa_lists.proofs.Elements.{in_front, in_middle}
-use Rattle.pa_lists.proofs.Pairs.{pairs_none, pairs_cons, pairs_head}
+use Rattle.pa_lists.proofs.Pairs.{pairs_head}
 use Rattle.pa_lists.proofs.Parts.{parts_at, map_parts, pairs_across, pairs_after}
+use Rattle.pa_lists.proofs.Cuts.{pairs_cuts}
 use Rattle.pa_rules.specs.declared.played.Played.{Played}
 use Rattle.pa_rules.specs.Played.{mark_of}
 use Rattle.pa_rules.specs.Roots.{Journals}
@@ -34,21 +36,6 @@ use Rattle.pa_step_order.proofs.Named.{Named, AreNamed, named_in}
 use Rattle.pa_step_order.proofs.Looks.{touch_of, is_counting, counts_as}
 use Rattle.pa_step_order.proofs.Moments.{moment_of, moments_in, phase_at, by_phases, moment_from, step_of, of_records}
 use Rattle.pa_step_order.proofs.Sorting.{sorted_from, sorted_sum, sorted_pairs}
-
--- what holds wherever a list is cut at two members holds of each two
-pub pairs_cuts : {A : Type 0} (S : A → A → Type 0) (xs : List A) → ((us vs ws : List A) (a b : A) → xs ≡ us ++ a ∷ (vs ++ b ∷ ws) → S a b) → AllPairs S xs
-pairs_cuts S [] h = pairs_none S
-pairs_cuts S (x ∷ xs) h =
-    pairs_cons S x xs (λ y among. let (vs, ws, parts) = parts_at xs y among in h [] vs ws x y (ap (λ zs. x ∷ zs) parts))
-    (pairs_cuts S xs (λ us vs ws a b cut. h (x ∷ us) vs ws a b (ap (λ zs. x ∷ zs) cut)))
-
-sum_map : {A B : Type 0} (f : B → ℕ) (g : A → B) (xs : List A) → sum_by (λ x. f (g x)) xs ≡ sum_by f (map g xs)
-sum_map f g [] = refl
-sum_map f g (x ∷ xs) =
-    let a = sum_by-cons (λ y. f (g y)) x xs in
-    let b = sum_by-cons f (g x) (map g xs) in
-    let again = sum_map f g xs in
-    omega arith
 
 -- Each counted step and look finds the number of counted steps of its title before it, as the rule says.
 abbrev pub IsFound : List Stamped → Type 0
@@ -103,7 +90,7 @@ module _ (sizes : SlotName → ℕ) (ts : List ToldRecord) (told : AreTold sizes
         let t = title_of sizes k.slot in
         let number : number_of k.found ≡ steps_on t front = rule front back m' t k.found whole (subst (λ e. Touches e t k.found) (sym at) found) in
         let weigh : steps_on t front ≡ sum_by (λ (z : Named). counted_on t z.entry) before =
-        sum_map (counted_on t) stamped front ∙ ap (sum_by (counted_on t)) same ∙ sym (sum_map (counted_on t) entry before) in
+        sym (sum_map (counted_on t) stamped front) ∙ ap (sum_by (counted_on t)) same ∙ sum_map (counted_on t) entry before in
         number ∙ weigh ∙ steps_counted k.slot before (λ z among. in_front before (n ∷ after) ns z parts among) ∙ ap (counted_steps k.slot) left
 
     -- ---- each two touches of a slot

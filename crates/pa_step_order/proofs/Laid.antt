@@ -1,30 +1,30 @@
 -- The steps of the order, poisonings among them, as moments: what was logged is of its record, and a poisoning of the next record that
 -- frees its title.
-use Rattle.std.proofs.Common.{◌≡◌, ℕ, suc, eqb, Bool, List, [], ◌∷◌, ◌++◌, map, filter, length, take, drop, Option, Some, None, ◌⊎◌, refl, sym, ◌∙◌, ap, subst, inl, inr, append_assoc, append-nil}
+use Rattle.std.proofs.Common.{◌≡◌, ℕ, eqb, Bool, List, [], ◌∷◌, ◌++◌, map, filter, length, take, drop, Option, Some, None, refl, sym, ◌∙◌, ap, subst, inl, inr, append_assoc, append-nil, map-id}
 use Rattle.std.specs.Prelude.{Contains, find, option_map, option_and_then}
 use Rattle.std.specs.List.{cons_option, filter_map}
-use Rattle.std.proofs.lemmas.Bool.{cases_Bool}
 use Rattle.std.proofs.lemmas.List.Elements.{filter_map-append}
+use Rattle.std.proofs.Math.Seq.{take-append_seam, drop-append_seam}
 use Rattle.pa_machine.specs.declared.title.Title.{Title}
 use Rattle.pa_region.specs.declared.view.Entry.{Entry}
 use Rattle.pa_region.specs.declared.view.Entry.TheVariants.{Counted, Looked, Read, Added, Entered, Uncut}
 use Rattle.pa_region.specs.Order.{Stamped, by_stake, OneStep, Logged, Spoiled, logged_among, is_free_of, IsInPlace, AreInPlace}
 use Rattle.pa_record.specs.declared.entry.Answer.{Answer}
-use Rattle.pa_record.specs.declared.root.RootEntry.{RootEntry}
 use Rattle.pa_rules.specs.declared.played.Played.{Played}
 use Rattle.pa_rules.specs.Roots.{Journals}
-use Rattle.pa_lists.proofs.Elements.{map_tells}
+use Rattle.pa_lists.proofs.Elements.{map_tells, map_both, length_same}
 use Rattle.pa_lists.proofs.Joined.{map_cases, filter_cases}
 use Rattle.pa_lists.proofs.Members.{of_some, not_some}
 use Rattle.pa_lists.proofs.Parts.{map_parts}
+use Rattle.pa_lists.proofs.Cuts.{none_cons, last_or_within, map_front}
 use Rattle.std.proofs.lemmas.Bool.{eqb-true}
 use Rattle.pa_logs.specs.Told.{ToldRecord, log_of, is_of_thread}
-use Rattle.pa_timeline.specs.Timeline.{Part, Asking, Entering, Swapping, Loading, Spoiling, Counting, Moment}
+use Rattle.pa_timeline.specs.Timeline.{Part, Loading, Spoiling, Counting, Moment}
 use Rattle.pa_timeline.proofs.Kept.{none_or_some}
 use Rattle.pa_timeline.proofs.Places.{moment}
 use Rattle.pa_timeline.proofs.Outlined.{stays, stays_of}
-use Rattle.pa_step_order.specs.Segments.{entry_with, entering, part_of}
-use Rattle.pa_step_order.proofs.Looks.{look_looks}
+use Rattle.pa_step_order.specs.Segments.{part_of}
+use Rattle.pa_step_order.proofs.Looks.{look_looks, entered_is}
 use Rattle.pa_step_order.proofs.Named.{Named, named_log, log_named, stake_filter, of_thread}
 use Rattle.pa_step_order.proofs.Moments.{moment_of, moments_in}
 use Rattle.pa_step_order.proofs.Queues.{in_turn, turns_say}
@@ -35,14 +35,6 @@ use Rattle.pa_step_order.proofs.Queues.{in_turn, turns_say}
 abbrev pub stamped_of : Named → Stamped
 stamped_of n = record { stake = n.x.played.thread; entry = n.entry }
 
-map_same : {A : Type 0} (xs : List A) → map (λ (x : A). x) xs ≡ xs
-map_same [] = refl
-map_same (x ∷ xs) = ap (λ ys. x ∷ ys) (map_same xs)
-
-map_both : {A B C : Type 0} (f : B → C) (g : A → B) (xs : List A) → map f (map g xs) ≡ map (λ x. f (g x)) xs
-map_both f g [] = refl
-map_both f g (x ∷ xs) = ap (λ ys. f (g x) ∷ ys) (map_both f g xs)
-
 -- the entries of the order with their records have the stakes of the order
 pub stamps_agree : (ts : List ToldRecord) (all : List Stamped) → ((k : ℕ) → log_of k ts ≡ by_stake k all) →
     map stamped_of (in_turn (λ (m : Stamped). m.stake) (named_log ts) all) ≡ all
@@ -51,8 +43,8 @@ stamps_agree ts all logs =
     (λ k. map_tells (λ (m : Stamped). m.entry) (map stamped_of (named_log ts k)) (map (λ (m : Stamped). m) (filter (λ (m : Stamped). eqb m.stake k) all))
     (λ a b first second same. one_stake k a b (mine k a first) (theirs k b second) same)
     (map_both (λ (m : Stamped). m.entry) stamped_of (named_log ts k) ∙ log_named (filter (is_of_thread k) ts) ∙ logs k ∙ stake_filter k all
-    ∙ ap (map (λ (m : Stamped). m.entry)) (sym (map_same (filter (λ (m : Stamped). eqb m.stake k) all)))))
-    ∙ map_same all
+    ∙ ap (map (λ (m : Stamped). m.entry)) (sym (map-id (filter (λ (m : Stamped). eqb m.stake k) all)))))
+    ∙ map-id all
   where
     one_stake : (k : ℕ) (a b : Stamped) → a.stake ≡ k → b.stake ≡ k → a.entry ≡ b.entry → a ≡ b
     one_stake k a b e f same = ap (λ n. record { stake = n; entry = a.entry }) (e ∙ sym f) ∙ ap (λ z. record { stake = b.stake; entry = z }) same
@@ -62,7 +54,7 @@ stamps_agree ts all logs =
 
     theirs : (k : ℕ) (b : Stamped) → Contains (map (λ (m : Stamped). m) (filter (λ (m : Stamped). eqb m.stake k) all)) b → b.stake ≡ k
     theirs k b among =
-        let there = subst (λ zs. Contains zs b) (map_same (filter (λ (m : Stamped). eqb m.stake k) all)) among in
+        let there = subst (λ zs. Contains zs b) (map-id (filter (λ (m : Stamped). eqb m.stake k) all)) among in
         eqb-true b.stake k (filter_cases (λ (m : Stamped). eqb m.stake k) all b there).1
 
 -- ---- moments
@@ -92,48 +84,6 @@ piece roots ns (Spoiled t word) older = option_map (spoiling word) (find (frees 
 abbrev pub laid : Journals → List Named → List OneStep → List Moment
 laid roots ns [] = []
 laid roots ns (s ∷ older) = laid roots ns older ++ cons_option (piece roots ns s older) []
-
--- ---- lists
-
-pub none_cons : {A : Type 0} (us : List A) (m : A) (vs : List A) → [] ≡ us ++ m ∷ vs → ⊥
-none_cons [] m vs e = cc
-none_cons (u ∷ us) m vs e = cc
-
-pub last_or_within : {A : Type 0} (xs : List A) (z : A) (us : List A) (m : A) (vs : List A) → xs ++ z ∷ [] ≡ us ++ m ∷ vs →
-    ((xs ≡ us) × (z ≡ m)) ⊎ ((ws : List A) × (xs ≡ us ++ m ∷ ws))
-last_or_within [] z [] m vs e = inl (refl, cc)
-last_or_within [] z (u ∷ us) m vs e = absurd (let rest : [] ≡ us ++ m ∷ vs = cc in none_cons us m vs rest)
-last_or_within (x ∷ xs) z [] m vs e = let same : x ≡ m = cc in inr (xs, ap (λ w. w ∷ xs) same)
-last_or_within (x ∷ xs) z (u ∷ us) m vs e =
-    let same : x ≡ u = cc in
-    let rest : xs ++ z ∷ [] ≡ us ++ m ∷ vs = cc in
-    elim (last_or_within xs z us m vs rest) [
-      | inl (all, is) ↦ inl (ap (λ w. w ∷ xs) same ∙ ap (λ ws. u ∷ ws) all, is)
-      | inr (ws, within) ↦ inr (ws, ap (λ w. w ∷ xs) same ∙ ap (λ zs. u ∷ zs) within)
-    ]
-
-pub take_len : {A : Type 0} (f g : List A) → take (length f) (f ++ g) ≡ f
-take_len [] g = refl
-take_len (x ∷ f) g = ap (λ zs. x ∷ zs) (take_len f g)
-
-pub drop_len : {A : Type 0} (f g : List A) → drop (length f) (f ++ g) ≡ g
-drop_len [] g = refl
-drop_len (x ∷ f) g = drop_len f g
-
-pub length_same : {A B : Type 0} (f : A → B) (xs : List A) (ys : List B) → map f xs ≡ ys → length ys ≡ length xs
-length_same f [] [] e = refl
-length_same f [] (y ∷ ys) e = absurd cc
-length_same f (x ∷ xs) [] e = absurd cc
-length_same f (x ∷ xs) (y ∷ ys) e = let rest : map f xs ≡ ys = cc in ap suc (length_same f xs ys rest)
-
-map_front : {A B : Type 0} (f : A → B) (xs : List A) (ys zs : List B) → map f xs ≡ ys ++ zs → (map f (take (length ys) xs) ≡ ys) × (xs ≡ take (length ys) xs ++ drop (length ys) xs)
-map_front f xs [] zs e = (refl, refl)
-map_front f [] (y ∷ ys) zs e = absurd cc
-map_front f (x ∷ xs) (y ∷ ys) zs e =
-    let same : f x ≡ y = cc in
-    let rest : map f xs ≡ ys ++ zs = cc in
-    let (front, whole) = map_front f xs ys zs rest in
-    (ap (λ z. z ∷ map f (take (length ys) xs)) same ∙ ap (λ us. y ∷ us) front, ap (λ us. x ∷ us) whole)
 
 -- ---- where a moment is from
 
@@ -171,17 +121,8 @@ never_spoils roots answer (Counted t step found value) word is = let both : Coun
 never_spoils roots answer (Looked t found) word is = let both = look_looks answer (Spoiling word) is in cc
 never_spoils roots answer (Read t place value since owned unclean) word is = let both : Loading ≡ Spoiling word = of_some Loading (Spoiling word) is in cc
 never_spoils roots answer (Added total bytes) word is = not_some (Spoiling word) is
-never_spoils roots answer (Entered q made) word is = elim (cases_Bool (eqb q 4)) [
-  | inl four ↦ let both : Asking ≡ Spoiling word = of_some Asking (Spoiling word) (rw four at is) in cc
-  | inr more ↦ elim (cases_Bool (eqb q 5)) [
-    | inl five ↦ let both : Swapping ≡ Spoiling word = of_some Swapping (Spoiling word) (rw (more, five) at is) in cc
-    | inr other ↦ journal (entry_with made.numbers (roots q)) (rw (more, other) at is)
-  ]
-]
-  where
-    journal : (o : Option RootEntry) → entering q o ≡ Some (Spoiling word) → ⊥
-    journal None e = not_some (Spoiling word) e
-    journal (Some r) e = let both : Entering q r.act ≡ Spoiling word = of_some (Entering q r.act) (Spoiling word) e in cc
+never_spoils roots answer (Entered q made) word is =
+    entered_is (λ p. p ≡ Spoiling word → ⊥) (λ e. cc) (λ e. cc) (λ k act e. cc) roots q made.numbers (Spoiling word) is refl
 never_spoils roots answer (Uncut t) word is = not_some (Spoiling word) is
 
 pub plain_stays : (x : Played) (part : Part) → ((word : ℕ) → part ≡ Spoiling word → ⊥) → stays_of x part ≡ Some (moment x part)
@@ -219,10 +160,10 @@ module _ (ns : List Named) (steps : List OneStep) (agree : map stamped_of ns ≡
       let one : map stamped_of (f ++ n ∷ []) ≡ logged_among (Logged m ∷ older) = pushed f n before is in
       let k' : length (logged_among (Logged m ∷ older)) ≡ length (f ++ n ∷ []) = length_same stamped_of (f ++ n ∷ []) (logged_among (Logged m ∷ older)) one in
       let again : ns ≡ (f ++ n ∷ []) ++ g = whole ∙ sym (append_assoc f (n ∷ []) g) in
-      let front : front_at ns older ≡ f = ap (λ i. take i ns) k ∙ ap (take (length f)) whole ∙ take_len f (n ∷ g) in
-      let back : back_at ns older ≡ n ∷ g = ap (λ i. drop i ns) k ∙ ap (drop (length f)) whole ∙ drop_len f (n ∷ g) in
-      let front' : front_at ns (Logged m ∷ older) ≡ f ++ n ∷ [] = ap (λ i. take i ns) k' ∙ ap (take (length (f ++ n ∷ []))) again ∙ take_len (f ++ n ∷ []) g in
-      let back' : back_at ns (Logged m ∷ older) ≡ g = ap (λ i. drop i ns) k' ∙ ap (drop (length (f ++ n ∷ []))) again ∙ drop_len (f ++ n ∷ []) g in (
+      let front : front_at ns older ≡ f = ap (λ i. take i ns) k ∙ ap (take (length f)) whole ∙ take-append_seam f (n ∷ g) in
+      let back : back_at ns older ≡ n ∷ g = ap (λ i. drop i ns) k ∙ ap (drop (length f)) whole ∙ drop-append_seam f (n ∷ g) in
+      let front' : front_at ns (Logged m ∷ older) ≡ f ++ n ∷ [] = ap (λ i. take i ns) k' ∙ ap (take (length (f ++ n ∷ []))) again ∙ take-append_seam (f ++ n ∷ []) g in
+      let back' : back_at ns (Logged m ∷ older) ≡ g = ap (λ i. drop i ns) k' ∙ ap (drop (length (f ++ n ∷ []))) again ∙ drop-append_seam (f ++ n ∷ []) g in (
         n,
         record {
           stamp = is;

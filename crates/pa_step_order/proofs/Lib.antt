@@ -19,6 +19,7 @@ pub mod Again
 pub mod Due
 pub mod Timed
 pub mod Laid
+pub mod Ordered
 pub mod Owned
 pub mod Filling
 pub mod Belonging

@@ -1,43 +1,25 @@
 -- The moments of a thread are in the order of its lines, poisonings among them too: with a free's stake nothing was logged since the first
 -- of them.
-use Rattle.std.proofs.Common.{◌≡◌, ℕ, List, [], ◌∷◌, ◌++◌, map, length, take, drop, Some, sym, ◌∙◌, ap, subst, arith, inl, inr, append_assoc}
+use Rattle.std.proofs.Common.{◌≡◌, List, [], ◌∷◌, ◌++◌, length, take, drop, Some, sym, ◌∙◌, ap, subst, arith, inl, inr, append_assoc}
 use Rattle.std.specs.Prelude.{Contains, AllPairs}
 use Rattle.std.proofs.lemmas.List.Elements.{Contains-append_cases, Contains-append_right}
-use Rattle.pa_machine.specs.declared.title.Title.{Title}
-use Rattle.pa_machine.specs.declared.word.SlotName.{SlotName}
-use Rattle.pa_region.specs.Order.{Stamped, OneStep, Logged, Spoiled, logged_among, spoiled, AreInPlace}
-use Rattle.pa_lists.proofs.Elements.{in_middle, drop_in}
-use Rattle.pa_lists.proofs.Members.{first_in, later_in, in_cases, not_in_none}
+use Rattle.pa_region.specs.Order.{OneStep, Logged, Spoiled, logged_among}
+use Rattle.pa_lists.proofs.Elements.{in_middle}
+use Rattle.pa_lists.proofs.Members.{first_in, in_cases}
 use Rattle.pa_lists.proofs.Pairs.{pairs_head}
 use Rattle.pa_lists.proofs.Parts.{pairs_across, pairs_after}
+use Rattle.pa_lists.proofs.Cuts.{pairs_cuts, in_front_more, in_back_more}
 use Rattle.pa_rules.specs.declared.played.Played.{Played}
-use Rattle.pa_rules.specs.Roots.{Journals}
-use Rattle.pa_logs.specs.Told.{ToldRecord}
-use Rattle.pa_logs.specs.Touches.{AreTold}
-use Rattle.pa_logs.specs.Listed.{AreRising}
 use Rattle.pa_timeline.specs.Timeline.{Moment}
-use Rattle.pa_step_order.proofs.Named.{Named, AreNamed, InLines, threads_rise}
+use Rattle.pa_step_order.proofs.Named.{Named, InLines, threads_rise}
 use Rattle.pa_step_order.proofs.Moments.{InLine, moment_from}
-use Rattle.pa_step_order.proofs.Found.{IsFound, pairs_cuts}
-use Rattle.pa_step_order.proofs.Laid.{stamped_of, back_at, front_at, piece, laid, cut_laid, logged_append, parted}
+use Rattle.pa_step_order.proofs.Ordered.{OrderedRun}
+use Rattle.pa_step_order.proofs.Laid.{back_at, front_at, piece, laid, cut_laid, logged_append, parted}
 use Rattle.pa_step_order.proofs.Belonging.{spoil_at, spoils_piece, logged_at}
 
-in_front_more : {A B : Type 0} (a b : List B) (xs : List A) (x : A) → Contains (take (length a) xs) x → Contains (take (length (a ++ b)) xs) x
-in_front_more [] b xs x among = absurd (not_in_none x among)
-in_front_more (c ∷ a) b [] x among = absurd (not_in_none x among)
-in_front_more (c ∷ a) b (y ∷ xs) x among = elim (in_cases y x (take (length a) xs) among) [
-  | inl e ↦ subst (λ z. Contains (y ∷ take (length (a ++ b)) xs) z) e (first_in y (take (length (a ++ b)) xs))
-  | inr later ↦ later_in y x (take (length (a ++ b)) xs) (in_front_more a b xs x later)
-]
+module _ (run : OrderedRun) where
+  open run use {sizes, ts, told, rising, all, ns, are, roots, rule, order, agree, placed, closed}
 
-in_back_more : {A B : Type 0} (a b : List B) (xs : List A) (x : A) → Contains (drop (length (a ++ b)) xs) x → Contains (drop (length a) xs) x
-in_back_more [] b xs x among = drop_in (length b) xs x among
-in_back_more (c ∷ a) b [] x among = among
-in_back_more (c ∷ a) b (y ∷ xs) x among = in_back_more a b xs x among
-
-module _ (sizes : SlotName → ℕ) (ts : List ToldRecord) (told : AreTold sizes ts) (rising : AreRising ts) (all : List Stamped) (ns : List Named)
-    (are : AreNamed ts all ns) (roots : Journals) (rule : IsFound all)
-    (order : List OneStep) (agree : map stamped_of ns ≡ logged_among order) (placed : AreInPlace order) (closed : (t : Title) → spoiled t order ≡ 0) where
   pub front_within : (later older : List OneStep) (n : Named) → Contains (front_at ns older) n → Contains (front_at ns (later ++ older)) n
   front_within later older n among =
       subst (λ z. Contains (take (length z) ns) n) (sym (logged_append later older)) (in_front_more (logged_among older) (logged_among later) ns n among)
@@ -50,11 +32,11 @@ module _ (sizes : SlotName → ℕ) (ts : List ToldRecord) (told : AreTold sizes
   named_behind : (later : List OneStep) (s : OneStep) (o : List OneStep) (m : Moment) → order ≡ later ++ s ∷ o → piece roots ns s o ≡ Some m →
       (n : Named) × Contains (back_at ns o) n × (m.x ≡ n.x.played)
   named_behind later (Logged st) o m cut is =
-      let (n, l) = logged_at sizes ts told rising all ns are roots rule order agree placed closed later st o m cut is in
+      let (n, l) = logged_at run later st o m cut is in
       (n, subst (λ zs. Contains zs n) (sym l.next.back) (first_in n (back_at ns (Logged st ∷ o))), (moment_from roots n m l.moment_is).0)
   named_behind later (Spoiled t word) o m cut is =
-      let (f, spoil) = spoil_at sizes ts told rising all ns are roots rule order agree placed closed later t word o cut in
-      let same = spoils_piece sizes ts told rising all ns are roots rule order agree placed closed later t word o f m cut spoil is in
+      let (f, spoil) = spoil_at run later t word o cut in
+      let same = spoils_piece run later t word o f m cut spoil is in
       (f, in_middle spoil.is.mid spoil.is.rest (back_at ns o) f spoil.is.parts, sym (ap (λ (z : Moment). z.x) same))
 
   abbrev Rise : Named → Named → Type 0
@@ -74,14 +56,14 @@ module _ (sizes : SlotName → ℕ) (ts : List ToldRecord) (told : AreTold sizes
       o ≡ middle ++ s ∷ older → (pre : List OneStep) → order ≡ pre ++ o →
       piece roots ns s older ≡ Some a → Contains (back_at ns o) v → b.x ≡ v.x.played → InLine a b
   before_it later (Logged st) older middle o a b v cut within pre at is behind second =
-      let (n, l) = logged_at sizes ts told rising all ns are roots rule order agree placed closed later st older a cut is in
+      let (n, l) = logged_at run later st older a cut is in
       let here : Contains (front_at ns (Logged st ∷ older)) n = subst (λ zs. Contains zs n) (sym l.next.front) (Contains-append_right (front_at ns older) (n ∷ []) n (first_in n [])) in
       let front : Contains (front_at ns o) n = subst (λ z. Contains (front_at ns z) n) (sym within) (front_within middle (Logged st ∷ older) n here) in
       let whole = (parted ns order agree pre o at).1 in
       in_line a b n v (moment_from roots n a l.moment_is).0 second (pairs_across Rise (front_at ns o) (back_at ns o) n v (subst (AllPairs Rise) whole pairs) front behind)
   before_it later (Spoiled t word) older middle o a b v cut within pre at is behind second =
-      let (f, spoil) = spoil_at sizes ts told rising all ns are roots rule order agree placed closed later t word older cut in
-      let same = spoils_piece sizes ts told rising all ns are roots rule order agree placed closed later t word older f a cut spoil is in
+      let (f, spoil) = spoil_at run later t word older cut in
+      let same = spoils_piece run later t word older f a cut spoil is in
       let first : a.x ≡ f.x.played = sym (ap (λ (z : Moment). z.x) same) in
       let back : Contains (back_at ns older) v = back_within middle (Spoiled t word ∷ older) v (subst (λ z. Contains (back_at ns z) v) within behind) in
       in_line a b f v first second (λ thread. elim (Contains-append_cases spoil.is.mid (f ∷ spoil.is.rest) v (subst (λ zs. Contains zs v) spoil.is.parts back)) [

@@ -1,4 +1,4 @@
--- What is kept of the moments as it stands in a list is kept so phase by phase; and what entries of the logs put into a list.
+-- What is kept of the moments as it is in a list is kept so phase by phase; and what entries of the logs put into a list.
 use Rattle.std.proofs.Common.{◌≡◌, ℕ, zero, suc, ◌<◌, ◌≤◌, List, [], ◌∷◌, ◌++◌, map, length, get_or, slice_get, flat_map, Option, Some, None, refl, sym, ◌∙◌, ap, subst, arith, inl, inr, ◌⊎◌}
 use Rattle.std.specs.Prelude.{Contains, AllPairs, option_map, option_and_then}
 use Rattle.std.specs.List.{cons_option, filter_map}
@@ -6,6 +6,7 @@ use Rattle.std.proofs.lemmas.Bool.{cases_lt, cases_eq, eq-eqb, ne_eqb}
 use Rattle.std.proofs.lemmas.List.{map-append}
 use Rattle.std.proofs.lemmas.List.Elements.{Contains-append_right}
 use Rattle.pa_lists.proofs.Members.{not_in_none, first_in, later_in, in_cases}
+use Rattle.pa_lists.proofs.Pairs.{pairs_give}
 use Rattle.pa_region.specs.declared.view.Entry.{Entry}
 use Rattle.pa_region.specs.declared.view.Entry.TheVariants.{Counted, Looked, Read, Added, Entered, Uncut}
 use Rattle.pa_region.specs.declared.view.Made.{Made}
@@ -23,7 +24,7 @@ use Rattle.pa_timeline.proofs.Places.{moment}
 use Rattle.pa_logs.specs.Told.{ToldRecord, played_in}
 use Rattle.pa_step_order.specs.Segments.{look_part, entry_with, entering, entered_part, part_of}
 use Rattle.pa_step_order.proofs.Named.{Named, AreNamed}
-use Rattle.pa_step_order.proofs.Moments.{moments_in, phase_at, by_phases, pairs_give, of_records}
+use Rattle.pa_step_order.proofs.Moments.{moments_in, phase_at, by_phases, of_records}
 use Rattle.pa_step_order.proofs.Sorting.{sorted_kept, KeptRises}
 
 -- ---- phases along a list
@@ -46,7 +47,7 @@ stand_in_phases line ps es order i j d before below x y first second on on' = el
 ]
 
 module _ (ts : List ToldRecord) (all : List Stamped) (ns : List Named) (are : AreNamed ts all ns) (roots : Journals) where
-  -- what is kept as it stands in a list
+  -- what is kept as it is in a list
   pub phases_keep : {B : Type 0} (f : Moment → Option B) (line : B → ℕ) (es : List B) → ((m : Moment) (u : B) → f m ≡ Some u → line u ≡ m.x.line) →
       filter_map f (moments_in roots ns) ≡ es → AllPairs (λ u v. InPhase (played_in ts) (line u) (line v)) es → filter_map f (by_phases roots ns) ≡ es
   phases_keep {B = B} f line es lines kept phases =

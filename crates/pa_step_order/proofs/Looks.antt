@@ -18,6 +18,7 @@ use Rattle.pa_trace.specs.declared.script.Op.{Op}
 use Rattle.pa_record.specs.declared.entry.Seen.{Seen}
 use Rattle.pa_record.specs.declared.entry.Answer.{Answer}
 use Rattle.pa_record.specs.declared.entry.Answer.TheVariants as answers
+use Rattle.pa_record.specs.declared.root.RootAct.{RootAct}
 use Rattle.pa_record.specs.declared.root.RootEntry.{RootEntry}
 use Rattle.pa_lists.proofs.Members.{not_in_none, in_cases, of_some, not_some}
 use Rattle.pa_lists.proofs.Elements.{in_one}
@@ -91,28 +92,29 @@ look_looks (answers.Made seen usable) part is = absurd (not_some part is)
 look_looks (answers.Done seen) part is = absurd (not_some part is)
 look_looks answer part is = sym (of_some Looking part is)
 
--- an entry in a list is no touch
-no_touch : (q : ℕ) (o : Option RootEntry) (part : Part) → entering q o ≡ Some part → IsTouch part → ⊥
-no_touch q None part is touch = not_some part is
-no_touch q (Some e) part is (inl looks) = let both : Entering q e.act ≡ Looking = of_some (Entering q e.act) part is ∙ looks in cc
-no_touch q (Some e) part is (inr counts) = let both : Entering q e.act ≡ Counting = of_some (Entering q e.act) part is ∙ counts in cc
-
-asks_no_touch : (part : Part) → Some Asking ≡ Some part → IsTouch part → ⊥
-asks_no_touch part is (inl looks) = let both : Asking ≡ Looking = of_some Asking part is ∙ looks in cc
-asks_no_touch part is (inr counts) = let both : Asking ≡ Counting = of_some Asking part is ∙ counts in cc
-
-swaps_no_touch : (part : Part) → Some Swapping ≡ Some part → IsTouch part → ⊥
-swaps_no_touch part is (inl looks) = let both : Swapping ≡ Looking = of_some Swapping part is ∙ looks in cc
-swaps_no_touch part is (inr counts) = let both : Swapping ≡ Counting = of_some Swapping part is ∙ counts in cc
-
-entered_no_touch : (roots : Journals) (q : ℕ) (numbers : List ℕ) (part : Part) → entered_part roots q numbers ≡ Some part → IsTouch part → ⊥
-entered_no_touch roots q numbers part is touch = elim (cases_Bool (eqb q 4)) [
-  | inl four ↦ asks_no_touch part (rw four at is) touch
+-- an entry in a list asks, exchanges, or enters a journal
+pub entered_is : (P : Part → Type 0) → P Asking → P Swapping → ((q : ℕ) (act : RootAct) → P (Entering q act)) →
+    (roots : Journals) (q : ℕ) (numbers : List ℕ) (part : Part) → entered_part roots q numbers ≡ Some part → P part
+entered_is P asks swaps enters roots q numbers part is = elim (cases_Bool (eqb q 4)) [
+  | inl four ↦ subst P (of_some Asking part (rw four at is)) asks
   | inr more ↦ elim (cases_Bool (eqb q 5)) [
-    | inl five ↦ swaps_no_touch part (rw (more, five) at is) touch
-    | inr other ↦ no_touch q (entry_with numbers (roots q)) part (rw (more, other) at is) touch
+    | inl five ↦ subst P (of_some Swapping part (rw (more, five) at is)) swaps
+    | inr other ↦ journal (entry_with numbers (roots q)) (rw (more, other) at is)
   ]
 ]
+  where
+    journal : (o : Option RootEntry) → entering q o ≡ Some part → P part
+    journal None e = absurd (not_some part e)
+    journal (Some r) e = subst P (of_some (Entering q r.act) part e) (enters q r.act)
+
+no_touch : (part : Part) → (part ≡ Looking → ⊥) → (part ≡ Counting → ⊥) → IsTouch part → ⊥
+no_touch part looks counts (inl is) = looks is
+no_touch part looks counts (inr is) = counts is
+
+-- so it is no touch
+entered_no_touch : (roots : Journals) (q : ℕ) (numbers : List ℕ) (part : Part) → entered_part roots q numbers ≡ Some part → IsTouch part → ⊥
+entered_no_touch =
+    entered_is (λ p. IsTouch p → ⊥) (no_touch Asking (λ e. cc) (λ e. cc)) (no_touch Swapping (λ e. cc) (λ e. cc)) (λ q act. no_touch (Entering q act) (λ e. cc) (λ e. cc))
 
 loads_no_touch : (part : Part) → Some Loading ≡ Some part → IsTouch part → ⊥
 loads_no_touch part is (inl looks) = let both : Loading ≡ Looking = of_some Loading part is ∙ looks in cc

@@ -47,7 +47,7 @@ fills_settles steps.Write f = tt
 pub free_settles : (p : Step) → p ≡ steps.Free → Settles p
 free_settles p e = subst Settles (sym e) tt
 
--- After these moments comes a poisoning for this record, which frees its slot: of the slot's steps that fill or free it none stands
+-- After these moments comes a poisoning for this record, which frees its slot: of the slot's steps that fill or free it none is
 -- between the two.
 pub record IsBeforeFree (ps : List Played) (us : List Moment) (x : Played) : Type 0 where
   pub d : StepMade
@@ -57,7 +57,7 @@ pub record IsBeforeFree (ps : List Played) (us : List Moment) (x : Played) : Typ
   pub next : (y : Played) (e : StepMade) → Contains ps y → step_by y ≡ Some e → e.slot ≡ d.slot → Settles e.step →
       counted_steps d.slot us ≤ number_of e.found → number_of d.found ≤ number_of e.found
 
--- After these moments comes a read that gave this value: it is what they left, and no step that fills the slot stands between the
+-- After these moments comes a read that gave this value: it is what they left, and no step that fills the slot is between the
 -- read's look and the read.
 pub record IsReadAfter (ps : List Played) (us : List Moment) (seen : Seen) (place value : ℕ) : Type 0 where
   pub gave : value ≡ content_after seen.slot place 0 us
@@ -143,13 +143,13 @@ module _ (ps : List Played) (ms : List Moment) (marked : AreMarked ps ms) where
     ]
   ]
 
-  -- a counted step stands where its number says
+  -- a counted step is where its number says
   pub step_place : (s : SlotName) (us vs : List Moment) (m : Moment) (d : StepMade) → ms ≡ us ++ m ∷ vs → m.part ≡ Counting → step_by m.x ≡ Some d → d.slot ≡ s →
       number_of d.found ≡ counted_steps s us
   step_place s us vs m d cut counts is slot =
       marked.finds us vs m (mark_made m.x.line d) cut (inr counts) (step_mark m.x.line m.x.op m.x.answer d is) ∙ ap (λ z. counted_steps z us) slot
 
-  -- a change stands not behind its record's number
+  -- a change isn't after its record's number
   pub change_place : (s : SlotName) (place : ℕ) (us vs : List Moment) (m : Moment) (v : ℕ) (c : IsChange s place m v) → ms ≡ us ++ m ∷ vs →
       counted_steps s us ≤ number_of c.d.found
   change_place s place us vs m v c cut = elim c.how [

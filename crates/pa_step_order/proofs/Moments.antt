@@ -6,8 +6,7 @@ use Rattle.std.proofs.lemmas.Bool.{cases_eq, eq-eqb, ne_eqb}
 use Rattle.pa_lists.proofs.Elements.{all_from_members}
 use Rattle.pa_lists.proofs.Indexed.{option_cases}
 use Rattle.pa_lists.proofs.Joined.{map_cases, map_in}
-use Rattle.pa_lists.proofs.Members.{first_in, later_in, not_some}
-use Rattle.pa_lists.proofs.Pairs.{pairs_none, pairs_cons, pairs_head, pairs_tail}
+use Rattle.pa_lists.proofs.Members.{not_some}
 use Rattle.pa_region.specs.declared.view.Entry.{Entry}
 use Rattle.pa_region.specs.Order.{Stamped}
 use Rattle.pa_rules.specs.declared.played.Played.{Played}
@@ -38,21 +37,13 @@ phase_at m = m.x.phase
 abbrev pub by_phases : Journals → List Named → List Moment
 by_phases roots ns = sorted phase_at (moments_in roots ns)
 
--- what holds of each two members that a relation relates
-pub pairs_give : {A : Type 0} (R S : A → A → Type 0) (xs : List A) → AllPairs R xs →
-    ((x y : A) → Contains xs x → Contains xs y → R x y → S x y) → AllPairs S xs
-pairs_give R S [] pairs h = pairs_none S
-pairs_give R S (x ∷ xs) pairs h =
-    pairs_cons S x xs (λ y among. h x y (first_in x xs) (later_in x y xs among) (pairs_head R x y xs pairs among))
-    (pairs_give R S xs (pairs_tail R x xs pairs) (λ y z first second. h y z (later_in x y xs first) (later_in x z xs second)))
-
 -- ---- threads and phases
 
 -- moments of one thread are in the order of its lines
 abbrev pub InLine : Moment → Moment → Type 0
 InLine m n = m.x.thread ≡ n.x.thread → m.x.line ≤ n.x.line
 
--- then, phase by phase, none stands before one that comes before it
+-- then, phase by phase, none is before one that comes before it
 pub sorted_in_order : (ps : List Played) (ms : List Moment) → ((m : Moment) → Contains ms m → Contains ps m.x) →
     ((x y : Played) → Contains ps x → Contains ps y → x.phase < y.phase → x.line < y.line) → AllPairs InLine ms →
     AllPairs (λ (m n : Moment). StandsBefore n.x m.x → ⊥) (sorted phase_at ms)

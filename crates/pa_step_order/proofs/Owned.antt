@@ -1,4 +1,4 @@
--- A poisoning is of the next record that frees its title: none that fills or frees it stands between.
+-- A poisoning is of the next record that frees its title: none that fills or frees it is between.
 use Rattle.std.proofs.Common.{◌≡◌, ℕ, ◌+◌, ◌<◌, ◌≤◌, ◌&&◌, Bool, true, false, List, [], ◌∷◌, ◌++◌, map, Some, refl, sym, ◌∙◌, ap, subst, arith, inl, inr, append_assoc}
 use Rattle.std.specs.Prelude.{Contains, find, option_map}
 use Rattle.std.specs.List.{cons_option}
@@ -63,7 +63,7 @@ free_entry t e is = absurd (true≢false (sym is))
 abbrev pub LeavesIt : Title → Entry → Type 0
 LeavesIt t e = (step : Step) (found value : ℕ) → e ≡ Counted t step found value → Settles step → ⊥
 
--- The first free of the title among these entries: of the steps that fill or free it none stands before it, and none of its thread.
+-- The first free of the title among these entries: of the steps that fill or free it none is before it, and none of its thread.
 pub record IsFirstFree (t : Title) (xs : List Named) (f : Named) : Type 0 where
   pub mid : List Named
   pub rest : List Named
@@ -102,7 +102,7 @@ first_now t n xs free = record {
 }
 
 module _ (ns : List Named) (order : List OneStep) (agree : map stamped_of ns ≡ logged_among order) (placed : AreInPlace order) (closed : (t : Title) → spoiled t order ≡ 0) where
-  -- Each title with poisonings among these steps has its free behind them, and with its stake nothing was logged since the first of them.
+  -- Each title with poisonings among these steps has its free after them, and with its stake nothing was logged since the first of them.
   abbrev AreOwned : List OneStep → Type 0
   AreOwned st = (t : Title) → 0 < spoiled t st → (f : Named) × IsFirstFree t (back_at ns st) f × IsAlone f.x.played.thread t st
 

@@ -1,11 +1,10 @@
--- Each free has its poisonings among the moments, word by word and in front of its counted step; each other record has none.
+-- Each free has its poisonings among the moments, word by word and before its counted step; each other record has none.
 use Rattle.std.proofs.Common.{◌≡◌, ℕ, zero, suc, ◌+◌, eqb, true, false, List, [], ◌∷◌, ◌++◌, map, length, take, Option, Some, None, refl, sym, ◌∙◌, ap, subst, arith, inl, inr, append_assoc, append-nil}
 use Rattle.std.specs.Prelude.{Contains, AllPairs, find, option_map, option_and_then}
 use Rattle.std.specs.List.{cons_option, filter_map, flat_map, range_with_len}
 use Rattle.std.proofs.lemmas.Bool.{cases_Bool, true≢false, eq-eqb, ne_eqb}
 use Rattle.std.proofs.lemmas.List.Elements.{filter_map-append}
 use Rattle.pa_machine.specs.declared.title.Title.{Title}
-use Rattle.pa_machine.specs.declared.word.SlotName.{SlotName}
 use Rattle.pa_machine.specs.declared.word.Step.TheVariants as steps
 use Rattle.pa_machine.specs.Count.{number_of}
 use Rattle.pa_machine.specs.Holdings.{one}
@@ -13,26 +12,26 @@ use Rattle.pa_machine.specs.Titles.{same_title, content_count}
 use Rattle.pa_record.specs.declared.root.RootAct.{RootAct}
 use Rattle.pa_record.specs.Root.{asked_by}
 use Rattle.pa_region.specs.declared.view.Entry.TheVariants.{Counted}
-use Rattle.pa_region.specs.Order.{Stamped, OneStep, Logged, Spoiled, logged_among, is_free_of, spoiled, IsEntryInPlace, IsCountInPlace, AreInPlace}
+use Rattle.pa_region.specs.Order.{Stamped, OneStep, Logged, Spoiled, logged_among, is_free_of, spoiled, IsEntryInPlace, IsCountInPlace}
 use Rattle.pa_lists.proofs.Elements.{in_middle}
 use Rattle.pa_lists.proofs.Joined.{map_in, flat_cases}
 use Rattle.pa_lists.proofs.Members.{first_in, later_in, in_cases, not_in_none, of_some}
 use Rattle.pa_lists.proofs.Pairs.{pairs_head, pairs_tail}
+use Rattle.pa_lists.proofs.Cuts.{none_cons, last_or_within, take_both}
 use Rattle.pa_rules.specs.declared.played.Played.{Played}
 use Rattle.pa_rules.specs.Roots.{Journals}
 use Rattle.pa_rules.specs.Caches.{acts_of}
 use Rattle.pa_logs.specs.Told.{ToldRecord, played_in}
-use Rattle.pa_logs.specs.Touches.{title_of, StepMade, step_by, AreTold}
-use Rattle.pa_logs.specs.Listed.{AreRising}
+use Rattle.pa_logs.specs.Touches.{title_of, StepMade, step_by}
 use Rattle.pa_timeline.specs.Timeline.{Part, Asking, Entering, Spoiling, Counting, Moment, asking_before, act_parts, entry_parts, parts_in}
 use Rattle.pa_timeline.proofs.Kept.{none_or_some, kept_twice}
 use Rattle.pa_timeline.proofs.Places.{part_on, parts_kept}
 use Rattle.pa_timeline.proofs.Outlined.{part_stays}
 use Rattle.pa_step_order.specs.Segments.{part_of}
-use Rattle.pa_step_order.proofs.Named.{Named, AreNamed, named_in}
+use Rattle.pa_step_order.proofs.Named.{Named, named_in}
 use Rattle.pa_step_order.proofs.Moments.{moment_of, one_played}
-use Rattle.pa_step_order.proofs.Found.{IsFound}
-use Rattle.pa_step_order.proofs.Laid.{stamped_of, back_at, front_at, first, spoiling, frees, piece, laid, in_place, never_spoils, logged_append, last_or_within, none_cons, next_named}
+use Rattle.pa_step_order.proofs.Ordered.{OrderedRun}
+use Rattle.pa_step_order.proofs.Laid.{stamped_of, back_at, front_at, first, spoiling, frees, piece, laid, in_place, never_spoils, logged_append, next_named}
 use Rattle.pa_step_order.proofs.Owned.{same_self, same_is, free_entry, number_named, counts_front, counts_past}
 use Rattle.pa_step_order.proofs.Belonging.{front_count, IsSpoil, spoil_at}
 
@@ -82,11 +81,6 @@ entries_uncounted partitions roots line among =
 
 -- ---- lists
 
-take_more : {A B : Type 0} (a b : List B) (xs : List A) → (c : List A) × (take (length (a ++ b)) xs ≡ take (length a) xs ++ c)
-take_more [] b xs = (take (length b) xs, refl)
-take_more (y ∷ a) b [] = ([], refl)
-take_more (y ∷ a) b (x ∷ xs) = let (c, is) = take_more a b xs in (c, ap (λ z. x ∷ z) is)
-
 pub logged_cut : (st : List OneStep) (A B : List Stamped) (m : Stamped) → logged_among st ≡ A ++ m ∷ B →
     (later : List OneStep) × (o : List OneStep) × (st ≡ later ++ Logged m ∷ o) × (logged_among o ≡ A)
 logged_cut [] A B m e = absurd (none_cons A m B e)
@@ -96,9 +90,9 @@ logged_cut (Logged x ∷ o) A B m e = elim (last_or_within (logged_among o) x A 
 ]
 logged_cut (Spoiled t word ∷ o) A B m e = let (later, o', cut, same) = logged_cut o A B m e in (Spoiled t word ∷ later, o', ap (λ z. Spoiled t word ∷ z) cut, same)
 
-module _ (sizes : SlotName → ℕ) (ts : List ToldRecord) (told : AreTold sizes ts) (rising : AreRising ts) (all : List Stamped) (ns : List Named)
-    (are : AreNamed ts all ns) (roots : Journals) (rule : IsFound all)
-    (order : List OneStep) (agree : map stamped_of ns ≡ logged_among order) (placed : AreInPlace order) (closed : (t : Title) → spoiled t order ≡ 0) where
+module _ (run : OrderedRun) where
+  open run use {sizes, ts, told, rising, all, ns, are, roots, rule, order, agree, placed, closed}
+
   pub same_record : (n : Named) (x : Played) → Contains ns n → Contains (played_in ts) x → n.x.played.line ≡ x.line → n.x.played ≡ x
   same_record n x among of same =
       one_played ts all ns are roots rising n.x.played x (map_in (λ (z : ToldRecord). z.played) ts n.x (named_in ts all ns are n among).0) of same
@@ -154,7 +148,7 @@ module _ (sizes : SlotName → ℕ) (ts : List ToldRecord) (told : AreTold sizes
         spoiled_adds t word o f is ∙ ap (λ z. spoilt (laid roots ns o) ++ z) (adds_none word f other) ∙ append-nil (spoilt (laid roots ns o))
 
     -- the step of a free that a poisoning is of, if its line is this record's
-    pub spoil_step : (t : Title) (o : List OneStep) (f : Named) (spoil : IsSpoil sizes ts told rising all ns are roots rule order agree placed closed t o f) → f.x.played.line ≡ x.line →
+    pub spoil_step : (t : Title) (o : List OneStep) (f : Named) (spoil : IsSpoil run t o f) → f.x.played.line ≡ x.line →
         step_by x ≡ Some spoil.d
     spoil_step t o f spoil here =
         ap step_by (sym (same_record f x (in_middle (front_at ns o ++ spoil.is.mid) spoil.is.rest ns f spoil.cut) of here)) ∙ spoil.of.is
@@ -166,7 +160,7 @@ module _ (sizes : SlotName → ℕ) (ts : List ToldRecord) (told : AreTold sizes
     none_spoilt other pre (Logged m ∷ o) cut =
         logged_adds pre m o cut ∙ none_spoilt other (pre ++ Logged m ∷ []) o (cut ∙ sym (append_assoc pre (Logged m ∷ []) o))
     none_spoilt other pre (Spoiled t word ∷ o) cut =
-        let (f, spoil) = spoil_at sizes ts told rising all ns are roots rule order agree placed closed pre t word o cut in
+        let (f, spoil) = spoil_at run pre t word o cut in
         spoiled_skips t word o f spoil.is.found (λ here. other spoil.d (spoil_step t o f spoil here) (sym spoil.of.step_is))
         ∙ none_spoilt other (pre ++ Spoiled t word ∷ []) o (cut ∙ sym (append_assoc pre (Spoiled t word ∷ []) o))
 
@@ -178,7 +172,7 @@ module _ (sizes : SlotName → ℕ) (ts : List ToldRecord) (told : AreTold sizes
       title = title_of sizes d.slot
 
       abbrev counts : List Named → ℕ
-      counts xs = front_count sizes ts told rising all ns are roots rule order agree placed closed d.slot xs
+      counts xs = front_count run d.slot xs
 
       made_n : step_by n.x.played ≡ Some d
       made_n = ap step_by is_x ∙ is_d
@@ -189,8 +183,8 @@ module _ (sizes : SlotName → ℕ) (ts : List ToldRecord) (told : AreTold sizes
       number : number_of d.found ≡ counts a
       number = number_named sizes ts told all ns are roots rule a b n title d.step d.found d.value d parts entry made_n
 
-      -- a poisoning of this record is of its title, and its free stands at this place
-      at_place : (t : Title) (o : List OneStep) (f : Named) (spoil : IsSpoil sizes ts told rising all ns are roots rule order agree placed closed t o f) → f.x.played.line ≡ x.line →
+      -- a poisoning of this record is of its title, and its free is at this place
+      at_place : (t : Title) (o : List OneStep) (f : Named) (spoil : IsSpoil run t o f) → f.x.played.line ≡ x.line →
           (t ≡ title) × (counts a ≡ counts (front_at ns o ++ spoil.is.mid))
       at_place t o f spoil here =
           let one : spoil.d ≡ d = of_some spoil.d d (sym (spoil_step t o f spoil here) ∙ is_d) in
@@ -208,12 +202,12 @@ module _ (sizes : SlotName → ℕ) (ts : List ToldRecord) (told : AreTold sizes
             logged_adds pre z (more ++ Logged m ∷ o) at ∙ after_none more (pre ++ Logged z ∷ []) (at ∙ sym (append_assoc pre (Logged z ∷ []) (more ++ Logged m ∷ o)))
         after_none (Spoiled t word ∷ more) pre at =
             let st = more ++ Logged m ∷ o in
-            let (f, spoil) = spoil_at sizes ts told rising all ns are roots rule order agree placed closed pre t word st at in
+            let (f, spoil) = spoil_at run pre t word st at in
             let (next_n, next) = next_named ns order agree later m o cut in
             let heads : next_n ∷ back_at ns (Logged m ∷ o) ≡ n ∷ b = sym next.back ∙ back_is in
             let same : next_n ≡ n = cc in
             let front : front_at ns (Logged m ∷ o) ≡ a ++ n ∷ [] = next.front ∙ ap (λ z. front_at ns o ++ z ∷ []) same ∙ ap (λ z. z ++ n ∷ []) front_is in
-            let (c, grown) = take_more (logged_among (Logged m ∷ o)) (logged_among more) ns in
+            let (c, grown) = take_both (logged_among (Logged m ∷ o)) (logged_among more) ns in
             let whole : front_at ns st ≡ (a ++ n ∷ []) ++ c = ap (λ z. take (length z) ns) (logged_append more (Logged m ∷ o)) ∙ grown ∙ ap (λ z. z ++ c) front in
             spoiled_skips t word st f spoil.is.found (λ here.
             let place = (at_place t st f spoil here).1 in
@@ -253,7 +247,7 @@ module _ (sizes : SlotName → ℕ) (ts : List ToldRecord) (told : AreTold sizes
               | inl free ↦
                   let free_g : frees title g ≡ true = ap (is_free_of title) entry_g ∙ free in
                   let found : find (frees title) (back_at ns st) ≡ Some g = ap (find (frees title)) next.back ∙ rw free_g refl in
-                  let (c, grown) = take_more (logged_among (Logged z ∷ st)) (logged_among more) ns in
+                  let (c, grown) = take_both (logged_among (Logged z ∷ st)) (logged_among more) ns in
                   let a_is : a ≡ front_at ns st ++ g ∷ c =
                   sym front_is ∙ ap (λ w. take (length w) ns) (ap logged_among within ∙ logged_append more (Logged z ∷ st)) ∙ grown ∙ ap (λ w. w ++ c) next.front
                   ∙ append_assoc (front_at ns st) (g ∷ []) c in
@@ -269,7 +263,7 @@ module _ (sizes : SlotName → ℕ) (ts : List ToldRecord) (told : AreTold sizes
         before more (Spoiled t word ∷ st) within =
             let at : order ≡ (later ++ Logged m ∷ more) ++ Spoiled t word ∷ st = cut ∙ ap (λ w. later ++ Logged m ∷ w) within ∙ sym (append_assoc later (Logged m ∷ more) (Spoiled t word ∷ st)) in
             let again = before (more ++ Spoiled t word ∷ []) st (within ∙ sym (append_assoc more (Spoiled t word ∷ []) st)) in
-            let (f, spoil) = spoil_at sizes ts told rising all ns are roots rule order agree placed closed (later ++ Logged m ∷ more) t word st at in
+            let (f, spoil) = spoil_at run (later ++ Logged m ∷ more) t word st at in
             let in_order = in_place order (later ++ Logged m ∷ more) (Spoiled t word) st at placed in
             elim (cases_Bool (same_title t title)) [
               | inl here ↦

@@ -14,6 +14,7 @@ use Rattle.pa_record.specs.declared.entry.Answer.TheVariants as answers
 use Rattle.pa_lists.proofs.Elements.{in_middle}
 use Rattle.pa_lists.proofs.Members.{first_in, not_some, of_some}
 use Rattle.pa_lists.proofs.Parts.{pairs_across}
+use Rattle.pa_lists.proofs.Cuts.{pairs_cuts}
 use Rattle.pa_rules.specs.declared.played.Played.{Played}
 use Rattle.pa_rules.specs.Played.{mark_of, mark_at, mark_of_answer}
 use Rattle.pa_rules.specs.Flow.{IsInPhases}
@@ -22,7 +23,6 @@ use Rattle.pa_logs.proofs.StepMarks.{mark_made, step_mark}
 use Rattle.pa_timeline.specs.Timeline.{Part, Loading, Counting, Moment, part_leaves, moment_leaves, content_after, is_of_slot, GivesAt}
 use Rattle.pa_timeline.proofs.Kept.{kept_cut, kept_twice, kept_same}
 use Rattle.pa_step_order.proofs.Sorting.{sorted, sorted_rises, sorted_kept, KeptRises, Rises}
-use Rattle.pa_step_order.proofs.Found.{pairs_cuts}
 use Rattle.pa_step_order.proofs.Moments.{phase_at}
 use Rattle.pa_step_order.proofs.Contents.{last_of, content_is_last}
 use Rattle.pa_step_order.proofs.Marked.{IsReadAfter, AreMarked, counts_more, change_is, change_place, none_within}
@@ -202,13 +202,13 @@ module _ (ps : List Played) (ms : List Moment) (marked : AreMarked ps ms) (run :
         same m (inl this) = rw this (sym (nothing m (load_leaves here place m (loads m.part (loading m this)))))
         same m (inr other) = rw other (back (early m))
 
-    -- what those of its phase or before left is what all that stand before it left
+    -- what those of its phase or before left is what all that are before it left
     content_early : (before : List Moment) → ((m : Moment) → Contains before m → m.x.phase ≤ x.phase) → content_after here place 0 before ≡ last_of 0 (filter_map early before)
     content_early before low =
         content_is_last here place 0 before
         ∙ ap (last_of 0) (kept_same leaves early before (λ m among. sym (ap (λ b. cond b (leaves m) None) (le-leb m.x.phase x.phase (low m among)))))
 
-    -- where the read stands in the order of the logs, with what was changed before it
+    -- where the read is in the order of the logs, with what was changed before it
     pub found_read : (before after : List Moment) (m : Moment) → sorted phase_at ms ≡ before ++ m ∷ after → m.part ≡ Loading → m.x ≡ x →
         (us vs : List Moment) (r : Moment) → ms ≡ us ++ r ∷ vs → sorts r ≡ Some None → filter_map sorts us ≡ filter_map sorts before →
         content_after here place 0 before ≡ last_of 0 (filter_map early us)

@@ -79,7 +79,7 @@ module _ (roots : Journals) (past : (p : ℕ) → 4 ≤ p → roots p ≡ []) wh
 
   -- ---- entries and their signs
 
-  -- An entry is the step that its sign is, if it is no read, and a look only where looks are no steps.
+  -- An entry is the step that its sign is, if it is no read, and a look only if looks are no steps.
   entry_agrees : (answer : Answer) (e : Entry) → ((t : Title) (found : ℕ) → e ≡ Looked t found → look_part answer ≡ None) →
       ((t : Title) (place value : ℕ) (since : Deeds) (owned unclean : Bool) → e ≡ Read t place value since owned unclean → ⊥) →
       part_of roots answer e ≡ option_and_then (sign_part roots) (sign_of e)

@@ -88,7 +88,7 @@ module _ {A : Type 0} (key : A → ℕ) where
 
   -- ---- what the order keeps
 
-  -- what holds of each two holds of them in the new order, if it holds the other way round where the number says so
+  -- what holds of each two holds of them in the new order, if it holds the other way round whenever the number says so
   inserted_pairs : (S : A → A → Type 0) (x : A) (ys : List A) → AllPairs S ys → ((y : A) → Contains ys y → S x y) →
       ((y : A) → Contains ys y → S x y → key y < key x → S y x) → AllPairs S (inserted x ys)
   inserted_pairs S x [] h first turn = pairs_cons S x [] first h

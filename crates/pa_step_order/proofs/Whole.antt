@@ -1,9 +1,9 @@
 -- From what all layers say, and the order of each record's steps in its log segment: the run has a timeline.
-use Rattle.std.proofs.Common.{◌≡◌, ℕ, ◌+◌, ◌<◌, ◌≤◌, List, [], ◌∷◌, map, flat_map, Some, refl, sym, ◌∙◌, ap, subst, arith, inl, inr}
+use Rattle.std.proofs.Common.{◌≡◌, ℕ, ◌+◌, ◌<◌, ◌≤◌, List, [], ◌∷◌, map, Some, refl, sym, ◌∙◌, ap, subst, arith, inl, inr}
 use Rattle.std.specs.Prelude.{Contains}
 use Rattle.std.specs.List.{filter_map}
 use Rattle.std.specs.List.{AllByRecursion as Each}
-use Rattle.std.proofs.lemmas.Bool.{cases_lt, eqb-true, ne_eqb}
+use Rattle.std.proofs.lemmas.Bool.{cases_lt, ne_eqb}
 use Rattle.pa_region.specs.declared.view.Stake.{Stake}
 use Rattle.pa_region.specs.declared.view.View.{View}
 use Rattle.pa_region.specs.Lists.{list_of, entered_in}
@@ -21,19 +21,19 @@ use Rattle.pa_rules.specs.Registers.{usable_in}
 use Rattle.pa_rules.specs.Sizes.{usable_of}
 use Rattle.pa_timeline.specs.Timeline.{Moment, outline_parts, IsStepOrder, IsTimeline}
 use Rattle.pa_timeline.proofs.Outlined.{stays}
-use Rattle.pa_logs.specs.Told.{ToldRecord, played_in, is_of_thread, log_of}
+use Rattle.pa_logs.specs.Told.{ToldRecord, played_in, log_of}
 use Rattle.pa_logs.specs.Said.{sizes_in, LayersSay}
 use Rattle.pa_logs.specs.Listed.{AreRising}
 use Rattle.pa_logs.specs.Steps.{AreSteps}
 use Rattle.pa_logs.specs.Touches.{title_of, StepMade, step_by}
 use Rattle.pa_logs.proofs.Histories.{histories_follow}
 use Rattle.pa_logs.proofs.Usable.{usable_follows}
-use Rattle.pa_logs.proofs.Filters.{filter_none}
 use Rattle.pa_logs.proofs.Lined.{phases_rise}
 use Rattle.pa_logs.proofs.Places.{each_at, stake_at}
 use Rattle.pa_logs.proofs.Said.{layers_tell_all}
 use Rattle.pa_logs.proofs.Saying.{are_lines, rising, knows, list_is, are_lists, answered}
 use Rattle.pa_logs.proofs.Whole.{in_phases}
+use Rattle.pa_logs.proofs.Seating.{none_logged}
 use Rattle.pa_step_order.specs.Segments.{AreInTheirOrder}
 use Rattle.pa_step_order.specs.Laws.{TimelineFollows}
 use Rattle.pa_step_order.proofs.Named.{Named, AreNamed, named_log, names_are}
@@ -42,6 +42,7 @@ use Rattle.pa_step_order.proofs.Sorting.{sorted}
 use Rattle.pa_step_order.proofs.Marked.{AreMarked}
 use Rattle.pa_step_order.proofs.Again.{issued_again}
 use Rattle.pa_step_order.proofs.Timed.{timeline}
+use Rattle.pa_step_order.proofs.Ordered.{OrderedRun}
 use Rattle.pa_step_order.proofs.Laid.{stamped_of, stamps_agree, laid, laid_stays}
 use Rattle.pa_step_order.proofs.Belonging.{front_all, members, finds, spoils}
 use Rattle.pa_step_order.proofs.Calming.{reads}
@@ -58,11 +59,6 @@ none_stamped k [] high small = refl
 none_stamped k (m ∷ all) high small =
     let low = small.0 in
     rw (ne_eqb m.stake k (λ e. omega arith)) (none_stamped k all high small.1)
-
-none_logged : (k : ℕ) (ts : List ToldRecord) → 16 ≤ k → ((x : ToldRecord) → Contains ts x → x.played.thread < 16) → log_of k ts ≡ []
-none_logged k ts high low =
-    ap (λ xs. flat_map (λ (x : ToldRecord). x.stretch) xs) (filter_none (is_of_thread k) ts (λ x among mine.
-    let below = low x among in let same = eqb-true x.played.thread k mine in absurd (omega arith)))
 
 module _ (t : Trace) (r : Told) (v : View) (ts : List ToldRecord) (says : LayersSay t r v ts) where
   one_order : HasOneOrder v
@@ -134,15 +130,32 @@ module _ (t : Trace) (r : Told) (v : View) (ts : List ToldRecord) (says : Layers
     closed : (u : Title) → spoiled u one_order.steps ≡ 0
     closed u = one_order.freed u (none_poisoned v u clean)
 
+    abbrev run : OrderedRun
+    run = record {
+      sizes = sizes;
+      ts = ts;
+      told = says.heap.told;
+      rising = up;
+      all = all;
+      ns = names;
+      are = are_named;
+      roots = r.roots;
+      rule = one_order.ordered.found;
+      order = one_order.steps;
+      agree = agree;
+      placed = one_order.placed;
+      closed = closed;
+    }
+
     abbrev ms : List Moment
     ms = laid r.roots names one_order.steps
 
     marked : AreMarked (played_in ts) ms
     marked = record {
-      members = members sizes ts says.heap.told up all names are_named r.roots one_order.ordered.found one_order.steps agree one_order.placed closed;
-      finds = finds sizes ts says.heap.told up all names are_named r.roots one_order.ordered.found one_order.steps agree one_order.placed closed;
-      spoils = spoils sizes ts says.heap.told up all names are_named r.roots one_order.ordered.found one_order.steps agree one_order.placed closed;
-      reads = reads sizes ts says.heap.told up all names are_named r.roots one_order.ordered.found one_order.steps agree one_order.placed closed;
+      members = members run;
+      finds = finds run;
+      spoils = spoils run;
+      reads = reads run;
     }
 
     -- each slot has a history, and the bytes that it was made with
@@ -161,16 +174,16 @@ module _ (t : Trace) (r : Told) (v : View) (ts : List ToldRecord) (says : Layers
     same_moments : filter_map stays ms ≡ moments_in r.roots names
     same_moments =
         laid_stays names one_order.steps agree r.roots [] one_order.steps refl
-        ∙ ap (moments_in r.roots) (front_all sizes ts says.heap.told up all names are_named r.roots one_order.ordered.found one_order.steps agree one_order.placed closed)
+        ∙ ap (moments_in r.roots) (front_all run)
 
     is_timeline : IsTimeline (usable_in (played_in ts)) t.partitions (played_in ts) r.pools r.roots r.cells (sorted phase_at ms)
     is_timeline =
         timeline usable_of (usable_in (played_in ts)) t.partitions r.pools r.roots r.cells (played_in ts) ms marked
         (one_played ts all names are_named r.roots up)
-        (whole_due sizes ts says.heap.told up all names are_named r.roots one_order.ordered.found one_order.steps agree one_order.placed closed t.partitions order (usable_in (played_in ts)) fits)
+        (whole_due run t.partitions order (usable_in (played_in ts)) fits)
         (phases_rise t.lines (played_in ts) (are_lines t r v ts says)) (in_phases r.cells (played_in ts) legal.seen) legal.contents
         (issued_again sizes ts says.heap.told histories)
-        (lines sizes ts says.heap.told up all names are_named r.roots one_order.ordered.found one_order.steps agree one_order.placed closed)
+        (lines run)
         (subst (λ zs. IsStepOrder (outline_parts t.partitions r.roots) (played_in ts) r.pools r.roots r.cells (sorted phase_at zs)) (sym same_moments) (step_order order))
 
 pub timeline_follows : TimelineFollows

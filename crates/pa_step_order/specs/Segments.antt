@@ -23,6 +23,7 @@ same_numbers [] [] = true
 same_numbers (m ∷ ms) (n ∷ ns) = (m == n) && same_numbers ms ns
 same_numbers ms ns = false
 
+-- the journal's first entry with these numbers, if there is one
 abbrev pub entry_with : List ℕ → List RootEntry → Option RootEntry
 entry_with numbers journal = find (λ (e : RootEntry). same_numbers (root_numbers e) numbers) journal
 
@@ -31,6 +32,7 @@ abbrev pub entering : ℕ → Option RootEntry → Option Part
 entering q None = None
 entering q (Some e) = Some (Entering q e.act)
 
+-- what step an entry with these numbers is, in the list of keeper q: none if the list is a root's and no entry of its journal has them
 abbrev pub entered_part : Journals → ℕ → List ℕ → Option Part
 entered_part roots q numbers =
     if q == 4 then Some Asking else (if q == 5 then Some Swapping else entering q (entry_with numbers (roots q)))
@@ -48,5 +50,6 @@ part_of roots answer (Uncut t) = None
 abbrev pub IsInItsOrder : ℕ → Journals → ToldRecord → Type 0
 IsInItsOrder partitions roots x = filter_map (part_of roots x.played.answer) x.stretch ≡ outline_parts partitions roots x.played
 
+-- the log segment of each of these records has the record's steps, in their order
 abbrev pub AreInTheirOrder : ℕ → Journals → List ToldRecord → Type 0
 AreInTheirOrder partitions roots ts = (x : ToldRecord) → Contains ts x → IsInItsOrder partitions roots x

@@ -34,8 +34,8 @@ AreAdditions (Uncut t ∷ es) = ⊥
 -- The signs of a log segment, by its shape.
 --   quiet: an op that enters nothing, and no exchange, has those of its record if its log segment is what its answer requires
 --   swapped: so has an exchange that entered once in the cells' list
---   settled: additions behind a log segment change nothing
---   entries, asked: entries in the list of one root that name none of the pool, and one behind the pool's entry that it names
+--   settled: additions after a log segment change nothing
+--   entries, asked: entries in the list of one root that name none of the pool, and one after the pool's entry that it names
 --   only, each: of a line that entered in one journal alone, and in one after the other
 pub record ShapesHaveSigns : Type 0 where
   pub quiet : (sizes : SlotName → ℕ) (partitions : ℕ) (roots : Journals) (x : ToldRecord) → IsTold sizes x →

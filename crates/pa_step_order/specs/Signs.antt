@@ -25,6 +25,7 @@ pub data Sign : Type 0 where
 abbrev pub root_alone : ℕ → List ℕ → List ℕ
 root_alone q numbers = if q == 4 then [] else (if q == 5 then [] else numbers)
 
+-- the sign of a log's entry, if it is a counted step or an entry in a list; others have none
 abbrev pub sign_of : Entry → Option Sign
 sign_of (Counted t step found value) = Some Stepped
 sign_of (Looked t found) = None
@@ -38,6 +39,7 @@ abbrev pub asked_first : Option ℕ → List Sign → List Sign
 asked_first None signs = signs
 asked_first (Some j) signs = Listed 4 [] ∷ signs
 
+-- the signs of what root p did on a line: the pool's entry, if the act names one, and then its own
 abbrev pub act_signs : ℕ → ℕ → RootAct → List Sign
 act_signs line p act = asked_first (asked_by act) (Listed p (root_numbers (record { line = line; act = act })) ∷ [])
 
@@ -54,6 +56,7 @@ due_signs partitions roots line (answers.Swapped entry) = Listed 5 [] ∷ []
 due_signs partitions roots line (answers.Purged slots) = line_signs partitions roots line
 due_signs partitions roots line answer = []
 
+-- the signs of a record's log segment are those that its line and its answer require, in order
 abbrev pub HasItsSigns : ℕ → Journals → ToldRecord → Type 0
 HasItsSigns partitions roots x = filter_map sign_of x.stretch ≡ due_signs partitions roots x.played.line x.played.answer
 

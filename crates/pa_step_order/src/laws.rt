@@ -3,8 +3,8 @@ ghost use Rattle.pa_step_order.specs.Shapes.{ShapesHaveSigns};
 ghost use Rattle.pa_step_order.specs.Signs.{SegmentsFollow};
 
 /// A run of which all layers say what they must has a timeline, if each record's log segment has its steps in their order and the seat at
-/// the end has no Own that isn't clean: all steps of the run stand in one order, in which each found what the steps before it left, and each
-/// read gave what stood there.
+/// the end has no Own that isn't clean: all steps of the run are in one order, in which each found what the steps before it left, and each
+/// read gave what its word contained then.
 pub fn timeline_follows()
     ensures { TimelineFollows }
 {}

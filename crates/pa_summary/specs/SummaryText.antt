@@ -41,6 +41,7 @@ abbrev pub name_from : ℕ → List (List ℕ) → ℕ → List ℕ
 name_from m [] n = []
 name_from m (name ∷ names) n = if n == m then name else name_from (m + 1) names n
 
+-- the name of the answer of number n; nothing if no answer has that number
 abbrev pub answer_name : ℕ → List ℕ
 answer_name n = name_from 1 answer_names n
 
@@ -52,10 +53,11 @@ NamesAreOfRecords = (a : Answer) → (rest : List ℕ) × (answer_text a ≡ ans
 abbrev pub has_answer : ℕ → Entry → ℕ
 has_answer n e = if answer_number e.answer == n then 1 else 0
 
+-- how many of the records have the answer of number n
 abbrev pub answer_count : ℕ → List Entry → ℕ
 answer_count n es = sum_by (has_answer n) es
 
--- `NAME N` and an LF, or nothing where the number is 0
+-- `NAME N` and an LF, or nothing if the number is 0
 abbrev pub count_line : List ℕ → ℕ → List ℕ
 count_line name number = if number == 0 then [] else name ++ codes " " ++ decimal number ++ 10 ∷ []
 
@@ -76,6 +78,7 @@ last_phase (l ∷ ls) = max l.phase (last_phase ls)
 abbrev pub of_phase : ℕ → (ReportLine → ℕ) → ReportLine → ℕ
 of_phase phase f l = if l.phase == phase then f l else 0
 
+-- the sum of the numbers that f gives of the lines of this phase
 abbrev pub phase_sum : ℕ → (ReportLine → ℕ) → List ReportLine → ℕ
 phase_sum phase f ls = sum_by (of_phase phase f) ls
 

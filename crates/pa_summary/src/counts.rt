@@ -17,7 +17,7 @@ pub(crate) fn counts_of(entries: &[Entry]) -> [u64; 17]
     counts
 }
 
-// The name of the answer at this place, where the answer of number 1 is at place 0.
+// The name of the answer at this place, the answer of number 1 being at place 0.
 pub(crate) fn name_at(place: usize) -> &'static [u8]
     requires { place < 17 }
     ensures { result.now ≡ slice_index_or answer_names place [] }

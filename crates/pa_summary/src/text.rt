@@ -9,7 +9,7 @@ use pa_record::{Entry, Run};
 use pa_text::{Text, push_byte, push_bytes, push_number};
 use std::alloc::Global;
 
-/// The summary of a run of the trace of so many rounds and this key: a line with both, a line for each answer that some line has, with
+/// The summary of a run of the trace of this many rounds and this key: a line with both, a line for each answer that some line has, with
 /// how many have it, and the slots and bytes that are live and quarantined at the end, in all partitions.
 pub fn write_summary(
     alloc: Global,
@@ -51,7 +51,7 @@ fn push_counts(out: &mut Text, entries: &[Entry]) -> Result<(), OutOfMemory>
     Ok(())
 }
 
-// Appends the line of an answer that so many lines have, if any has it.
+// Appends the line of an answer that this many lines have, if any has it.
 fn push_count(out: &mut Text, name: &[u8], number: u64) -> Result<(), OutOfMemory>
     ensures pushed { OnOk result (out.new ≡ out.old ++ count_line name.now number) }
 {

@@ -133,7 +133,7 @@ fn a_give_by_another_thread(rt: HostRuntime) -> Result<(), Fail> {
     Ok(())
 }
 
-// It gives back another slot, at a number where it isn't free.
+// It gives back another slot, at a number at which it isn't free.
 #[test]
 fn a_give_of_a_slot_that_is_not_free(rt: HostRuntime) -> Result<(), Fail> {
     let first = again(rt.alloc(), 0, Some(give(4, single(1))))?;

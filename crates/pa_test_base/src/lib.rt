@@ -4,6 +4,8 @@
 #[cfg(test)]
 mod buckets;
 #[cfg(test)]
+mod delay;
+#[cfg(test)]
 mod direct;
 #[cfg(test)]
 mod generator;

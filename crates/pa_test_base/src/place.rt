@@ -180,7 +180,7 @@ fn has_census(
     placement.census() == due
 }
 
-// Whether so many spans are full, and so many bytes committed and reserved.
+// Whether this many spans are full, and this many bytes committed and reserved.
 fn has_bytes(placement: &Placement, full: u32, committed: u64, reserved: u64) -> bool {
     let census = placement.census();
     census.full == full && census.committed == committed && census.reserved == reserved
@@ -338,7 +338,7 @@ fn as_many_direct_maps_as_there_are(rt: HostRuntime) -> Result<(), Fail> {
     Ok(())
 }
 
-// Whether that many slots were taken, and these made, each row told by its first byte and the count.
+// Whether that many slots were taken, and these made, each row given by its first byte and the count.
 fn are_made(
     titles: &ArrayVec<Title, 16>,
     want: u32,

@@ -25,12 +25,12 @@ phase
 1 R r0
 ";
 
-// How often a piece of so many bytes is read until the end was found.
+// How often a piece of this many bytes is read until the end was found.
 fn reads_of(text: &[u8]) -> u64 {
     (text.len() as u64 / 7).saturating_add(if text.len() % 7 == 0 { 1 } else { 2 })
 }
 
-// The status of a command where each read gives 7 bytes at most, and the one of this number fails. Nothing may be written.
+// The status of a command when each read gives 7 bytes at most, and the one of this number fails. Nothing may be written.
 fn with_read_refused<R: Threads + Wait + Sync>(
     rt: &R,
     alloc: Global,
@@ -70,7 +70,7 @@ fn each_read_that_fails_leaves_nothing_written(rt: HostRuntime) -> Result<(), Fa
     Ok(())
 }
 
-// The status and what was written where each write takes 10 bytes at most, and the one of this number fails.
+// The status and what was written when each write takes 10 bytes at most, and the one of this number fails.
 fn with_write_refused<R: Threads + Wait + Sync>(
     rt: &R,
     alloc: Global,
@@ -85,7 +85,7 @@ fn with_write_refused<R: Threads + Wait + Sync>(
     Ok((status, Vec::from_slice(alloc, sink.written())?))
 }
 
-// The status of a command of which no write fails, and all that it writes.
+// The status of a command with no write that fails, and all that it writes.
 pub fn answered<R: Threads + Wait + Sync>(
     rt: &R,
     alloc: Global,
@@ -152,8 +152,8 @@ fn each_write_of_gen_that_fails_leaves_a_first_part(rt: HostRuntime) -> Result<(
 // A command, its input, how many lines that has, and whether the input may end after each of its lines.
 type Cut<'a> = (&'a str, &'a [u8], u32, bool);
 
-// The input is cut after each of its bytes but the last: the status is that of a whole input, where it may end there, and else the line
-// that is cut, or the one behind the last, is bad.
+// The input is cut after each of its bytes but the last: the status is that of a whole input, if it may end there, and else the line
+// that is cut, or the one after the last, is bad.
 fn is_cut<R: Threads + Wait + Sync>(rt: &R, alloc: Global, row: Cut<'_>) -> Result<bool, Fail> {
     let (command, text, lines, whole) = row;
     let mut line = 1u32;

@@ -6,7 +6,7 @@ use crate::closed::{Lines, OVERFLOW, RING, closed_after, has_word};
 use pa_region::Closed;
 use std::test::Fail;
 
-// Slots of a list, each so many bytes behind or before the one before it: where the first lies, that distance, how many they are, their
+// Slots of a list, each at one distance in bytes from the one before it: where the first lies, that distance, how many they are, their
 // `born`, and the word of the last. The others have the link to the next one.
 type Chained = (u32, u32, u32, u32, u64);
 
@@ -263,7 +263,7 @@ fn link_to(start: u32, born: u32) -> u64 {
     (u64::from(start) + u64::from(born) * 4_294_967_296).swap_bytes()
 }
 
-// Whether the words of so many super pages have these slots of a list, from the least address on or from the greatest.
+// Whether the words of this many super pages have these slots of a list, from the least address on or from the greatest.
 fn are_chained(supers: u32, words: &Closed, slots: &Chained, falling: bool) -> bool
     requires few { supers ≤ 16 }
     requires long { length words.now ≡ 262144 * supers }

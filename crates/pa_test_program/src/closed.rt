@@ -73,7 +73,7 @@ pub(crate) const RING: &[Lines] = &[
     (1, &[b"0 A r17 p0 65528\n"]),
 ];
 
-// Whether this word of so many super pages is there, and is this one.
+// Whether this word of this many super pages is there, and is this one.
 pub(crate) fn has_word(supers: u32, words: &Closed, at: u32, word: u64) -> bool
     requires few { supers ≤ 16 }
     requires long { length words.now ≡ 262144 * supers }

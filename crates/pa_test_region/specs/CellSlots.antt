@@ -14,9 +14,11 @@ use Rattle.pa_region.specs.Lending.{CanLend}
 use Rattle.pa_cells.specs.declared.handle.Handle.{Handle}
 use Rattle.pa_cells.specs.Handles.{HasSeenMade, ParkedHandle}
 
+-- the slot's title: 32 bytes from byte 16384 on, out of what the pool's entry 0 took
 abbrev pub test_slot : Title
 test_slot = record { start = 16384; len = 32; born = 0 }
 
+-- its handle: in partition 0, with no class since it is a direct map
 abbrev pub test_handle : Handle
 test_handle = record { title = test_slot; partition = 0; class = None }
 

@@ -11,7 +11,7 @@ use Rattle.pa_link.specs.Chains.{IsChain}
 abbrev pub chain_slot : ℕ → ℕ → Title
 chain_slot born n = record { start = 16384 + 16 * n; len = 16; born = born }
 
--- the first n of the row's slots are cut, and those of the first 256 behind them can be; the seat has every stake
+-- the first n of the row's slots are cut, and those of the first 256 after them can be; the seat has every stake
 pub record IsRowOf (born n : ℕ) (v : View) : Type 0 where
   pub free : (k : ℕ) → k < n → 0 < free_of v (chain_slot born k)
   pub can : (k : ℕ) → n ≤ k → k < 256 → CanCut (chain_slot born k) v

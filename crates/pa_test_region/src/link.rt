@@ -46,7 +46,7 @@ pub(crate) fn cut_row(region: &Region, seat: &mut Seat, born: u32, count: u32)
     }
 }
 
-// Puts the slot before the first one of the chain in front.
+// Puts the slot before the first one of the chain at its front.
 fn push_at(region: &Region, seat: &mut Seat, chain: &mut Chain, born: u32, cut: u32, number: u32)
     requires region { seat.old.region ≡ region.now }
     requires row { IsRowChained born cut (number + 1) seat.old.view chain.old }

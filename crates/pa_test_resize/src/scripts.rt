@@ -133,7 +133,7 @@ end
     Ok(())
 }
 
-// Where several verdicts fit, the first one counts.
+// If several verdicts fit, the first one counts.
 #[test]
 fn tries_verdicts_in_order(rt: HostRuntime) -> Result<(), Fail> {
     let text = b"script 1 region 1 partitions 1 threads 1

@@ -19,13 +19,15 @@ no_span = record {
   turn = 0;
 }
 
+-- the span at number u of the list; one that isn't in use if there is none
 abbrev pub listed_spans : List Span → ℕ → Span
 listed_spans spans u = slice_index_or spans u no_span
 
+-- u is the number of a span in the list, from 1 on: the one at 0 isn't counted
 abbrev pub has_number : List Span → ℕ → Type 0
 has_number spans u = (0 < u) × (u < length spans)
 
--- what the tests keep from move to move, of which so many were made: the lists stand for the spans, and at most 17 are empty
+-- what the tests keep from move to move, after this many moves: the lists are those of the spans, and at most 17 are empty
 pub record IsTableKept (l : SpanListParts) (spans : List Span) (moves : ℕ) : Type 0 where
   pub stand : Stand l (listed_spans spans) (has_number spans)
   pub few : length l.ring ≤ 17

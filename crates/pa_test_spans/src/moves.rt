@@ -101,7 +101,7 @@ fn last_empty(table: &Table, order: &[u32]) -> u32 {
     last
 }
 
-// Puts a number in front of the others.
+// Puts a number before the others.
 fn to_front(order: &mut Vec<u32>, at: u32) -> Result<(), Fail> {
     order.retain(|u| *u != at);
     order.insert(0, at)?;

@@ -6,3 +6,4 @@ pub mod Words
 pub mod Splitting
 pub mod Digits
 pub mod Fronts
+pub mod Walks

@@ -1,10 +1,9 @@
 -- A worker's caches over chains: the lists that its seat's view has of them, and what calls leave of these.
-use Rattle.std.proofs.Common.{◌≡◌, ℕ, ◌+◌, ◌*◌, ◌/◌, ◌%◌, ◌<◌, ◌≤◌, Bool, true, false, List, [], ◌∷◌, ◌++◌, None, length, length-append, get_or, refl, sym, ◌∙◌, ap, subst, arith, inl, inr}
+use Rattle.std.proofs.Common.{◌≡◌, ℕ, ◌+◌, ◌/◌, ◌%◌, ◌<◌, ◌≤◌, Bool, true, false, List, [], ◌∷◌, ◌++◌, None, length, get_or, refl, sym, ◌∙◌, ap, subst, arith, inl, inr}
 use Rattle.std.specs.Prelude.{All, Contains, map, nat_lt, if◌then◌else◌, slice_index_or, slice_set}
 use Rattle.std.proofs.lemmas.Bool.{cases_lt}
 use Rattle.std.proofs.lemmas.Bool.Decides.{nat_tests}
-use Rattle.std.proofs.lemmas.List.{get_or-map, get_or_past, get_or_append_left, length-map, map-append}
-use Rattle.std.proofs.Math.Seq.{get_or-append_seam}
+use Rattle.std.proofs.lemmas.List.{get_or-map, get_or_past, length-map, map-append}
 use Rattle.pa_lists.proofs.Members.{in_cases}
 use Rattle.pa_machine.specs.declared.title.Title.{Title}
 use Rattle.pa_machine.specs.Titles.{IsWellFormed}
@@ -49,7 +48,7 @@ listed_where v cs t long (c, (k, within, at), inside) =
     let e = list_at v cs (k / 59) (k % 59) k c (omega arith) (omega arith) within in
     (k / 59, k % 59, omega arith, omega arith, subst (λ us. Contains us t) (sym (e ∙ ap (λ d. (list_in v d).titles) at)) inside)
 
--- the lists stay where each of their titles is free and has the same first word
+-- the lists stay if each of their titles is free and has the same first word
 pub lists_kept : (v w : View) (cs : List CacheParts) → length cs ≡ 236 → All (HoldsList v) cs →
     ((p class : ℕ) (t : Title) → Contains (titles_in (lists_in v cs) p class) t →
     (0 < free_of w t) × (first_word w.words (name_of t) ≡ first_word v.words (name_of t))) →

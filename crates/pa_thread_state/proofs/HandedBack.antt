@@ -1,6 +1,6 @@
 -- Titles that go back to their root: what the seat and the thread state have then, and one entry after another.
-use Rattle.std.proofs.Common.{◌≡◌, ℕ, zero, suc, ◌+◌, ◌-◌, ◌*◌, ◌<◌, ◌≤◌, Bool, true, false, List, [], ◌∷◌, ◌++◌, length, map, refl, sym, ◌∙◌, ap, subst, arith, ◌⊎◌, inl, inr, append_assoc}
-use Rattle.std.specs.Prelude.{◌==◌, ◌≢◌, AllPairs, Contains, if◌then◌else◌, slice_index, slice_index_or, slice_set}
+use Rattle.std.proofs.Common.{◌≡◌, ℕ, zero, suc, ◌+◌, ◌-◌, ◌<◌, ◌≤◌, Bool, true, false, List, [], ◌∷◌, ◌++◌, length, map, refl, sym, ◌∙◌, ap, subst, arith, ◌⊎◌, inl, inr, append_assoc}
+use Rattle.std.specs.Prelude.{◌==◌, ◌≢◌, AllPairs, Contains, if◌then◌else◌, slice_index_or, slice_set}
 use Rattle.std.specs.List.{sum_by}
 use Rattle.std.proofs.lemmas.List.{append-nil, map-append, length-set, get_or-set_same}
 use Rattle.std.proofs.lemmas.Bool.Decides.{eqb_tells}
@@ -26,8 +26,8 @@ use Rattle.pa_region.specs.Views.{free_of, own_of, ref_of, seen_of, stake_of, le
 use Rattle.pa_region.specs.Waiting.{unclean_of}
 use Rattle.pa_region.specs.Pairs.{log_among}
 use Rattle.pa_region.specs.Lists.{list_of, IsBeginning}
-use Rattle.pa_region.specs.Takes.{log_of, BeginningsJoin}
-use Rattle.pa_region.specs.Hands.{IsParted, left_of, without_item, left_after, given_after, united}
+use Rattle.pa_region.specs.Takes.{log_of}
+use Rattle.pa_region.specs.Hands.{left_of, without_item, left_after, given_after}
 use Rattle.pa_region.specs.Lending.{CanLend, Keeps, KeptNumbersStay}
 use Rattle.pa_region.specs.Aware.{IsAware}
 use Rattle.pa_region.proofs.LendBack.{begins_on}
@@ -52,7 +52,6 @@ use Rattle.pa_thread_state.specs.Allocating.{BecomesList}
 use Rattle.pa_op_specs.specs.Workers.{HasItsStake}
 use Rattle.pa_link.specs.Chains.{Relinked}
 use Rattle.pa_thread_state.proofs.Chained.{stock_relinked}
-use Rattle.pa_thread_state.proofs.Staying.{words_again}
 use Rattle.pa_thread_state.proofs.Lists.{set_titles, this_list, in_rest, in_batch, rest_or_batch}
 use Rattle.pa_root.proofs.Seeing.{free_kept}
 

@@ -1,28 +1,16 @@
 -- The front of a list leaves it: the thread state after it.
 use Rattle.std.proofs.Common.{◌≡◌, ℕ, ◌+◌, ◌*◌, ◌<◌, [], ◌++◌, length, Option, Some, None, refl, sym, ◌∙◌, ap, subst, arith}
-use Rattle.std.specs.Prelude.{◌↔◌, Contains, IsNone, IfSome, slice_index_or, slice_set}
+use Rattle.std.specs.Prelude.{◌↔◌, Contains, IsNone, IfSome, slice_set}
 use Rattle.std.specs.Option.{option_to_list}
-use Rattle.std.proofs.lemmas.List.{get_or_default, length-append, set-get_or}
+use Rattle.std.proofs.lemmas.List.{length-append, set-get_or}
 use Rattle.std.proofs.lemmas.List.Elements.{Contains-append_right}
 use Rattle.pa_machine.specs.declared.title.Title.{Title}
 use Rattle.pa_buckets.specs.Table.{slot_of}
 use Rattle.pa_cache.specs.Caches.{CacheList, IsCache}
 use Rattle.pa_op_specs.specs.Stocks.{StockValue, IsStock, no_cache, titles_in}
 use Rattle.pa_thread_state.specs.Allocating.{Pops, with_listed}
-use Rattle.pa_thread_state.proofs.Fronting.{CacheAt, titles_at}
+use Rattle.pa_thread_state.proofs.Fronting.{CacheAt}
 use Rattle.pa_thread_state.proofs.Relisting.{relisted_stock}
-
--- the cache of a list
-pub list_at : (s : StockValue) (p c place : ℕ) (cache : CacheList) → IsStock s → p < 4 → c < 59 → place ≡ 59 * p + c →
-    cache ≡ slice_index_or s.caches place cache → CacheAt s p c place cache
-list_at s p c place cache is low small at value =
-    let long = is.lists.count in
-    let e : cache ≡ slice_index_or s.caches place no_cache = value ∙ get_or_default s.caches place cache no_cache (omega arith) in
-    record {
-      is = e;
-      class_is = ap (λ (x : CacheList). x.class) (e ∙ ap (λ k. slice_index_or s.caches k no_cache) at) ∙ is.lists.classes p c low small;
-      titles_are = ap (λ (x : CacheList). x.titles) (e ∙ ap (λ k. slice_index_or s.caches k no_cache) at) ∙ titles_at s.caches p c small;
-    }
 
 -- a cache with other titles in its place
 pub listed_caches : (s : StockValue) (p c place : ℕ) (cache new : CacheList) → CacheAt s p c place cache → place ≡ 59 * p + c → new.class ≡ cache.class →

@@ -1,5 +1,5 @@
 -- What a root refused: the seat that took it in again, a batch that is on no list, and a slot that is left over.
-use Rattle.std.proofs.Common.{◌≡◌, ℕ, ◌+◌, ◌-◌, ◌*◌, ◌/◌, ◌<◌, ◌≤◌, false, List, [], ◌∷◌, ◌++◌, length, Result, Ok, Err, Some, None, refl, sym, ◌∙◌, ap, subst, arith, inl, inr}
+use Rattle.std.proofs.Common.{◌≡◌, ℕ, ◌+◌, ◌-◌, ◌<◌, false, List, [], ◌∷◌, ◌++◌, Result, Ok, Err, Some, None, refl, sym, ◌∙◌, ap, subst, arith, inl, inr}
 use Rattle.std.specs.Prelude.{◌≢◌, AllPairs, Contains, OnErr, slice_index}
 use Rattle.std.specs.List.{filter}
 use Rattle.std.proofs.lemmas.List.{append-nil}
@@ -24,7 +24,7 @@ use Rattle.pa_op_specs.specs.Stocks.{StockValue, IsStock, cache_place, titles_in
 use Rattle.pa_op_specs.proofs.Seeing.{made_kept}
 use Rattle.pa_thread_state.specs.Allocating.{BecomesList, with_listed}
 use Rattle.pa_thread_state.specs.Changes.{IsBack}
-use Rattle.pa_thread_state.specs.Giving.{TakesBack, with_titles}
+use Rattle.pa_thread_state.specs.Giving.{TakesBack}
 use Rattle.pa_thread_state.specs.Homing.{without_title, note_of_title}
 use Rattle.pa_thread_state.specs.Stopping.{KeepsAll, RefusesBatch, StopsTail, IsLeftOver}
 use Rattle.pa_thread_state.proofs.Fronting.{titles_at}

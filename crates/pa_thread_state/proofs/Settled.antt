@@ -1,7 +1,6 @@
 -- A stock whose thread settled what it owes.
-use Rattle.std.proofs.Common.{◌≡◌, ℕ, ◌+◌, ◌≤◌, List, refl, ◌∙◌, subst, arith}
+use Rattle.std.proofs.Common.{ℕ, ◌≤◌, List, refl, ◌∙◌, subst, arith}
 use Rattle.std.specs.List.{sum_by}
-use Rattle.pa_region.specs.declared.view.View.{View}
 use Rattle.pa_region.specs.Takes.{log_of}
 use Rattle.pa_region.specs.Totals.{added_as, owes_as}
 use Rattle.pa_totals.specs.declared.owed.Owed.{Owed}

@@ -1,16 +1,16 @@
 -- Calls that leave a worker's lists: each listed title is free still, and has the first word that it had.
-use Rattle.std.proofs.Common.{◌≡◌, ℕ, ◌+◌, ◌*◌, ◌/◌, ◌<◌, ◌≤◌, Bool, true, false, List, length, refl, sym, ◌∙◌, ap, subst, arith, ◌⊎◌, inl, inr, ltb}
+use Rattle.std.proofs.Common.{◌≡◌, ℕ, ◌+◌, ◌/◌, ◌<◌, Bool, true, false, List, length, refl, sym, ◌∙◌, ap, subst, arith, ◌⊎◌, inl, inr, ltb}
 use Rattle.std.specs.Prelude.{All, Contains, slice_index, if◌then◌else◌}
 use Rattle.std.proofs.lemmas.Bool.{cases_lt}
 use Rattle.std.proofs.lemmas.List.{length-map}
 use Rattle.pa_machine.specs.declared.title.Title.{Title}
-use Rattle.pa_machine.specs.Titles.{IsWellFormed, content_count, content_place, count_place}
+use Rattle.pa_machine.specs.Titles.{IsWellFormed, content_count, count_place}
 use Rattle.pa_machine.specs.Links.{first_word}
 use Rattle.pa_record.specs.Spans.{name_of}
 use Rattle.pa_region.specs.declared.view.View.{View}
-use Rattle.pa_region.specs.Views.{Knows, HasTitle, free_of, own_of, ref_of}
+use Rattle.pa_region.specs.Views.{Knows, HasTitle, free_of}
 use Rattle.pa_region.specs.Aware.{IsAware}
-use Rattle.pa_region.specs.Hands.{united, knowing, merged}
+use Rattle.pa_region.specs.Hands.{united, knowing}
 use Rattle.pa_region.specs.Lending.{Keeps}
 use Rattle.pa_region.specs.Moves.{filled_with}
 use Rattle.pa_region.specs.Shares.{IsUser}
@@ -20,7 +20,6 @@ use Rattle.pa_region.proofs.TakeLaws.{left_known}
 use Rattle.pa_root.proofs.Seeing.{free_kept}
 use Rattle.pa_cache.specs.Caches.{CacheList}
 use Rattle.pa_cache.specs.Chained.{CacheParts, HoldsList, list_in}
-use Rattle.pa_cache.proofs.Lists.{lists_stay}
 use Rattle.pa_cells.specs.Handles.{SlotsStaySeen}
 use Rattle.pa_op_specs.specs.Stocks.{StockRegister, StockValue, IsStock, titles_in}
 use Rattle.pa_thread_state.proofs.Parking.{kept_stock}

@@ -3,7 +3,6 @@ use Rattle.std.proofs.Common.{◌≡◌, ℕ, ◌+◌, ◌*◌, ◌<◌, ◌≤�
 use Rattle.std.proofs.lemmas.List.{append-nil, length-map, length-drop, drop-drop, drop_all, take-append-drop, take-map, drop-map}
 use Rattle.std.proofs.lemmas.Bool.Decides.{eqb_tells}
 use Rattle.pa_machine.specs.declared.title.Title.{Title}
-use Rattle.pa_record.specs.declared.root.RootAct.{RootAct}
 use Rattle.pa_record.specs.declared.root.RootAct.TheVariants.{Give}
 use Rattle.pa_region.specs.Views.{stake_of}
 use Rattle.pa_rules.specs.Caches.{gives}
@@ -47,7 +46,7 @@ some_none line p c keep s =
       | inr n ↦ rw n.0 refl
     ]
 
--- what is after the first so many, when some went back
+-- what is after the first ones, when some went back
 pub behind : (line p c keep n : ℕ) (s now : StockValue) → GivesBatches line p c keep n s now →
     titles_in now.caches p c ≡ outside keep (keep + 16 * n) (titles_in s.caches p c)
 behind line p c keep n s now some = some.given.kept p c ∙ this_list p c (outside keep (keep + 16 * n) (titles_in s.caches p c)) (titles_in s.caches)

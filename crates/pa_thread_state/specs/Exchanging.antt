@@ -20,9 +20,11 @@ use Rattle.pa_op_specs.specs.Stocks.{StockRegister, StockValue, HasNoHandle, reg
 abbrev pub handle_register : Bool → Handle → StockRegister
 handle_register own h = if own then Own h else Ref h
 
+-- the register that has this handle, as owner or not
 abbrev pub register_of : ParkedHandle → StockRegister
 register_of p = handle_register p.own p.handle
 
+-- the register that has what was found; an empty one if nothing was
 abbrev pub found_register : Option ParkedHandle → StockRegister
 found_register None = Empty
 found_register (Some p) = register_of p

@@ -23,6 +23,7 @@ ComesHome (Some class) r p line v after note t = GiveTakes r p line v after note
 abbrev pub without_title : Title → View → View
 without_title t v = left_after (frees_parcel (t ∷ [])) v
 
+-- the note that has this free title and nothing else
 abbrev pub note_of_title : Title → View → View
 note_of_title t v = given_after (frees_parcel (t ∷ [])) v
 

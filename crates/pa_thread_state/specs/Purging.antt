@@ -17,11 +17,11 @@ PurgesRoot line p slots before after =
     (slots ≡ listed_slots (listed_in before p) 0 class_count)
     × Gives line p (purge_acts (listed_in before p) 0 class_count) (without_lists p (titles_in before.caches)) before after
 
--- the lists without those of partition p and the first so many classes
+-- the lists without those of partition p and its first `classes` classes
 abbrev pub without_classes : ℕ → ℕ → (ℕ → ℕ → List Title) → ℕ → ℕ → List Title
 without_classes p classes lists q c = if (q == p) && nat_lt c classes then [] else lists q c
 
--- The lists of the first so many classes of partition p went back, and the acts so far are the first of those of the whole purge.
+-- The lists of the first `classes` classes of partition p went back, and the acts so far are the first of those of the whole purge.
 pub record GivesLists (line p classes : ℕ) (before after : StockValue) : Type 0 where
   pub acts : List RootAct
   pub given : Gives line p acts (without_classes p classes (titles_in before.caches)) before after

@@ -16,6 +16,7 @@ use Rattle.pa_region.specs.Waiting.{unclean_of}
 abbrev pub keeper_parcel : ℕ → Parcel
 keeper_parcel k = parcel_of [] 0 (Keeper k ∷ [])
 
+-- a parcel of the 16 stakes and this many counted steps, without titles
 abbrev pub stakes_parcel : ℕ → Parcel
 stakes_parcel budget = parcel_of [] budget (map Stake (numbers_from 0 16))
 

@@ -1,4 +1,4 @@
--- What stands of a worker's thread state after a call that ran out of memory.
+-- What is left of a worker's thread state after a call that ran out of memory.
 use Rattle.std.specs.Prelude.{◌≡◌, ℕ, ◌+◌, ◌-◌, ◌*◌, ◌/◌, ◌<◌, ◌⊎◌, length, Some, Contains}
 use Rattle.pa_machine.specs.declared.title.Title.{Title}
 use Rattle.pa_machine.specs.declared.word.Step.{Step}
@@ -39,7 +39,7 @@ pub record RefusesBatch (p class keep : ℕ) (before after : StockValue) : Type 
   pub alone : (t : Title) → Contains (batch_after keep (titles_in before.caches p class)) t → (q c : ℕ) →
       Contains (titles_in after.caches q c) t → ⊥
 
--- Of the tail of a list so many batches went back, and the root refused the next one.
+-- Of the tail of a list the first `batches` batches went back, and the root refused the next one.
 pub record StopsTail (line p class keep : ℕ) (before after : StockValue) : Type 0 where
   pub batches : ℕ
   pub more : keep + 16 * batches < length (titles_in before.caches p class)
@@ -47,7 +47,7 @@ pub record StopsTail (line p class keep : ℕ) (before after : StockValue) : Typ
   pub gave : GivesBatches line p class keep batches before between
   pub refused : RefusesBatch p class keep between after
 
--- Of a purge of partition p the lists of so many classes went back. The next list's tail stopped; or that were all lists, and the
+-- Of a purge of partition p the lists of the first `classes` classes went back. The next list's tail stopped; or those were all, and the
 -- root wasn't purged.
 pub record StopsPartition (line p : ℕ) (before after : StockValue) : Type 0 where
   pub classes : ℕ

@@ -47,7 +47,7 @@ passes_after test before (y ∷ xs) (u ∷ us) vs x all cut =
     let ih = passes_after test (before ++ y ∷ []) xs us vs x (both_true _ _ all).1 (ap (drop 1) cut) in
     subst (λ z. test (before ++ z ∷ us) x ≡ true) head (subst (λ zs. test zs x ≡ true) (append_assoc before (y ∷ []) us) ih)
 
--- x stands before y
+-- x is before y
 abbrev is_before : Played → Played → Bool
 is_before x y = ((x.thread == y.thread) && nat_lt x.line y.line) || nat_lt x.phase y.phase
 

@@ -121,7 +121,7 @@ module _ (steps : Played → List Part) (ps : List Played) (pools : List PoolEnt
       let (i, less, at) = subst (λ n. Contains ms n) it among in
       (i, (less, at))
 
-  -- a step of a line that stands before another's comes before its steps
+  -- a step of a line that is before another's comes before its steps
   pub by_line : (i j : ℕ) (m n : Moment) → IsAt ms i m → IsAt ms j n → StandsBefore m.x n.x → i < j
   by_line i j m n (less, is) (less', is') before = elim (cases_lt i j) [
     | inl up ↦ up

@@ -1,30 +1,19 @@
--- Four runs that have no outline, and one that has no timeline.
-use Rattle.std.proofs.Common.{◌≡◌, ℕ, ◌<◌, ◌⊎◌, Bool, true, false, List, [], ◌∷◌, ◌++◌, map, length, get_or, zero, suc, Option, Some, None, refl, sym, ◌∙◌, ap, subst, arith, inl, inr}
-use Rattle.std.specs.Prelude.{Contains, ◌==◌, ◌||◌}
-use Rattle.std.specs.List.{flat_map, list_all}
-use Rattle.std.proofs.lemmas.Bool.{eqb-true}
-use Rattle.pa_machine.specs.declared.word.SlotName.{SlotName}
+-- Four runs that have no outline.
+use Rattle.std.proofs.Common.{◌≡◌, ℕ, List, [], ◌∷◌, get_or, Some, None, refl, sym, ◌∙◌, ap, arith, inl, inr}
 use Rattle.pa_machine.specs.declared.word.Step.TheVariants as steps
-use Rattle.pa_machine.specs.Titles.{poison}
 use Rattle.pa_trace.specs.declared.script.Op.TheVariants as ops
 use Rattle.pa_record.specs.declared.entry.Answer.TheVariants as answers
 use Rattle.pa_record.specs.declared.root.RootAct.TheVariants.{Purge}
 use Rattle.pa_record.specs.declared.root.RootEntry.{RootEntry}
 use Rattle.pa_record.specs.Worked.{purge}
-use Rattle.pa_lists.proofs.Elements.{passes}
 use Rattle.pa_lists.proofs.Indexed.{at_in}
-use Rattle.pa_lists.proofs.Joined.{map_in, flat_in}
-use Rattle.pa_lists.proofs.Members.{first_in, later_in}
 use Rattle.pa_rules.specs.declared.played.Played.{Played}
 use Rattle.pa_rules.specs.Played.{mark_at}
-use Rattle.pa_rules.specs.Registers.{usable_in}
 use Rattle.pa_rules.specs.Roots.{journal_at}
-use Rattle.pa_rules.specs.Order.{StandsBefore}
 use Rattle.pa_rules.proofs.Numbering.{lines_differ}
-use Rattle.pa_rules.proofs.Running.{one_by}
-use Rattle.pa_timeline.specs.Timeline.{Part, Entering, Swapping, Looking, Loading, Counting, Moment, due_parts, outline_parts, part_enters, part_swaps, moment_leaves, changed_to, content_after}
-use Rattle.pa_timeline.specs.Worked.{lower_slot, upper_slot, slot_seen, one_fill, two_slots_trace, two_slots_records, TwoSlotsHaveNone, purges_trace, purges_records, purged_in, PurgesHaveNone, slot_and_cell_trace, slot_and_cell_records, SlotAndCellHaveNone, journal_and_cell_trace, journal_and_cell_records, JournalAndCellHaveNone, early_trace, early_records, ReadBeforeFreeHasNone}
-use Rattle.pa_timeline.proofs.Places.{IsAt, cut_one, in_two, in_three, by_list, part_on, parts_kept, moment, placed, by_line, by_number, step_of_record}
+use Rattle.pa_timeline.specs.Timeline.{Part, Entering, Swapping, Looking, Counting, Moment, outline_parts, part_enters, part_swaps}
+use Rattle.pa_timeline.specs.Worked.{lower_slot, upper_slot, slot_seen, one_fill, two_slots_trace, two_slots_records, TwoSlotsHaveNone, purges_trace, purges_records, purged_in, PurgesHaveNone, slot_and_cell_trace, slot_and_cell_records, SlotAndCellHaveNone, journal_and_cell_trace, journal_and_cell_records, JournalAndCellHaveNone}
+use Rattle.pa_timeline.proofs.Places.{in_two, in_three, by_list, part_on, parts_kept, moment, placed, by_line, by_number}
 
 -- ---- two slots
 
@@ -144,73 +133,3 @@ journal_and_cell_have_none report (ms, t) =
     let d = by_list (λ (m : Moment). part_swaps 0 m.x.line m.x.op m.part) ms l i (moment (purger_at 3) Swapping) (moment (purger_at 0) Swapping) 5 2 at_l at_i refl refl (λ e. omega arith)
     (λ us vs ws e. let (first, second) = in_two 5 2 5 2 us vs ws (sym (t.exchanges 0) ∙ e) in omega arith) in
     omega arith
-
--- ---- poison before the free
-
-abbrev early_at : ℕ → Played
-early_at i = get_or early_records i (record { line = 0; thread = 0; phase = 0; op = ops.Purge; answer = answers.Nothing })
-
--- a moment that leaves nothing in the word, or 0
-abbrev is_clean : Option ℕ → Bool
-is_clean None = true
-is_clean (Some value) = value == 0
-
-clean_changed : (o : Option ℕ) → is_clean o ≡ true → changed_to o 0 ≡ 0
-clean_changed None e = refl
-clean_changed (Some value) e = eqb-true value 0 e
-
-content_zero : (s : SlotName) (ms : List Moment) → ((m : Moment) → Contains ms m → is_clean (moment_leaves s 0 m) ≡ true) →
-    content_after s 0 0 ms ≡ 0
-content_zero s [] h = refl
-content_zero s (m ∷ ms) h =
-    ap (λ content. content_after s 0 content ms) (clean_changed (moment_leaves s 0 m) (h m (first_in m ms)))
-    ∙ content_zero s ms (λ n among. h n (later_in m n ms among))
-
--- all steps of the run but those of its free leave the word 0
-abbrev early_due : Played → List Part
-early_due x = due_parts (usable_in early_records) 1 (journal_at (one_fill ∷ [])) x
-
-abbrev early_moments : List Moment
-early_moments = flat_map (λ x. map (moment x) (early_due x)) early_records
-
-abbrev is_early : Moment → Bool
-is_early m = is_clean (moment_leaves lower_slot 0 m) || (m.x.line == 10)
-
-all_early : list_all is_early early_moments ≡ true
-all_early = refl
-
-or_cases : (a b : Bool) → (a || b) ≡ true → (a ≡ true) ⊎ (b ≡ true)
-or_cases true b e = inl refl
-or_cases false b e = inr e
-
-before_cut : {A : Type 0} (ms us vs : List A) (m n : A) → ms ≡ us ++ n ∷ vs → Contains us m → (k : ℕ) × IsAt ms k m × (k < length us)
-before_cut ms us vs m n cut (k, less, is) = (k, subst (λ zs. IsAt zs k m) (sym cut) (front us k less is), less)
-  where
-    front : (us : List _) (k : ℕ) → k < length us → get_or us k m ≡ m → IsAt (us ++ n ∷ vs) k m
-    front [] k less is = absurd (omega arith)
-    front (u ∷ us) zero less is = (omega arith, is)
-    front (u ∷ us) (suc k) less is = let (low, e) = front us k (omega arith) is in (omega arith, e)
-
-pub early_has_none : ReadBeforeFreeHasNone
-early_has_none report (ms, t) =
-    let differ = lines_differ early_trace.lines early_records refl in
-    let (i, at_i) = placed _ _ _ _ _ ms t.ordered differ (early_at 4) Loading (at_in early_records 4 (early_at 4) refl) (at_in (early_due (early_at 4)) 1 Loading refl) in
-    let (j, at_j) = placed _ _ _ _ _ ms t.ordered differ (early_at 5) Swapping (at_in early_records 5 (early_at 5) refl) (at_in (early_due (early_at 5)) 0 Swapping refl) in
-    let (k, at_k) = placed _ _ _ _ _ ms t.ordered differ (early_at 6) Swapping (at_in early_records 6 (early_at 6) refl) (at_in (early_due (early_at 6)) 0 Swapping refl) in
-    let a = by_line _ _ _ _ _ ms t.ordered i j (moment (early_at 4) Loading) (moment (early_at 5) Swapping) at_i at_j (inl (refl, omega arith)) in
-    let b = by_list (λ (m : Moment). part_swaps 1 m.x.line m.x.op m.part) ms j k (moment (early_at 5) Swapping) (moment (early_at 6) Swapping) 8 9 at_j at_k refl refl (λ e. omega arith)
-    (λ us vs ws e. let (first, second) = in_two 8 9 8 9 us vs ws (sym (t.ordered.exchanges 1) ∙ e) in omega arith) in
-    let (us, vs, cut, place) = cut_one ms i (moment (early_at 4) Loading) at_i in
-    let zero = content_zero lower_slot us (λ m among.
-    let (n, at_n, low) = before_cut ms us vs m (moment (early_at 4) Loading) cut among in
-    let (of, due) = step_of_record _ _ _ _ _ ms t.ordered m (n, at_n.0, at_n.1) in
-    let there = flat_in (λ x. map (moment x) (early_due x)) early_records m.x m of (map_in (moment m.x) (early_due m.x) m.part due) in
-    elim (or_cases (is_clean (moment_leaves lower_slot 0 m)) (m.x.line == 10) (passes is_early early_moments m all_early there)) [
-      | inl clean ↦ clean
-      | inr last ↦
-          let same : m.x ≡ early_at 7 = one_by (λ (y : Played). y.line) early_records m.x (early_at 7) differ of (at_in early_records 7 (early_at 7) refl) (eqb-true m.x.line 10 last) in
-          let c = by_line _ _ _ _ _ ms t.ordered k n (moment (early_at 6) Swapping) m at_k at_n (subst (λ y. StandsBefore (early_at 6) y) (sym same) (inl (refl, omega arith))) in
-          absurd (omega arith)
-    ]) in
-    let read = t.reads us vs (moment (early_at 4) Loading) (slot_seen lower_slot 0x2000003) 0 poison cut refl (refl, inl refl) in
-    absurd (let wrong : poison ≡ 0 = read ∙ zero in omega arith)

@@ -1,2 +1,3 @@
 pub mod Timeline
 pub mod Worked
+pub mod WorkedReads

@@ -48,6 +48,7 @@ abbrev pub asking_before : Option ℕ → List Part → List Part
 asking_before None parts = parts
 asking_before (Some j) parts = Asking ∷ parts
 
+-- what a root did is one step in partition p's journal, after the pool's entry if it names one
 abbrev pub act_parts : ℕ → RootAct → List Part
 act_parts p act = asking_before (asked_by act) (Entering p act ∷ [])
 
@@ -55,11 +56,12 @@ act_parts p act = asking_before (asked_by act) (Entering p act ∷ [])
 abbrev pub entry_parts : ℕ → Journals → ℕ → List Part
 entry_parts partitions roots line = flat_map (λ p. flat_map (act_parts p) (acts_of roots line p)) (range_with_len 0 partitions)
 
--- a step was made: a free poisons so many content words before it, and what is entered comes after it
+-- a step was made: a free poisons this many content words before it, and what is entered comes after it
 abbrev pub done_parts : ℕ → Op → List Part → List Part
 done_parts words (ops.Free reg) entries = map Spoiling (range_with_len 0 words) ++ Counting ∷ entries
 done_parts words op entries = Counting ∷ entries
 
+-- a load of the count word, if a slot was seen
 abbrev pub look_parts : Option Seen → List Part
 look_parts None = []
 look_parts (Some seen) = Looking ∷ []
@@ -84,6 +86,7 @@ abbrev pub slot_words : (SlotName → ℕ) → Option Mark → ℕ
 slot_words usable_at None = 0
 slot_words usable_at (Some m) = usable_at m.slot / 8
 
+-- the steps of a record in their order, as its answer, its slot's content words and the journals require
 abbrev pub due_parts : (SlotName → ℕ) → ℕ → Journals → Played → List Part
 due_parts usable_at partitions roots x =
     answer_parts (slot_words usable_at (mark_of x)) x.op (entry_parts partitions roots x.line) x.answer
@@ -99,6 +102,7 @@ abbrev pub part_enters : ℕ → ℕ → Part → Option RootEntry
 part_enters p line (Entering q act) = if q == p then Some (record { line = line; act = act }) else None
 part_enters p line part = None
 
+-- the entries that the moments make in partition p's journal, in their order
 abbrev pub journal_made : ℕ → List Moment → List RootEntry
 journal_made p ms = filter_map (λ (m : Moment). part_enters p m.x.line m.part) ms
 
@@ -107,13 +111,16 @@ abbrev pub part_asks : ℕ → Part → Option ℕ
 part_asks line Asking = Some line
 part_asks line part = None
 
+-- the lines of the moments that are entries in the pool, in their order
 abbrev pub asked_lines : List Moment → List ℕ
 asked_lines ms = filter_map (λ (m : Moment). part_asks m.x.line m.part) ms
 
+-- the line, if the step is an exchange of cell k
 abbrev pub part_swaps : ℕ → ℕ → Op → Part → Option ℕ
 part_swaps k line (ops.Swap cell reg) Swapping = if cell == k then Some line else None
 part_swaps k line op part = None
 
+-- the lines of the moments that are exchanges of cell k, in their order
 abbrev pub swap_lines : ℕ → List Moment → List ℕ
 swap_lines k ms = filter_map (λ (m : Moment). part_swaps k m.x.line m.x.op m.part) ms
 
@@ -129,6 +136,7 @@ abbrev pub is_counted_on : SlotName → Played → Part → Bool
 is_counted_on s x Counting = is_of_slot s (mark_of x)
 is_counted_on s x part = false
 
+-- how many of the moments are counted steps of slot s
 abbrev pub counted_steps : SlotName → List Moment → ℕ
 counted_steps s ms = count_by (λ (m : Moment). is_counted_on s m.x m.part) ms
 
@@ -148,6 +156,7 @@ part_leaves place x part = None
 abbrev pub moment_leaves : SlotName → ℕ → Moment → Option ℕ
 moment_leaves s place m = if is_of_slot s (mark_of m.x) then part_leaves place m.x m.part else None
 
+-- the value that a change leaves, or the content as it was if there is none
 abbrev pub changed_to : Option ℕ → ℕ → ℕ
 changed_to None content = content
 changed_to (Some value) content = value
@@ -163,6 +172,7 @@ content_after s place content (m ∷ ms) = content_after s place (changed_to (mo
 abbrev pub IsTouch : Part → Type 0
 IsTouch part = (part ≡ Looking) ⊎ (part ≡ Counting)
 
+-- the op reads content word `place`, and the answer is this value, from this slot
 abbrev pub GivesAt : Op → Answer → Seen → ℕ → ℕ → Type 0
 GivesAt (ops.Read reg word) answer seen place value =
     (word ≡ place) × ((answer ≡ Value seen value) ⊎ (answer ≡ Dangling seen value))

@@ -34,9 +34,11 @@ trace_as lines = record { region = 1; partitions = 1; threads = 2; lines = lines
 abbrev pub lower_slot : SlotName
 lower_slot = record { start = 16384; born = 0 }
 
+-- the second slot, 16 bytes after the first
 abbrev pub upper_slot : SlotName
 upper_slot = record { start = 16400; born = 0 }
 
+-- the slot, and this word as the count word that was found
 abbrev pub slot_seen : SlotName → ℕ → Seen
 slot_seen slot word = record { slot = slot; found = record { 0 = word } }
 
@@ -44,6 +46,7 @@ slot_seen slot word = record { slot = slot; found = record { 0 = word } }
 abbrev pub one_fill : List RootEntry
 one_fill = fill 2 0 (Some 0) (slots 0 0 (16384 ∷ 16400 ∷ 16416 ∷ 16432 ∷ 16448 ∷ 16464 ∷ 16480 ∷ 16496 ∷ [])) ∷ []
 
+-- the pool's one entry, on line 2: partition 0 takes super page 0
 abbrev pub one_super_page : List PoolEntry
 one_super_page = pool_take 2 0 1 (Some 0) ∷ []
 
@@ -69,6 +72,7 @@ read_trace =
     ∷ Do 1 (ops.Read 0 0)
     ∷ [])
 
+-- its six records: the free of thread 0 and the read of thread 1 find the same count word, and the read gives poison
 abbrev pub read_records : List Played
 read_records =
     record { line = 2; thread = 0; phase = 1; op = ops.Alloc 0 0 8; answer = answers.Made (slot_seen lower_slot 0) 8 }
@@ -79,6 +83,7 @@ read_records =
     ∷ record { line = 8; thread = 1; phase = 2; op = ops.Read 0 0; answer = answers.Value (slot_seen lower_slot 0x2000003) poison }
     ∷ []
 
+-- this run has a timeline, whatever its report
 abbrev pub ThreadsHaveOne : Type 0
 ThreadsHaveOne =
     (report : List ReportLine) →
@@ -107,6 +112,7 @@ two_slots_trace =
     ∷ Do 1 (ops.Reset 3)
     ∷ [])
 
+-- its twelve records: the first slot was freed and then reset, and the second was reset and then freed
 abbrev pub two_slots_records : List Played
 two_slots_records =
     record { line = 2; thread = 0; phase = 1; op = ops.Alloc 0 0 8; answer = answers.Made (slot_seen lower_slot 0) 8 }
@@ -123,6 +129,7 @@ two_slots_records =
     ∷ record { line = 15; thread = 1; phase = 3; op = ops.Reset 3; answer = answers.Done (slot_seen upper_slot 0x2000003) }
     ∷ []
 
+-- this run has no outline, whatever its report
 abbrev pub TwoSlotsHaveNone : Type 0
 TwoSlotsHaveNone =
     (report : List ReportLine) →
@@ -136,6 +143,7 @@ TwoSlotsHaveNone =
 abbrev pub purges_trace : Trace
 purges_trace = record { region = 2; partitions = 2; threads = 2; lines = Do 0 ops.Purge ∷ Do 1 ops.Purge ∷ Do 1 ops.Purge ∷ [] }
 
+-- its three records: each purge gives back no slot
 abbrev pub purges_records : List Played
 purges_records =
     record { line = 2; thread = 0; phase = 1; op = ops.Purge; answer = answers.Purged 0 }
@@ -143,9 +151,11 @@ purges_records =
     ∷ record { line = 4; thread = 1; phase = 1; op = ops.Purge; answer = answers.Purged 0 }
     ∷ []
 
+-- a journal of purges on these three lines, in this order
 abbrev pub purged_in : ℕ → ℕ → ℕ → List RootEntry
 purged_in i j k = purge i ∷ purge j ∷ purge k ∷ []
 
+-- this run has no outline, whatever its report: the journals contradict each other
 abbrev pub PurgesHaveNone : Type 0
 PurgesHaveNone =
     (report : List ReportLine) →
@@ -173,6 +183,7 @@ slot_and_cell_trace =
     ∷ Do 1 (ops.Swap 1 9)
     ∷ [])
 
+-- its eight records: the read of thread 1 finds the count word after thread 0's second copy
 abbrev pub slot_and_cell_records : List Played
 slot_and_cell_records =
     record { line = 2; thread = 0; phase = 1; op = ops.Alloc 0 0 8; answer = answers.Made (slot_seen lower_slot 0) 8 }
@@ -185,6 +196,7 @@ slot_and_cell_records =
     ∷ record { line = 10; thread = 1; phase = 2; op = ops.Swap 1 9; answer = answers.Swapped 0 }
     ∷ []
 
+-- this run has no outline, whatever its report
 abbrev pub SlotAndCellHaveNone : Type 0
 SlotAndCellHaveNone =
     (report : List ReportLine) →
@@ -195,6 +207,7 @@ SlotAndCellHaveNone =
 abbrev pub journal_and_cell_trace : Trace
 journal_and_cell_trace = trace_as (Do 0 (ops.Swap 0 9) ∷ Do 0 ops.Purge ∷ Do 1 ops.Purge ∷ Do 1 (ops.Swap 0 9) ∷ [])
 
+-- its four records: each purge gives back no slot, and each thread empties the cell
 abbrev pub journal_and_cell_records : List Played
 journal_and_cell_records =
     record { line = 2; thread = 0; phase = 1; op = ops.Swap 0 9; answer = answers.Swapped 1 }
@@ -203,6 +216,7 @@ journal_and_cell_records =
     ∷ record { line = 5; thread = 1; phase = 1; op = ops.Swap 0 9; answer = answers.Swapped 0 }
     ∷ []
 
+-- this run has no outline, whatever its report: the journal and the cell contradict each other
 abbrev pub JournalAndCellHaveNone : Type 0
 JournalAndCellHaveNone =
     (report : List ReportLine) →
@@ -225,6 +239,7 @@ early_trace =
     ∷ Do 0 (ops.Free 0)
     ∷ [])
 
+-- its eight records: the read on line 7 gives poison, and only the free on line 10 poisons the slot
 abbrev pub early_records : List Played
 early_records =
     record { line = 2; thread = 0; phase = 1; op = ops.Alloc 0 0 8; answer = answers.Made (slot_seen lower_slot 0) 8 }
@@ -237,6 +252,7 @@ early_records =
     ∷ record { line = 10; thread = 0; phase = 2; op = ops.Free 0; answer = answers.Done (slot_seen lower_slot 0x2000003) }
     ∷ []
 
+-- this run has no timeline, whatever its report
 abbrev pub ReadBeforeFreeHasNone : Type 0
 ReadBeforeFreeHasNone =
     (report : List ReportLine) →

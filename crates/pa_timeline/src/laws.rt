@@ -1,5 +1,6 @@
 ghost use Rattle.pa_timeline.specs.Timeline.{TimelinesHaveOutlines};
 ghost use Rattle.pa_timeline.specs.Worked.{JournalAndCellHaveNone, PurgesHaveNone, ReadBeforeFreeHasNone, SlotAndCellHaveNone, ThreadsHaveOne, TwoSlotsHaveNone};
+ghost use Rattle.pa_timeline.specs.WorkedReads.{CopiedHasNone, GonePoisonHasNone, SecondWordHasNone};
 
 /// A run of two threads, which was worked out by hand, has a timeline: one thread frees a slot while the other reads it, finds the
 /// allocator's bit, and poison.
@@ -37,4 +38,22 @@ pub fn journal_and_cell_have_no_timeline()
 /// A run of two threads has no timeline: one reads poison, and hands its raw_ptr to the other, which only then frees the slot.
 pub fn read_before_free_has_no_timeline()
     ensures { ReadBeforeFreeHasNone }
+{}
+
+/// A run of two threads has no timeline: one reads a content word that the other's free poisons, and finds poison and then the content.
+/// Poison stays.
+pub fn poison_then_content_has_no_timeline()
+    ensures { GonePoisonHasNone }
+{}
+
+/// A run of two threads has no timeline: one finds poison in the second content word of a slot that the other frees, and then the content
+/// in the first. A free poisons the first word before the second.
+pub fn second_word_first_has_no_timeline()
+    ensures { SecondWordHasNone }
+{}
+
+/// A run of two threads has no timeline: one reads poison and then copies its raw_ptr, the other copies and then frees the slot, and by the
+/// slot's numbers the copy of the one came before the other's. So the read was over before the free began.
+pub fn read_before_copies_has_no_timeline()
+    ensures { CopiedHasNone }
 {}

@@ -5,7 +5,8 @@
 mod laws;
 
 pub use laws::{
-    journal_and_cell_have_no_timeline, purges_have_no_timeline, read_before_free_has_no_timeline,
-    slot_and_cell_have_no_timeline, threads_have_a_timeline, timelines_have_outlines,
-    two_slots_have_no_timeline,
+    journal_and_cell_have_no_timeline, poison_then_content_has_no_timeline,
+    purges_have_no_timeline, read_before_copies_has_no_timeline, read_before_free_has_no_timeline,
+    second_word_first_has_no_timeline, slot_and_cell_have_no_timeline, threads_have_a_timeline,
+    timelines_have_outlines, two_slots_have_no_timeline,
 };

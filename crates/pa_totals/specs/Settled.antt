@@ -47,6 +47,7 @@ pub record LeavesSettle (p : ℕ) (o : Owed) (v w : View) : Type 0 where
   pub other_logs : (k : ℕ) → (k ≡ least_stake v.stakes → ⊥) → log_of k w ≡ log_of k v
   pub stakes : (k : ℕ) → stake_of w k ≡ stake_of v k
 
+-- every settling of a partition that a view allows leaves this of logs
 abbrev pub SettleLeaves : Type 0
 SettleLeaves = (p : ℕ) (o : Owed) (v : View) → CanSettle p o v → LeavesSettle p o v (after_settle p o v)
 
@@ -90,5 +91,6 @@ pub record LeavesSettleAll (owed : List Owed) (v w : View) : Type 0 where
   pub covered : (q : ℕ) → sum_by (added_as q) (least_log w.stakes) ≤ sum_by (owes_as q) (least_log w.stakes)
   pub adds : (p q : ℕ) → p < 4 → q < 4 → sum_by (added_to (4 * p + q)) (all_added owed) ≡ owed_to q (owed_at owed p)
 
+-- every settling of all four partitions that a view allows leaves this of logs
 abbrev pub SettleAllLeaves : Type 0
 SettleAllLeaves = (owed : List Owed) (v : View) → CanSettleAll owed v → LeavesSettleAll owed v (after_settle_all owed v)

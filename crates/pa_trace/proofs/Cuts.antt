@@ -90,7 +90,7 @@ pub three_line : (v i w j y k : List ℕ) (m n p : ℕ) → IsOneLine v → IsOn
 three_line v i w j y k m n p hv hw hy hi hj hk = field_line (v ++ i ++ w ++ j ++ y) k p (one_line_append (v ++ i ++ w ++ j) y (two_line v i w j m n hv hw hi hj) hy) hk
 
 -- the test of a word that is written out
-abbrev has_no_lf : List ℕ → Bool
+abbrev pub has_no_lf : List ℕ → Bool
 has_no_lf [] = true
 has_no_lf (b ∷ bs) = not (eqb b 10) && has_no_lf bs
 

@@ -6,6 +6,7 @@ pub mod Cuts
 pub mod Behind
 pub mod Texts
 pub mod Unread
+pub mod Printed
 pub mod Written
 pub mod Lengths
 pub mod Firsts

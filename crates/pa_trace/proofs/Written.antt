@@ -1,69 +1,15 @@
--- What is appended part by part is the text of an op, a line, a head and the lines.
-use Rattle.std.proofs.Common.{◌≡◌, ℕ, ◌<◌, List, [], ◌∷◌, ◌++◌, codes, refl, sym, ap, subst, ◌∙◌, append_assoc, arith}
-use Rattle.std.specs.Fmt.{decimal}
+-- What is appended line by line is the text of the lines, and after a head that of a trace.
+use Rattle.std.proofs.Common.{◌≡◌, ℕ, List, [], ◌∷◌, ◌++◌, refl, sym, ap, subst, ◌∙◌, append_assoc}
 use Rattle.std.proofs.lemmas.List.{append-nil}
-use Rattle.pa_text.proofs.Numerals.{decimal_numeral}
 use Rattle.pa_trace.specs.declared.script.Trace.{Trace}
 use Rattle.pa_trace.specs.declared.script.Line.{Line}
-use Rattle.pa_trace.specs.declared.script.Line.TheVariants.{Do}
-use Rattle.pa_trace.specs.declared.script.Op.{Op}
-use Rattle.pa_trace.specs.declared.script.Op.TheVariants.{Alloc, Copy, Read, Swap}
-use Rattle.pa_trace.specs.Grammar.{IsOpText, IsLineText, AreLinesText, IsTraceText}
+use Rattle.pa_trace.specs.Grammar.{IsLineText, AreLinesText, IsTraceText}
 use Rattle.pa_trace.specs.Faults.{IsHeadLine, IsBodyLine}
-use Rattle.pa_trace.specs.Cut.{Appends, IsField}
+use Rattle.pa_trace.specs.Cut.{Appends}
 
-pub field_written : (word : List ℕ) (n : ℕ) (old mid new : List ℕ) → n < 4294967296 → mid ≡ old ++ word → new ≡ mid ++ decimal n → Appends (IsField word n) old new
-field_written word n old mid new small e f =
-    (word ++ decimal n, (decimal n, decimal_numeral n (omega arith), refl), f ∙ ap (λ (x : List ℕ). x ++ decimal n) e ∙ append_assoc old word (decimal n))
-
--- two and three texts, one after the other
+-- two texts, one after the other
 join_two : (old a b s t : List ℕ) → a ≡ old ++ s → b ≡ a ++ t → b ≡ old ++ (s ++ t)
 join_two old a b s t e f = f ∙ ap (λ (x : List ℕ). x ++ t) e ∙ append_assoc old s t
-
-join_three : (old a b c s t u : List ℕ) → a ≡ old ++ s → b ≡ a ++ t → c ≡ b ++ u → c ≡ old ++ (s ++ t ++ u)
-join_three old a b c s t u e f g = join_two old b c (s ++ t) u (join_two old a b s t e f) g
-
-two_texts : (s t v i w j : List ℕ) → s ≡ v ++ i → t ≡ w ++ j → s ++ t ≡ v ++ i ++ w ++ j
-two_texts s t v i w j e f = ap (λ (x : List ℕ). x ++ t) e ∙ ap (λ (x : List ℕ). v ++ i ++ x) f ∙ sym (append_assoc (v ++ i) w j)
-
-three_texts : (s t u v i w j y k : List ℕ) → s ≡ v ++ i → t ≡ w ++ j → u ≡ y ++ k → s ++ t ++ u ≡ v ++ i ++ w ++ j ++ y ++ k
-three_texts s t u v i w j y k e f g = two_texts (s ++ t) u (v ++ i ++ w) j y k (two_texts s t v i w j e f) g
-
-pub alloc_written : (reg partition size : ℕ) (old a b c : List ℕ) → Appends (IsField (codes "A r") reg) old a → Appends (IsField (codes " p") partition) a b → Appends (IsField (codes " ") size) b c
-    → Appends (IsOpText (Alloc reg partition size)) old c
-alloc_written reg partition size old a b c x y z = (
-  x.0 ++ y.0 ++ z.0,
-  (x.1.0, y.1.0, z.1.0, x.1.1, y.1.1, z.1.1, three_texts x.0 y.0 z.0 (codes "A r") x.1.0 (codes " p") y.1.0 (codes " ") z.1.0 x.1.2 y.1.2 z.1.2),
-  join_three old a b c x.0 y.0 z.0 x.2 y.2 z.2,
-)
-
-pub copy_written : (from to : ℕ) (old a b : List ℕ) → Appends (IsField (codes "C r") from) old a → Appends (IsField (codes " r") to) a b → Appends (IsOpText (Copy from to)) old b
-copy_written from to old a b x y =
-    (x.0 ++ y.0, (x.1.0, y.1.0, x.1.1, y.1.1, two_texts x.0 y.0 (codes "C r") x.1.0 (codes " r") y.1.0 x.1.2 y.1.2), join_two old a b x.0 y.0 x.2 y.2)
-
-pub read_written : (reg place : ℕ) (old a b : List ℕ) → Appends (IsField (codes "D r") reg) old a → Appends (IsField (codes " ") place) a b → Appends (IsOpText (Read reg place)) old b
-read_written reg place old a b x y =
-    (x.0 ++ y.0, (x.1.0, y.1.0, x.1.1, y.1.1, two_texts x.0 y.0 (codes "D r") x.1.0 (codes " ") y.1.0 x.1.2 y.1.2), join_two old a b x.0 y.0 x.2 y.2)
-
-pub swap_written : (cell reg : ℕ) (old a b : List ℕ) → Appends (IsField (codes "X c") cell) old a → Appends (IsField (codes " r") reg) a b → Appends (IsOpText (Swap cell reg)) old b
-swap_written cell reg old a b x y =
-    (x.0 ++ y.0, (x.1.0, y.1.0, x.1.1, y.1.1, two_texts x.0 y.0 (codes "X c") x.1.0 (codes " r") y.1.0 x.1.2 y.1.2), join_two old a b x.0 y.0 x.2 y.2)
-
-pub do_written : (thread : ℕ) (op : Op) (old a b c : List ℕ) → Appends (IsField [] thread) old a → b ≡ a ++ codes " " → Appends (IsOpText op) b c → Appends (IsLineText (Do thread op)) old c
-do_written thread op old a b c x e y = (
-  x.0 ++ codes " " ++ y.0,
-  (x.1.0, y.0, x.1.1, y.1, ap (λ (z : List ℕ). z ++ codes " " ++ y.0) x.1.2),
-  join_three old a b c x.0 (codes " ") y.0 x.2 e y.2,
-)
-
-pub head_written : (region partitions threads : ℕ) (old a b c d : List ℕ) → Appends (IsField (codes "trace 1 region ") region) old a → Appends (IsField (codes " partitions ") partitions) a b
-    → Appends (IsField (codes " threads ") threads) b c → d ≡ c ++ 10 ∷ [] → Appends (IsHeadLine region partitions threads) old d
-head_written region partitions threads old a b c d x y z e =
-    let text : List ℕ = x.0 ++ y.0 ++ z.0 in (
-      text ++ 10 ∷ [],
-      (text, (x.1.0, y.1.0, z.1.0, x.1.1, y.1.1, z.1.1, three_texts x.0 y.0 z.0 (codes "trace 1 region ") x.1.0 (codes " partitions ") y.1.0 (codes " threads ") z.1.0 x.1.2 y.1.2 z.1.2), refl),
-      join_two old c d text (10 ∷ []) (join_three old a b c x.0 y.0 z.0 x.2 y.2 z.2) e,
-    )
 
 -- ---- the lines one after the other
 

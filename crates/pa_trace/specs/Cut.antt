@@ -1,7 +1,6 @@
 -- What the parts of the reader and the writer say of lines.
 use Rattle.std.specs.Prelude.{◌≡◌, ℕ, ◌++◌, List}
 use Rattle.std.specs.List.{AllByRecursion}
-use Rattle.pa_text.specs.Numeral.{IsNumeral}
 use Rattle.pa_trace.specs.declared.fault.TraceFault.{TraceFault}
 use Rattle.pa_trace.specs.declared.fault.TraceFault.TheVariants.{BadLine, Limit}
 use Rattle.pa_trace.specs.declared.field.LineFault.{LineFault}
@@ -19,7 +18,3 @@ told n Past = Limit n
 -- new is old followed by a text of this kind
 abbrev pub Appends : (List ℕ → Type 0) → List ℕ → List ℕ → Type 0
 Appends IsText old new = (text : List ℕ) × IsText text × (new ≡ old ++ text)
-
--- a word and a number's spelling
-abbrev pub IsField : List ℕ → ℕ → List ℕ → Type 0
-IsField word n text = (i : List ℕ) × IsNumeral n i × (text ≡ word ++ i)

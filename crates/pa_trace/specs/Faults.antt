@@ -32,6 +32,7 @@ IsBodyLine l line = (text : List ℕ) × IsLineText l text × (line ≡ text ++ 
 abbrev pub IsBadHead : List ℕ → Type 0
 IsBadHead line = (region partitions threads : ℕ) → IsHeadLine region partitions threads line → ⊥
 
+-- as a line after a head, the line is outside the grammar or has no LF
 abbrev pub IsBadLine : List ℕ → Type 0
 IsBadLine line = (l : Line) → IsBodyLine l line → ⊥
 
@@ -40,6 +41,7 @@ abbrev pub IsHeadOverLimit : List ℕ → Type 0
 IsHeadOverLimit line =
     (region partitions threads : ℕ) × IsHeadLine region partitions threads line × (IsHeadWithin region partitions threads → ⊥)
 
+-- as a line after a head, the line is in the grammar and a number passes its limit
 abbrev pub IsLineOverLimit : ℕ → ℕ → List ℕ → Type 0
 IsLineOverLimit partitions threads line = (l : Line) × IsBodyLine l line × (IsLineWithin partitions threads l → ⊥)
 

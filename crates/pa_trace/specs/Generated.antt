@@ -22,6 +22,7 @@ parts part (suc n) = parts part n ++ part n
 abbrev pub size_place : ℕ → ℕ → ℕ → ℕ
 size_place round thread object = 32 * round + 8 * thread + 2 * object
 
+-- the index of the second of an object's two words, which is its value
 abbrev pub value_place : ℕ → ℕ → ℕ → ℕ
 value_place round thread object = size_place round thread object + 1
 

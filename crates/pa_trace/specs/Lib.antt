@@ -6,3 +6,4 @@ pub mod Reading
 pub mod Cut
 pub mod Unread
 pub mod Generated
+pub mod Printed

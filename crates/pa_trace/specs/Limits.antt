@@ -13,6 +13,7 @@ use Rattle.pa_trace.specs.Grammar.{IsTraceText}
 abbrev pub register_count : ℕ
 register_count = 64
 
+-- how many cells there are, for all threads together
 abbrev pub cell_count : ℕ
 cell_count = 64
 
@@ -20,6 +21,7 @@ cell_count = 64
 abbrev pub most_partitions : ℕ
 most_partitions = 4
 
+-- the most threads of a trace
 abbrev pub most_threads : ℕ
 most_threads = 16
 
@@ -50,6 +52,7 @@ IsHeadWithin region partitions threads =
 abbrev pub most_lines : ℕ
 most_lines = 65536
 
+-- the most bytes of a trace's text: 4 MiB
 abbrev pub most_bytes : ℕ
 most_bytes = 4194304
 

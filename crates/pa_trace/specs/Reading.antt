@@ -62,6 +62,7 @@ one_in bytes first = do
   end ← ended a.1
   Ok a.0
 
+-- all of the bytes are two words, each with a number
 unfoldable pub two_in : List ℕ → List ℕ → List ℕ → Result (Option ℕ × Option ℕ) LineFault
 two_in bytes first second = do
   a ← field_in first bytes
@@ -69,6 +70,7 @@ two_in bytes first second = do
   end ← ended b.1
   Ok (a.0, b.0)
 
+-- all of the bytes are three words, each with a number
 unfoldable pub three_in : List ℕ → List ℕ → List ℕ → List ℕ → Result (Option ℕ × Option ℕ × Option ℕ) LineFault
 three_in bytes first second third = do
   a ← field_in first bytes
@@ -91,14 +93,17 @@ abbrev pub below : Option ℕ → ℕ → Result ℕ LineFault
 below None limit = Err Past
 below (Some n) limit = if nat_lt n limit then Ok n else Err Past
 
+-- the number, if it has 32 bits
 abbrev pub within : Option ℕ → Result ℕ LineFault
 within None = Err Past
 within (Some n) = Ok n
 
+-- the number, if it is from 1 to the most
 abbrev pub count_in : Option ℕ → ℕ → Result ℕ LineFault
 count_in None most = Err Past
 count_in (Some n) most = if nat_le 1 n && nat_le n most then Ok n else Err Past
 
+-- the head with these numbers of super pages, partitions and threads, if each is within its limit
 abbrev pub head_of : Option ℕ → Option ℕ → Option ℕ → Result Head LineFault
 head_of one two three = do
   region ← count_in one most_supers
@@ -106,11 +111,13 @@ head_of one two three = do
   threads ← count_in three most_threads
   Ok (record { region = region; partitions = partitions; threads = threads })
 
+-- the head, without its LF
 unfoldable pub head_in : List ℕ → Result Head LineFault
 head_in bytes = do
   numbers ← three_in bytes (codes "trace 1 region ") (codes " partitions ") (codes " threads ")
   head_of numbers.0 numbers.1 numbers.2
 
+-- after the letter A: a register, one of the trace's partitions, and a size of 32 bits
 unfoldable pub alloc_in : ℕ → List ℕ → Result Op LineFault
 alloc_in partitions bytes = do
   numbers ← three_in bytes (codes " r") (codes " p") (codes " ")
@@ -119,6 +126,7 @@ alloc_in partitions bytes = do
   size ← within numbers.2
   Ok (Alloc reg partition size)
 
+-- after the letter C: the register that is copied, and the one that gets the copy
 unfoldable pub copy_in : List ℕ → Result Op LineFault
 copy_in bytes = do
   numbers ← two_in bytes (codes " r") (codes " r")
@@ -126,24 +134,28 @@ copy_in bytes = do
   to ← below numbers.1 register_count
   Ok (Copy from to)
 
+-- after the letter R: a register
 unfoldable pub reset_in : List ℕ → Result Op LineFault
 reset_in bytes = do
   number ← one_in bytes (codes " r")
   reg ← below number register_count
   Ok (Reset reg)
 
+-- after the letter F: a register
 unfoldable pub free_in : List ℕ → Result Op LineFault
 free_in bytes = do
   number ← one_in bytes (codes " r")
   reg ← below number register_count
   Ok (Free reg)
 
+-- after the letter W: a register, and a value of sixteen hexadecimal digits
 unfoldable pub write_in : List ℕ → Result Op LineFault
 write_in bytes = do
   x ← field_and_word_in bytes (codes " r")
   reg ← below x.0 register_count
   Ok (Write reg x.1)
 
+-- after the letter D: a register, and a number of a word, of 32 bits
 unfoldable pub read_in : List ℕ → Result Op LineFault
 read_in bytes = do
   numbers ← two_in bytes (codes " r") (codes " ")
@@ -151,6 +163,7 @@ read_in bytes = do
   place ← within numbers.1
   Ok (Read reg place)
 
+-- after the letter X: a cell and a register
 unfoldable pub swap_in : List ℕ → Result Op LineFault
 swap_in bytes = do
   numbers ← two_in bytes (codes " c") (codes " r")
@@ -158,6 +171,7 @@ swap_in bytes = do
   reg ← below numbers.1 register_count
   Ok (Swap cell reg)
 
+-- after the letter P: nothing
 unfoldable pub purge_in : List ℕ → Result Op LineFault
 purge_in bytes = do
   end ← ended bytes

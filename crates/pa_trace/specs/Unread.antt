@@ -39,7 +39,7 @@ pub record IsLineRead (u : Unread) (l : Line) (v : Unread) : Type 0 where
   pub shorter : length v.rest < length u.rest
   pub read : (bytes : List ℕ) (ls : List Line) → IsReadUpTo bytes ls u → IsReadUpTo bytes (ls ++ l ∷ []) v
 
--- the end was read, where the reader stays: the bytes are the text of the trace of the lines so far, which is within the limits
+-- the end was read, and the reader stays there: the bytes are the text of the trace of the lines so far, which is within the limits
 pub record IsEndRead (u v : Unread) : Type 0 where
   pub stays : v ≡ u
   pub read : (bytes : List ℕ) (ls : List Line) → IsReadUpTo bytes ls u → IsInput (trace_with u.head ls) bytes

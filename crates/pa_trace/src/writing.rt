@@ -1,12 +1,16 @@
-ghost use Rattle.std.specs.Prelude.{◌≡◌, ◌++◌, ◌≤◌, length, OnOk, IfOk};
-ghost use Rattle.pa_trace.specs.Grammar.{IsOpText, IsLineText, AreLinesText, IsTraceText};
+ghost use Rattle.std.specs.Prelude.{◌≡◌, ◌++◌, ◌≤◌, length, OnOk, OnErr, IfOk};
+ghost use Rattle.std.specs.Io.{StartsWith};
+ghost use Rattle.pa_trace.specs.Grammar.{AreLinesText, IsTraceText};
 ghost use Rattle.pa_trace.specs.Limits.{IsWithinLimits, most_bytes};
 ghost use Rattle.pa_trace.specs.Faults.{IsHeadLine, IsBodyLine};
-ghost use Rattle.pa_trace.specs.Cut.{Appends, IsField};
+ghost use Rattle.pa_trace.specs.Cut.{Appends};
+ghost use Rattle.pa_trace.specs.Printed.{head_text, line_text};
 
-use crate::script::{Line, Op, Trace};
+use crate::line::Head;
+use crate::printing::{head_is, line_is, print_head, print_line};
+use crate::script::{Line, Trace};
 use pa_machine::OutOfMemory;
-use pa_text::{Text, push_byte, push_bytes, push_number, push_word};
+use pa_text::Text;
 use std::alloc::Global;
 
 // The bytes of a line, estimated.
@@ -19,20 +23,34 @@ pub fn write_trace(alloc: Global, trace: &Trace) -> Result<Vec<u8>, OutOfMemory>
     ensures short { IfOk result (λ text. length text.items ≤ most_bytes) }
 {
     let lines = trace.lines.as_slice();
+    let head = Head {
+        region: trace.region,
+        partitions: trace.partitions,
+        threads: trace.threads,
+    };
     let mut out = Text::with_capacity(alloc, LINE * (lines.len() + 4))?;
-    push_head(&mut out, trace)?;
+    push_head(&mut out, head)?;
     push_lines(&mut out, lines)?;
     Ok(out.into_vec())
 }
 
-// Appends the head and an LF.
-fn push_head(out: &mut Text, trace: &Trace) -> Result<(), OutOfMemory>
-    ensures { OnOk result (Appends (IsHeadLine trace.now.region trace.now.partitions trace.now.threads) out.old out.new) }
+/// Appends the head and an LF. If memory runs out, a first part of it may have been appended.
+pub fn push_head(out: &mut Text, head: Head) -> Result<(), OutOfMemory>
+    ensures pushed { OnOk result (Appends (IsHeadLine head.region head.partitions head.threads) out.old out.new) }
+    ensures kept { OnErr result (StartsWith out.new out.old) }
 {
-    push_field(out, b"trace 1 region ", trace.region)?;
-    push_field(out, b" partitions ", trace.partitions)?;
-    push_field(out, b" threads ", trace.threads)?;
-    push_byte(out, b'\n')
+    head_is(head);
+    print_head(out, head)
+}
+
+/// Appends the line and an LF. If memory runs out, a first part of it may have been appended.
+#[inline(always)]
+pub fn push_line(out: &mut Text, line: Line) -> Result<(), OutOfMemory>
+    ensures pushed { OnOk result (Appends (IsBodyLine line) out.old out.new) }
+    ensures kept { OnErr result (StartsWith out.new out.old) }
+{
+    line_is(line);
+    print_line(out, line)
 }
 
 // Appends the lines, each with its LF.
@@ -43,71 +61,4 @@ fn push_lines(out: &mut Text, lines: &[Line]) -> Result<(), OutOfMemory>
         push_line(out, *line)?;
     }
     Ok(())
-}
-
-// Appends the line and an LF.
-fn push_line(out: &mut Text, line: Line) -> Result<(), OutOfMemory>
-    ensures { OnOk result (Appends (IsBodyLine line) out.old out.new) }
-{
-    push_text(out, line)?;
-    push_byte(out, b'\n')
-}
-
-// Appends the line without its LF.
-fn push_text(out: &mut Text, line: Line) -> Result<(), OutOfMemory>
-    ensures { OnOk result (Appends (IsLineText line) out.old out.new) }
-{
-    match line {
-        Line::Phase => push_bytes(out, b"phase"),
-        Line::Do { thread, op } => {
-            push_field(out, b"", thread)?;
-            push_byte(out, b' ')?;
-            push_op(out, op)
-        }
-    }
-}
-
-// Appends the op.
-fn push_op(out: &mut Text, op: Op) -> Result<(), OutOfMemory>
-    ensures { OnOk result (Appends (IsOpText op) out.old out.new) }
-{
-    match op {
-        Op::Alloc {
-            reg,
-            partition,
-            size,
-        } => {
-            push_field(out, b"A r", reg)?;
-            push_field(out, b" p", partition)?;
-            push_field(out, b" ", size)
-        }
-        Op::Copy { from, to } => {
-            push_field(out, b"C r", from)?;
-            push_field(out, b" r", to)
-        }
-        Op::Reset { reg } => push_field(out, b"R r", reg),
-        Op::Free { reg } => push_field(out, b"F r", reg),
-        Op::Write { reg, value } => {
-            push_field(out, b"W r", reg)?;
-            push_byte(out, b' ')?;
-            push_word(out, value)
-        }
-        Op::Read { reg, place } => {
-            push_field(out, b"D r", reg)?;
-            push_field(out, b" ", place)
-        }
-        Op::Swap { cell, reg } => {
-            push_field(out, b"X c", cell)?;
-            push_field(out, b" r", reg)
-        }
-        Op::Purge => push_byte(out, b'P'),
-    }
-}
-
-// Appends a word and the number after it.
-fn push_field(out: &mut Text, word: &[u8], n: u32) -> Result<(), OutOfMemory>
-    ensures { OnOk result (Appends (IsField word.now n) out.old out.new) }
-{
-    push_bytes(out, word)?;
-    push_number(out, u64::from(n))
 }

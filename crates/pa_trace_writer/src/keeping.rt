@@ -1,13 +1,11 @@
-ghost use Rattle.std.specs.Prelude.{◌≡◌, [], IfOk, OnOk};
+ghost use Rattle.std.specs.Prelude.{◌≡◌, [], IfOk, OnOk, OnErr};
 ghost use Rattle.pa_trace.specs.Grammar.{IsTraceText};
 ghost use Rattle.pa_trace.specs.Unread.{trace_with};
 ghost use Rattle.pa_trace_writer.specs.Lines.{LinesSoFar, no_lines, with_line};
 
-use crate::past::Past;
-use crate::printing::{head_is, line_is, push_head, push_line};
 use pa_machine::OutOfMemory;
-use pa_text::Text;
-use pa_trace::{Head, Line, Lines, Trace};
+use pa_text::{Past, Text};
+use pa_trace::{Head, Line, Lines, Trace, push_head, push_line};
 use std::alloc::Global;
 use std::marker::Model;
 
@@ -18,9 +16,10 @@ const LINE_BYTES: usize = 16;
 pub trait Keeper: Drop {
     ghost lines: { Self → LinesSoFar };
 
-    /// One more line.
+    /// One more line. If memory runs out, the lines are as they were.
     fn keep(&mut self, line: Line) -> Result<(), OutOfMemory>
-        ensures { OnOk result (lines self.new ≡ with_line line (lines self.old)) };
+        ensures kept { OnOk result (lines self.new ≡ with_line line (lines self.old)) }
+        ensures same { OnErr result (lines self.new ≡ lines self.old) };
 }
 
 /// A keeper, which is seen as what it was given, whichever it is.
@@ -45,10 +44,11 @@ impl<K: Keeper> Kept<K> {
         Kept { keeper }
     }
 
-    /// One more line.
+    /// One more line. If memory runs out, the lines are as they were.
     #[inline(always)]
     pub fn push(&mut self, line: Line) -> Result<(), OutOfMemory>
-        ensures { OnOk result (self.new ≡ with_line line self.old) }
+        ensures pushed { OnOk result (self.new ≡ with_line line self.old) }
+        ensures same { OnErr result (self.new ≡ self.old) }
     {
         self.keeper.keep(line)
     }
@@ -124,13 +124,13 @@ impl Model for LineText {
 }
 
 impl LineText {
-    /// A head, and no lines. Memory is reserved for the texts of so many lines.
+    /// A head, and no lines. Memory is reserved for the texts of this many lines.
+    #[tactic(auto, using(crate::proofs::Growing::head_alone))]
     pub fn new(alloc: Global, head: Head, lines: usize) -> Result<LineText, OutOfMemory>
         ensures { IfOk result (λ text. text ≡ no_lines head) }
     {
         let mut text = Text::with_capacity(alloc, lines.saturating_mul(LINE_BYTES))?;
         push_head(&mut text, head)?;
-        head_is(head);
         Ok(LineText {
             head,
             text,
@@ -154,7 +154,6 @@ impl Keeper for LineText {
         let len = self.text.len();
         match push_line(&mut self.text, line) {
             Ok(()) => {
-                line_is(line);
                 self.past = self.past.and(&line);
                 Ok(())
             }

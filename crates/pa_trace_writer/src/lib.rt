@@ -2,7 +2,5 @@
 #![tactic(auto)]
 
 mod keeping;
-mod past;
-mod printing;
 
 pub use keeping::{Keeper, Kept, LineList, LineText};

@@ -38,7 +38,7 @@ AreRising es =
 abbrev pub AreFrom : ℕ → List RootEntry → Type 0
 AreFrom least es = (j b : ℕ) (f : RootEntry) → slice_get es j ≡ Some f → asked_by f.act ≡ Some b → least ≤ b
 
--- where the numbers behind the first rise from
+-- where the numbers after the first rise from
 record IsRisingFrom (o : Option ℕ) (least : ℕ) (ns : List ℕ) : Type 0 where
   next : ℕ
   up : least ≤ next

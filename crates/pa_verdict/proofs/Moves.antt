@@ -1,11 +1,12 @@
 -- The moves of a journal at a slot and a number, each with its entry and what comes before it there.
-use Rattle.std.proofs.Common.{◌≡◌, ℕ, zero, suc, ◌⊎◌, Bool, true, List, [], ◌∷◌, ◌++◌, take, drop, filter, flat_map, refl, subst, sym, ◌∙◌, ap, append_assoc, inl, inr, Some}
+use Rattle.std.proofs.Common.{◌≡◌, ℕ, zero, suc, Bool, true, List, [], ◌∷◌, ◌++◌, take, drop, filter, flat_map, refl, subst, sym, ◌∙◌, ap, append_assoc, inl, inr, Some}
 use Rattle.std.specs.Prelude.{slice_get}
 use Rattle.std.proofs.lemmas.Bool.{cases_Bool}
 use Rattle.std.proofs.lemmas.List.Elements.{filter-append}
 use Rattle.pa_machine.specs.declared.word.SlotName.{SlotName}
 use Rattle.pa_record.specs.declared.root.RootEntry.{RootEntry}
 use Rattle.pa_lists.proofs.Members.{of_some, not_some}
+use Rattle.pa_lists.proofs.Cuts.{append_cut}
 use Rattle.pa_rules.specs.Holders.{Move, moves_by, is_move_of, moves_at}
 
 -- ---- filtered lists and their parts
@@ -56,18 +57,6 @@ filtered test (y ∷ ys) pre rest x e = elim (cases_Bool (test y)) [
   | inl hit ↦ filtered_hit test y ys pre rest x hit (sym (filter_hit test y ys hit) ∙ e) (λ next. filtered test ys next rest x)
 ]
 
--- a member of two lists joined is of the first, or of the second
-split_join : {A : Type 0} (xs ys pre rest : List A) (x : A) → xs ++ ys ≡ pre ++ x ∷ rest
-    → ((more : List A) × (xs ≡ pre ++ x ∷ more)) ⊎ ((next : List A) × (pre ≡ xs ++ next) × (ys ≡ next ++ x ∷ rest))
-split_join [] ys pre rest x e = inr (pre, refl, e)
-split_join (y ∷ xs) ys [] rest x e = inl (xs, ap (λ z. z ∷ xs) (head_one y x (xs ++ ys) rest e))
-split_join (y ∷ xs) ys (z ∷ pre) rest x e =
-    let same = head_one y z (xs ++ ys) (pre ++ x ∷ rest) e in
-    elim (split_join xs ys pre rest x (tail_one y z (xs ++ ys) (pre ++ x ∷ rest) e)) [
-      | inl (more, is) ↦ inl (more, ap (λ w. w ∷ xs) same ∙ ap (λ zs. z ∷ zs) is)
-      | inr (next, is, there) ↦ inr (next, ap (λ w. w ∷ pre) (sym same) ∙ ap (λ zs. y ∷ zs) is, there)
-    ]
-
 -- ---- the moves of a journal at a slot and a number
 
 abbrev pub entry_moves : RootEntry → List Move
@@ -117,7 +106,7 @@ move_place [] s k pre rest m e = absurd (no_parts pre rest m e)
 move_place (d ∷ es) s k pre rest m e =
     let test = is_move_of s k in
     let here = filter test (entry_moves d) in
-    elim (split_join here (moves_at es s k) pre rest m (sym (one_more d es s k) ∙ e)) [
+    elim (append_cut here (moves_at es s k) pre rest m (sym (one_more d es s k) ∙ e)) [
       | inl (more, is) ↦
           let u = filtered test (entry_moves d) pre more m is in
           record { j = 0; entry = d; before = u.before; after = u.after; at_place = refl; parts = u.parts; passes = u.passes; first = u.first }

@@ -1,4 +1,4 @@
--- The clause of the titles: it never fails where the journals and the pool are right, and said of the journals up to each
+-- The clause of the titles: it never fails if the journals and the pool are right, and said of the journals up to each
 -- line it is the whole.
 use Rattle.std.proofs.Common.{◌≡◌, ℕ, zero, suc, ◌+◌, ◌<◌, ◌==◌, List, [], ◌∷◌, take, Some, refl, subst, sym, ◌∙◌, ap, arith, inl, inr}
 use Rattle.std.specs.Prelude.{slice_get, nat_lt}

@@ -10,6 +10,7 @@ use Rattle.pa_rules.specs.Registers.{Facts, Regs, AllRegs, Row, RowsTo, AreRegis
 use Rattle.pa_rules.specs.Roots.{Journals}
 use Rattle.pa_rules.specs.Caches.{Cache, Caches, CacheRow, CachesTo, AreCaches, no_caches, with_cache}
 use Rattle.pa_rules.specs.Sizes.{usable_of}
+use Rattle.pa_rules.proofs.Leading.{rows_cut}
 use Rattle.pa_verdict.specs.Clauses.{IsMet, RegistersArePlaces, CachesArePlaces}
 use Rattle.pa_lists.proofs.Indexed.{end_of, cut_at}
 
@@ -17,12 +18,6 @@ use Rattle.pa_lists.proofs.Indexed.{end_of, cut_at}
 
 abbrev HasRow : Facts → AllRegs → List Played → Played → Type 0
 HasRow facts first before x = (all : AllRegs) × (next : Regs) × RowsTo facts first before all × Row facts x.op (all x.thread) x.answer next
-
-rows_cut : (facts : Facts) (all after : AllRegs) (before rest : List Played) (x : Played) → RowsTo facts all (before ++ x ∷ rest) after → HasRow facts all before x
-rows_cut facts all after [] rest x (next, row, more) = (all, next, refl, row)
-rows_cut facts all after (y ∷ before) rest x (next, row, more) =
-    let (last, then, to, there) = rows_cut facts (with_thread all y.thread next) after before rest x more in
-    (last, then, (next, row, to), there)
 
 pub rows_end : (facts : Facts) (all after : AllRegs) (next : Regs) (before : List Played) (x : Played) → RowsTo facts all before after → Row facts x.op (after x.thread) x.answer next
     → RowsTo facts all (before ++ x ∷ []) (with_thread after x.thread next)
@@ -43,7 +38,9 @@ registers_meet : (t : Trace) (r : Told) → AreRegisters usable_of r.cells (reco
 registers_meet t r h (places.Record i) = λ x at.
     let ps = records_of t r in
     let facts : Facts = record { usable_of = usable_of; usable_at = usable_in ps; cells = r.cells } in
-    rows_cut facts no_regs h.0 (take i ps) (drop (suc i) ps) x (subst (λ zs. RowsTo facts no_regs zs h.0) (cut_at ps i x at) h.1)
+    let (all, to, rest_rows) = rows_cut facts no_regs (take i ps) (x ∷ drop (suc i) ps) h.0 (subst (λ zs. RowsTo facts no_regs zs h.0) (cut_at ps i x at) h.1) in
+    let (next, row, more) = rest_rows in
+    (all, next, to, row)
 registers_meet t r h (places.Root p j) = tt
 registers_meet t r h (places.Pool j) = tt
 registers_meet t r h (places.Cell k j) = tt

@@ -27,18 +27,23 @@ IsMet c t r = (place : Place) → Demand c t r place
 abbrev pub LinesArePlaces : Type 0
 LinesArePlaces = (t : Trace) (r : Told) → AreDue t.lines r.entries ↔ IsMet clauses.Lines t r
 
+-- the clause of the registers holds if and only if each place meets it
 abbrev pub RegistersArePlaces : Type 0
 RegistersArePlaces = (t : Trace) (r : Told) → AreRegisters usable_of r.cells (records_of t r) ↔ IsMet clauses.Registers t r
 
+-- the clause of the contents holds if and only if each place meets it
 abbrev pub ContentsArePlaces : Type 0
 ContentsArePlaces = (t : Trace) (r : Told) → AreContents usable_of r.cells (records_of t r) ↔ IsMet clauses.Contents t r
 
+-- the clause of the caches holds if and only if each place meets it
 abbrev pub CachesArePlaces : Type 0
 CachesArePlaces = (t : Trace) (r : Told) → AreCaches t.partitions r.roots (records_of t r) ↔ IsMet clauses.Caches t r
 
+-- the clause of what is seen in order holds if and only if each place meets it
 abbrev pub SeenIsPlaces : Type 0
 SeenIsPlaces = (t : Trace) (r : Told) → IsSeenInOrder r.cells (records_of t r) ↔ IsMet clauses.Seen t r
 
+-- the clause of the report holds if and only if each place meets it
 abbrev pub ReportIsPlaces : Type 0
 ReportIsPlaces =
     (t : Trace) (r : Told) →
@@ -48,14 +53,17 @@ ReportIsPlaces =
 abbrev pub CellsArePlaces : Type 0
 CellsArePlaces = (t : Trace) (r : Told) → AreDue t.lines r.entries → AreCells r.cells (records_of t r) ↔ IsMet clauses.Cells t r
 
+-- if the lines are right, the clause of the slots holds if and only if each place meets it
 abbrev pub SlotsArePlaces : Type 0
 SlotsArePlaces = (t : Trace) (r : Told) → AreDue t.lines r.entries → Slots (marks_of (records_of t r)) ↔ IsMet clauses.Slots t r
 
+-- if the lines are right, the clause of the pool holds if and only if each place meets it
 abbrev pub PoolIsPlaces : Type 0
 PoolIsPlaces =
     (t : Trace) (r : Told) → AreDue t.lines r.entries →
     IsPoolOf t.region (records_of t r) r.pools r.roots ↔ IsMet clauses.Pool t r
 
+-- if the lines are right, the clause of the roots holds if and only if each place meets it
 abbrev pub RootsArePlaces : Type 0
 RootsArePlaces =
     (t : Trace) (r : Told) → AreDue t.lines r.entries →

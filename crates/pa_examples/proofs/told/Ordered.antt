@@ -35,7 +35,7 @@ until_1 =
     by_first (took the_take) ∷ by_first (filled the_fill) ∷ by_first (Counted its_title Issue 0 0) ∷ by_first (Counted its_title Copy 0x1000001 0)
     ∷ by_first (exchanged 0 the_gift 2) ∷ []
 
--- in the second it frees the slot, and the second thread takes the raw_ptr and looks, before the free or behind it
+-- in the second it frees the slot, and the second thread takes the raw_ptr and looks, before the free or after it
 abbrev the_free : Stamped
 the_free = by_first (Counted its_title Free 0x2000003 0)
 
@@ -112,7 +112,7 @@ held_poison = record {
   content = refl;
 }
 
--- or it looks behind the free
+-- or it looks after the free
 abbrev pub freed_steps : List OneStep
 freed_steps = read_step poison ∷ look_step 0x3000002 ∷ taking_step ∷ Logged the_free ∷ Spoiled its_title 0 ∷ steps_until_1
 

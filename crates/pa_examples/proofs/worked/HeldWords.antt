@@ -51,7 +51,7 @@ no_maps : root.maps ≡ []
 unfolding rows row_of slot_of pages_of slots_of fill_of
 no_maps = refl
 
--- the slots that stand are 256 of 16 bytes each
+-- the slots that exist are 256 of 16 bytes each
 abbrev slot_title : ℕ → Title
 slot_title n = record { start = 16384 + 16 * n; len = 16; born = 0 }
 

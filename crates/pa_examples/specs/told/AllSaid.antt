@@ -60,9 +60,11 @@ seat_of ts notes lists = seat_with ts notes lists (record { frees = []; owns = [
 abbrev pub swaps_until : ℕ → List SwapMade
 swaps_until n = if n == 1 then gift_made ∷ [] else gift_made ∷ taking_made ∷ []
 
+-- the lists of the run at the end of phase n, with the exchanges until then
 abbrev pub lists_until : ℕ → ℕ → List Made
 lists_until n = lists_of two_threads_journal two_threads_pool (map (λ (s : SwapMade). s.made) (swaps_until n))
 
+-- the seat at the end of phase n: it has the logs of the records until then, and has seen the slot at number n + 1
 abbrev pub seat_until : List ToldRecord → ℕ → View
 seat_until ts n = seat_of (told_until n ts) (seen_number (suc n)) (lists_until n)
 
@@ -70,6 +72,7 @@ seat_until ts n = seat_of (told_until n ts) (seen_number (suc n)) (lists_until n
 abbrev pub title_number : ℕ → Title
 title_number n = record { start = 16384 + 16 * n; len = 16; born = 0 }
 
+-- the first `count` slots of the span
 unfoldable pub span_slots : ℕ → List Title
 span_slots count = map title_number (numbers 0 count)
 
@@ -90,6 +93,7 @@ last_holding = record {
   words = last_words;
 }
 
+-- the seat that closes the run with that read: it has seen the slot at number 4
 abbrev pub seat_last : Worked → View
 seat_last read = seat_with (reading_so read) (seen_number 4) (lists_until 3) last_holding
 
@@ -119,6 +123,7 @@ pub record IsFineWith (read : Worked) : Type 0 where
       (seat_last read) (reading_so read)
   pub legal : IsLegalTold two_threads_trace (told_with read)
 
+-- so it is for each of the three reads
 pub record OtherReadsAreLegal : Type 0 where
   pub poison : IsFineWith the_read
   pub content : IsFineWith content_read
@@ -132,9 +137,11 @@ pub record IsClosed (t : Trace) (r : Told) (v : View) (ts : List ToldRecord) (wo
   pub end : IsEnd words v
   pub held : IsHeldIn t r words
 
+-- the run with that read is closed by its last seat, and its last words hold it
 abbrev pub ClosesWith : Worked → Type 0
 ClosesWith read = IsClosed two_threads_trace (told_with read) (seat_last read) (reading_so read) last_words
 
+-- so it is for each of the three reads
 pub record ThreadsClose : Type 0 where
   pub poison : ClosesWith the_read
   pub content : ClosesWith content_read

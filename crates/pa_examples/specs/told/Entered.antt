@@ -21,6 +21,7 @@ use Rattle.pa_examples.specs.told.Threads.{seen_number, the_gift, the_taking, th
 abbrev pub in_root : RootEntry → Made
 in_root e = record { stake = 0; numbers = root_numbers e; seen = [] }
 
+-- an entry of the first thread in the pool's list
 abbrev pub in_pool : PoolEntry → Made
 in_pool e = record { stake = 0; numbers = pool_numbers e; seen = [] }
 
@@ -41,15 +42,19 @@ pub record ListsFit (lists : ℕ → List Made) (pools : List PoolEntry) (roots 
 abbrev pub gift_made : SwapMade
 gift_made = record { made = record { stake = 0; numbers = cell_numbers the_gift; seen = seen_number 2 }; cell = 0; entry = the_gift }
 
+-- the second exchange: on line 7 the second thread takes the raw_ptr out of cell 0
 abbrev pub taking_made : SwapMade
 taking_made = record { made = record { stake = 1; numbers = cell_numbers the_taking; seen = seen_number 2 }; cell = 0; entry = the_taking }
 
+-- the two exchanges in their order
 abbrev pub threads_swaps : List SwapMade
 threads_swaps = gift_made ∷ taking_made ∷ []
 
+-- the six lists of the run of two threads
 abbrev pub threads_lists : ℕ → List Made
 threads_lists = lists_of two_threads_journal two_threads_pool (map (λ (s : SwapMade). s.made) threads_swaps)
 
+-- the histories of its cells: that of cell 0 has the two exchanges, the others are empty
 abbrev pub threads_cells : ℕ → List CellEntry
 threads_cells = history_at (two_threads_history ∷ [])
 

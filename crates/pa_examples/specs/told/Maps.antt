@@ -29,6 +29,7 @@ map_long s = 2002944
 abbrev pub map_title : ℕ → Title
 map_title born = record { start = 16384; len = 2002944; born = born }
 
+-- a note that the direct map of this entry of the pool was seen at number n
 abbrev pub seen_map : ℕ → ℕ → SeenNumber
 seen_map born n = record { title = map_title born; number = n }
 
@@ -41,6 +42,7 @@ abbrev pub unmapped : ℕ → ℕ → ℕ → ℕ → List Entry
 unmapped line asked born number =
     took (pool_give line 0 1 0) ∷ filled (map_gone line asked 16384 born number) ∷ Uncut (map_title born) ∷ []
 
+-- the eight records: three maps are made, two go back, and one request is refused while a map stands
 abbrev pub maps_worked : List Worked
 maps_worked =
     record {
@@ -93,6 +95,7 @@ maps_worked =
     }
     ∷ []
 
+-- the eight records, with each title's numbers looked up in the notes
 abbrev pub maps_told : List ToldRecord
 maps_told = told_records maps_worked
 

@@ -28,6 +28,7 @@ owner_of t = record { title = t; state = Clean; idle = false }
 
 -- ---- the run with a purge
 
+-- the run's lists: there are no exchanges
 abbrev pub told_purge : Told
 told_purge = record {
   entries = map entry_of purge_records;
@@ -37,6 +38,7 @@ told_purge = record {
   report = purge_report;
 }
 
+-- its six lists, of which the root's and the pool's have entries
 abbrev pub purge_lists : ℕ → List Made
 purge_lists = lists_of purge_journal purge_pool []
 
@@ -57,14 +59,17 @@ purge_holding = record {
   words = purge_words;
 }
 
+-- the seat that closes the run: it has seen the first slot at number 3
 abbrev pub seat_purge : View
 seat_purge = seat_with purge_told (seen_number 3) purge_lists purge_holding
 
+-- the run with a purge is closed by that seat, and those words hold it
 abbrev pub PurgeIsClosed : Type 0
 PurgeIsClosed = IsClosed purge_trace told_purge seat_purge purge_told purge_words
 
 -- ---- the run of direct maps
 
+-- the run's lists: there are no exchanges
 abbrev pub told_maps : Told
 told_maps = record {
   entries = map entry_of direct_map_records;
@@ -74,6 +79,7 @@ told_maps = record {
   report = direct_map_report;
 }
 
+-- its six lists, of which the root's and the pool's have entries
 abbrev pub maps_lists : ℕ → List Made
 maps_lists = lists_of direct_map_again_journal direct_map_again_pool []
 
@@ -90,8 +96,10 @@ maps_holding = record {
   words = maps_words;
 }
 
+-- the seat that closes the run: it has seen the three maps at the numbers 2, 4 and 1
 abbrev pub seat_maps : View
 seat_maps = seat_with maps_told (seen_map 5 1 ∷ seen_map 2 4 ∷ seen_map 0 2 ∷ []) maps_lists maps_holding
 
+-- the run of direct maps is closed by that seat, and those words hold it
 abbrev pub DirectMapIsClosed : Type 0
 DirectMapIsClosed = IsClosed direct_map_trace told_maps seat_maps maps_told maps_words

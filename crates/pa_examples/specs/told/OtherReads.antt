@@ -32,6 +32,7 @@ abbrev pub content_read : Worked
 content_read =
     read_with (answers.Value (seen_at 16384 0 0x2000003) 0) (Looked its_title 0x2000003 ∷ Read its_title 0 0 no_deeds false false ∷ []) 2
 
+-- it found the slot freed, and gave poison; its seat has then seen number 3
 abbrev pub freed_read : Worked
 freed_read = read_with (answers.Dangling (seen_at 16384 0 0x3000002) poison) (read_poison 0x3000002) 3
 

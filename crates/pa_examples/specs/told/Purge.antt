@@ -18,6 +18,7 @@ use Rattle.pa_logs.specs.Worked.{sixteen, its_title, view_of}
 use Rattle.pa_examples.specs.told.Worked.{Worked, told_records}
 use Rattle.pa_examples.specs.told.Threads.{seen_number, took, filled}
 
+-- the four records: an allocation, its free, the purge, and an allocation that gets the slot again
 abbrev pub purge_worked : List Worked
 purge_worked =
     record {
@@ -46,6 +47,7 @@ purge_worked =
     }
     ∷ []
 
+-- the four records, with each title's numbers looked up in the notes
 abbrev pub purge_told : List ToldRecord
 purge_told = told_records purge_worked
 

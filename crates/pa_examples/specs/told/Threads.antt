@@ -32,9 +32,11 @@ seen_number n = record { title = its_title; number = n } ∷ []
 abbrev pub took : PoolEntry → Entry
 took e = Entered 4 (record { stake = 0; numbers = pool_numbers e; seen = [] })
 
+-- an entry of the first root's list, made with stake 0
 abbrev pub filled : RootEntry → Entry
 filled e = Entered 0 (record { stake = 0; numbers = root_numbers e; seen = [] })
 
+-- an entry of the cells' list, made with this stake, which carries that the slot was seen at number n
 abbrev pub exchanged : ℕ → CellEntry → ℕ → Entry
 exchanged stake e n = Entered 5 (record { stake = stake; numbers = cell_numbers e; seen = seen_number n })
 
@@ -42,12 +44,15 @@ exchanged stake e n = Entered 5 (record { stake = stake; numbers = cell_numbers 
 abbrev pub the_take : PoolEntry
 the_take = pool_take 2 0 1 (Some 0)
 
+-- the root's one entry: on line 2 a fill of eight slots, 16 bytes apart from byte 16384 on
 abbrev pub the_fill : RootEntry
 the_fill = fill 2 0 (Some 0) (slots 0 0 (16384 ∷ 16400 ∷ 16416 ∷ 16432 ∷ 16448 ∷ 16464 ∷ 16480 ∷ 16496 ∷ []))
 
+-- the cell's first entry: on line 4 the raw_ptr is put into the empty cell
 abbrev pub the_gift : CellEntry
 the_gift = record { line = 4; gave = held.Ref (record { start = 16384; born = 0 }); found = held.Nothing }
 
+-- the cell's second entry: on line 7 the raw_ptr is taken out of it
 abbrev pub the_taking : CellEntry
 the_taking = record { line = 7; gave = held.Nothing; found = held.Ref (record { start = 16384; born = 0 }) }
 
@@ -112,6 +117,7 @@ threads_worked =
     }
     ∷ []
 
+-- the eight records, with each title's numbers looked up in the notes
 abbrev pub threads_told : List ToldRecord
 threads_told = told_records threads_worked
 

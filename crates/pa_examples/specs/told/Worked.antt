@@ -13,6 +13,7 @@ pub record Worked : Type 0 where
   pub saw : List SeenNumber
   pub gives : List SeenNumber
 
+-- the record with its log segment, and for each title the number seen before it and the one handed on, looked up in the notes
 abbrev pub told_record : Worked → ToldRecord
 told_record w = record {
   played = w.played;
@@ -21,5 +22,6 @@ told_record w = record {
   gives = λ t. seen_among t w.gives;
 }
 
+-- all these records so, in order
 abbrev pub told_records : List Worked → List ToldRecord
 told_records ws = map told_record ws

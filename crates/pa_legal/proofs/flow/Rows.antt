@@ -82,7 +82,7 @@ module _ (s : SlotName) (k p : ℕ) (roots : Journals) where
         marked (is_return_at s k) (Some (mark_at line seen (Some step))) ≡ hit_once s k (record { slot = seen.slot; number = number_of seen.found.0 + 1 })
     return_marked line seen step passes = elim (cases_Bool (same_slot s seen.slot)) [ inl hit ↦ rw (hit, passes) refl | inr miss ↦ rw miss refl ]
 
-    -- the list from which a slot is taken, after a fill where it was empty
+    -- the list from which a slot is taken, after a fill if it was empty
     first_moved : (line class : ℕ) (old xs : List Numbered) → FilledFirst roots line p class old xs → (moved_in is_out s k (acts_of roots line p) + at_in s k old ≡ at_in s k xs) × (moved_in is_back s k (acts_of roots line p) ≡ 0)
     first_moved line class [] xs (asked, only) =
         let out : moved_in is_out s k (acts_of roots line p) ≡ at_in s k xs + 0 = ap (moved_in is_out s k) only.0 in

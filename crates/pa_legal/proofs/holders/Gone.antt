@@ -21,11 +21,11 @@ use Rattle.pa_rules.specs.Roots.{Journals, IsEntry, AreRoots, IsPoolOf}
 use Rattle.pa_rules.specs.Caches.{IsDirect, AreCaches}
 use Rattle.pa_rules.specs.Holders.{IsOfSlot, NamesSlot}
 use Rattle.pa_rules.proofs.Numbering.{rising_differ}
-use Rattle.pa_rules.proofs.Running.{OtherRecord, marks_differ, mark_from}
+use Rattle.pa_rules.proofs.Running.{OtherRecord, marks_differ, mark_from, same_word}
 use Rattle.pa_rules.proofs.Phases.{mark_in}
 use Rattle.pa_legal.specs.Known.{AreKnown, FindsInUse}
 use Rattle.pa_legal.proofs.Naming.{unnamed}
-use Rattle.pa_legal.proofs.Words.{same_word, goes_on, goes_past, leaves_free, only_issue}
+use Rattle.pa_legal.proofs.Words.{goes_on, goes_past, leaves_free, only_issue}
 use Rattle.pa_legal.proofs.holders.Maps.{new_map}
 use Rattle.pa_legal.proofs.holders.Records.{ReturnsMap, unmap_returns, issue_makes}
 use Rattle.pa_lists.proofs.Indexed.{at_in}

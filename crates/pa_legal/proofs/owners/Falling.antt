@@ -9,8 +9,8 @@ use Rattle.pa_machine.specs.Count.{CanStep, number_of, held_of, stepped}
 use Rattle.pa_machine.specs.Run.{Mark, IsFirstAt, IsRunFrom}
 use Rattle.pa_machine.proofs.Arith.{stepped_is}
 use Rattle.pa_machine.proofs.Runs.{number_stepped}
-use Rattle.pa_rules.proofs.Running.{OtherLine}
-use Rattle.pa_legal.proofs.Words.{same_word, goes_on, goes_past}
+use Rattle.pa_rules.proofs.Running.{OtherLine, same_word}
+use Rattle.pa_legal.proofs.Words.{goes_on, goes_past}
 
 -- the first free that found the word a or a later one, below the word w: up to it each word has the bit
 pub record FirstFree (ms : List Mark) (s : SlotName) (vs : List ℕ) (a w : ℕ) : Type 0 where

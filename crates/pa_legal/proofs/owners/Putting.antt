@@ -16,7 +16,7 @@ use Rattle.pa_rules.specs.Registers.{Reg, Regs, AllRegs, Facts, Row, RowsTo, Are
 use Rattle.pa_rules.specs.Rising.{RiseByLine}
 use Rattle.pa_rules.specs.Sizes.{usable_of}
 use Rattle.pa_rules.specs.Told.{records_of}
-use Rattle.pa_rules.proofs.Leading.{row_leads}
+use Rattle.pa_rules.proofs.Leading.{row_leads, rows_cut}
 use Rattle.pa_rules.proofs.Numbering.{lines_rise}
 use Rattle.pa_rules.proofs.Recorded.{records_are_lines}
 use Rattle.pa_legal.specs.Owners.{WasPut, HandlesArePut, LegalHasHandles}
@@ -60,7 +60,7 @@ Unchanged cells xs t reg = (z : Played) (other : Reg) → Contains xs z → z.th
 abbrev PutOr : Cells → List Played → ℕ → ℕ → Reg → Reg → Type 0
 PutOr cells xs t reg old new = ((y : Played) × PutIn cells xs t reg new y) ⊎ ((new ≡ old) × Unchanged cells xs t reg)
 
--- one record more in front, of the same thread
+-- one record more at the front, of the same thread
 put_here : (cells : Cells) (x : Played) (xs : List Played) (reg : ℕ) (regs next : Regs) (new : Reg)
     → ((k : ℕ) → next k ≡ changed regs (change_of cells x.op x.answer) k)
     → new ≡ next reg → Unchanged cells xs x.thread reg → PutOr cells (x ∷ xs) x.thread reg (regs reg) new
@@ -125,20 +125,14 @@ put_or facts (x ∷ xs) all after t reg rising (next, row, rest) =
 
 -- ---- the registers just before a record
 
-row_cut : (facts : Facts) (all after : AllRegs) (before rest : List Played) (x : Played) → RowsTo facts all (before ++ x ∷ rest) after
-    → (last : AllRegs) × (next : Regs) × RowsTo facts all before last × Row facts x.op (last x.thread) x.answer next
-row_cut facts all after [] rest x (next, row, more) = (all, next, refl, row)
-row_cut facts all after (y ∷ before) rest x (next, row, more) =
-    let (last, then, to, there) = row_cut facts (with_thread all y.thread next) after before rest x more in
-    (last, then, (next, row, to), there)
-
 -- each record has registers just before it, and its row
 pub row_of : (cells : Cells) (ps : List Played) (x : Played) → AreRegisters usable_of cells ps → Contains ps x
     → (regs next : Regs) × HasRegs usable_of cells ps x regs × Row (facts_of cells ps) x.op regs x.answer next
 row_of cells ps x (after, rows) among =
     let (before, rest, parts) = parts_at ps x among in
-    let (last, next, to, row) = row_cut (facts_of cells ps) no_regs after before rest x
+    let (last, to, rest_rows) = rows_cut (facts_of cells ps) no_regs before (x ∷ rest) after
     (subst (λ (zs : List Played). RowsTo (facts_of cells ps) no_regs zs after) parts rows) in
+    let (next, row, more) = rest_rows in
     (last x.thread, next, (before, rest, last, parts, to, refl), row)
 
 pub record_in : (cells : Cells) (ps : List Played) (x : Played) (regs : Regs) → HasRegs usable_of cells ps x regs → Contains ps x

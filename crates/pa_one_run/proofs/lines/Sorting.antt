@@ -203,7 +203,7 @@ sorted_by f xs h i j d up few = elim (cases_lt (f (get_or xs j d)) (f (get_or xs
   | inr up' ↦ omega arith
 ]
 
--- they rise where each has its own
+-- they rise if each has its own
 pub rises_by : {A : Type 0} (f : A → ℕ) (xs : List A) → IsNonDecreasingBy f xs → ((i j : ℕ) (e g : A) → slice_get xs i ≡ Some e → slice_get xs j ≡ Some g → f e ≡ f g → i ≡ j) → IsStrictlyIncreasing (map f xs)
 rises_by f [] h differ k few = absurd (omega arith)
 rises_by f (x ∷ xs) h differ k few =

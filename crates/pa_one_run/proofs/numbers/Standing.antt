@@ -1,4 +1,4 @@
--- What holds of a slot's numbers beside the caches, and how it goes on holding where entries, caches and the slot's word change.
+-- What holds of a slot's numbers beside the caches, and how it goes on holding when entries, caches and the slot's word change.
 use Rattle.std.proofs.Common.{◌≡◌, ℕ, ◌+◌, ◌<◌, ◌⊎◌, Bool, true, false, not, List, [], ◌∷◌, ◌++◌, Option, refl, sym, ◌∙◌, ap, subst, arith, inl, inr}
 use Rattle.std.specs.Prelude.{Contains, ◌==◌}
 use Rattle.std.proofs.lemmas.Bool.{cases_lt, cases_eq, ne_eqb, both_ways}

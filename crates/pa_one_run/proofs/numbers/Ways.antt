@@ -113,7 +113,7 @@ batches_none s k (suc fuel) (n ∷ ns) none =
     (ways_in_none Back s k (take 16 (n ∷ ns)) (λ m among. none m (take_in 16 (n ∷ ns) m among)))
     (batches_none s k fuel (drop 16 (n ∷ ns)) (λ m among. none m (drop_in 16 (n ∷ ns) m among)))
 
--- what is given back has no way where the lists don't have the slot at the number
+-- what is given back has no way if the lists don't have the slot at the number
 pub gives_none : (s : SlotName) (k : ℕ) (ns : List Numbered) → ((n : Numbered) → Contains ns n → n.slot ≡ s → n.number ≡ k → ⊥) → ways_of s k (gives ns) ≡ []
 gives_none s k ns none = batches_none s k (length ns) ns none
 

@@ -130,7 +130,7 @@ full_alike a b before x v cache next next' h (inr (p, size, i, asks, only, becom
     let fulls = map_fulls_alike a b before x v p size i j h asks only there in
     record { caches = both_become next next' cache cache becomes becomes' refl; line = full_line a b x.line p i j None only there fulls.asked fulls.pool }
 
--- no slot is made in one run where there is no room in the other
+-- no slot is made in one run if there is no room in the other
 filled_or_full : (a b : Parts) (before : List Played) (x : Played) (v : Answer) (p class j : ℕ) (list xs : List Numbered) → Beside a b before x v → FilledFirst a.roots x.line p class list xs → list ≡ [] →
     OnlyActs b.roots x.line p (Full (Some class) j ∷ []) → ⊥
 filled_or_full a b before x v p class j [] xs h (asked, only) empty only' = fill_or_full a b x.line p class j asked xs h.filed h.filed' h.agrees only only'

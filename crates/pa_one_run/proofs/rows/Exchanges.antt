@@ -76,7 +76,7 @@ exchange_none a x k h among other = on_none cell_line x.line (a.cells k) (λ e m
 
 -- ---- two runs
 
--- an exchange before the line is in the other run where it is in this one
+-- an exchange before the line is in the other run if it is in this one
 pub exchange_kept : (a b : Parts) (n k j : ℕ) (e : CellEntry) → IsFiled a → IsFiled b → Agrees n a b → slice_get (a.cells k) j ≡ Some e → e.line < n → slice_get (b.cells k) j ≡ Some e
 exchange_kept a b n k j e h g agrees at less =
     let front = get_below cell_line n (a.cells k) j e (cell_steady a k h) at less in

@@ -15,9 +15,9 @@ use Rattle.pa_lists.proofs.Members.{not_in_none, first_in, later_in, of_some, no
 use Rattle.pa_record.specs.declared.history.Held.TheVariants as held
 use Rattle.pa_rules.specs.declared.register.Register.TheVariants.{Empty, Own, Ref, Freed, Cleared}
 use Rattle.pa_rules.specs.declared.played.Played.{Played}
-use Rattle.pa_rules.specs.Registers.{Reg, Regs, AllRegs, Facts, Row, RowsTo, with_thread, handle_of, reg_of, made_of, no_regs}
+use Rattle.pa_rules.specs.Registers.{Reg, Regs, AllRegs, Row, RowsTo, with_thread, handle_of, reg_of, made_of, no_regs}
 use Rattle.pa_rules.specs.Changes.{done_of, swapped_of, found_in, change_of, changed}
-use Rattle.pa_rules.proofs.Leading.{slot_in, used_by, row_leads}
+use Rattle.pa_rules.proofs.Leading.{slot_in, used_by, row_leads, rows_cut}
 use Rattle.pa_one_run.specs.Parts.{Parts, cell_line}
 use Rattle.pa_one_run.specs.Before.{below, gave_last, facts_of, HasRegisters}
 use Rattle.pa_one_run.proofs.lines.Sorting.{in_below}
@@ -48,12 +48,6 @@ reg_names (held.Own s) = refl
 reg_names (held.Ref s) = refl
 
 -- ---- the registers before a record
-
-rows_cut : (facts : Facts) (all : AllRegs) (before rest : List Played) (after : AllRegs) → RowsTo facts all (before ++ rest) after → (mid : AllRegs) × RowsTo facts all before mid × RowsTo facts mid rest after
-rows_cut facts all [] rest after h = (all, refl, h)
-rows_cut facts all (p ∷ before) rest after (next, row, more) =
-    let (mid, first, second) = rows_cut facts (with_thread all p.thread next) before rest after more in
-    (mid, (next, row, first), second)
 
 -- a record's row, from the registers after the records before it
 pub record HasRow (a : Parts) (before : List Played) (x : Played) : Type 0 where

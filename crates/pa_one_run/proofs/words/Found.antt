@@ -16,7 +16,8 @@ use Rattle.pa_rules.specs.Holders.{Holder, IsFirstHolder}
 use Rattle.pa_rules.proofs.Phases.{mark_in}
 use Rattle.pa_one_run.proofs.Filed.{IsFiled}
 use Rattle.pa_one_run.proofs.words.Fronts.{finds_by_numbers, word_at, word_beside, IsFront, front_of}
-use Rattle.pa_legal.proofs.Words.{same_word, leaves_free}
+use Rattle.pa_legal.proofs.Words.{leaves_free}
+use Rattle.pa_rules.proofs.Running.{same_word}
 use Rattle.pa_one_run.specs.Parts.{Parts}
 use Rattle.pa_one_run.specs.Before.{stepped_by, word_from, word_after}
 use Rattle.pa_one_run.proofs.words.Marks.{marks_rise, goes_on}

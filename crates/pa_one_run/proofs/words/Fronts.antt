@@ -13,7 +13,7 @@ use Rattle.pa_machine.proofs.Runs.{runs_none, runs_same, runs_look, runs_step, s
 use Rattle.pa_lists.proofs.Members.{first_in, later_in, in_cases}
 use Rattle.pa_lists.proofs.Pairs.{pairs_head}
 use Rattle.pa_rules.specs.FileOrder.{is_step_before, steps_before, AreNumbersInFileOrder}
-use Rattle.pa_legal.proofs.Words.{same_word}
+use Rattle.pa_rules.proofs.Running.{same_word}
 use Rattle.pa_one_run.specs.Before.{stepped_by, word_from}
 use Rattle.pa_one_run.proofs.words.Marks.{Rises, goes_on}
 use Rattle.pa_lists.proofs.Elements.{pairs_across, in_middle, pairs_after}

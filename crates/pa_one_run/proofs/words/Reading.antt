@@ -15,11 +15,10 @@ use Rattle.pa_rules.specs.Played.{mark_of, marks_of, mark_at}
 use Rattle.pa_rules.specs.Contents.{IsMadeAt, IsWrittenAt, IsWrittenFor, IsContent, IsReadExact}
 use Rattle.pa_rules.specs.FileOrder.{is_step_before, steps_before}
 use Rattle.pa_rules.proofs.Marking.{mark_line, read_mark}
-use Rattle.pa_rules.proofs.Running.{first_line}
+use Rattle.pa_rules.proofs.Running.{first_line, same_word}
 use Rattle.pa_rules.proofs.Phases.{mark_in}
 use Rattle.pa_one_run.proofs.Filed.{IsFiled}
 use Rattle.pa_lists.proofs.Elements.{in_middle, in_front}
-use Rattle.pa_legal.proofs.Words.{same_word}
 use Rattle.pa_one_run.specs.Parts.{Parts}
 use Rattle.pa_one_run.proofs.lines.Cuts.{same_played, early_in, cut_here}
 

@@ -73,7 +73,7 @@ returns-clause-lists c = λ none.
     let cached = subst (λ (b : RunBooks). HaveCached b.partitions t.threads (journal_at b.roots) b.records found.cached.items)
     c.in_ok-books.ensures (c.in_ok-found.ensures.cached no) in
     record {
-      homes = subst (λ (rs : List (List RootEntry)). KnowsHomes (journal_at rs) (value_at c.in_ok-known.field-0)) c.roots.ensures.roots c.in_ok-known.ensures;
+      homes = subst (λ (rs : List (List RootEntry)). KnowsHomes (journal_at rs) (value_at c.in_ok-homes.homes)) c.roots.ensures.roots c.in_ok-homes.ensures;
       cached = subst (λ (rs : List (List RootEntry)). HaveCached t.partitions t.threads (journal_at rs) ps found.cached.items) c.roots-2.ensures.roots cached;
       listed = c.in_ok-found.ensures.many no ∙ ap length c.as_slice.ensures.value ∙ c.requires.ends.phases;
     }

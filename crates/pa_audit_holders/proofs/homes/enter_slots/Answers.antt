@@ -16,7 +16,7 @@ loop-slot-preserved c =
     let g = value_at l.homes in
     let h = value_at c.enter.new.homes in
     record {
-      homes = c.in_ok-enter.ensures.homes;
+      homes = c.enter.ensures.homes;
       enters = subst (λ (xs : List SlotName). EntersSlots f h xs) (sym (names_more c.args.slots.now l.slot-index _ c.loop-slot-test.true))
           (enters_more f g h (names (take l.slot-index c.args.slots.now)) _ l.invariant.enters c.in_ok-enter.ensures.enters);
     }

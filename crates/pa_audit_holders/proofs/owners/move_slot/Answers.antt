@@ -12,7 +12,7 @@ returns-clause-owners c = λ ms h.
     let g = value_at c.put.new.self in
     let held = c.owner_now-held.result in
     let puts : Puts f g (word_key c.args.slot.slot c.args.slot.number) (made_owner held c.args.course c.args.mover.thread) =
-    subst (λ k. Puts f g k (made_owner held c.args.course c.args.mover.thread)) c.key_at.ensures.key (subst (λ o. Puts f g c.key_at.result o) c.made.ensures c.in_ok-put.ensures) in
+    subst (λ k. Puts f g k (made_owner held c.args.course c.args.mover.thread)) c.key_at.ensures.key (subst (λ o. Puts f g c.key_at.result o) c.made.ensures c.in_ok-put.ensures.puts) in
     owners_more c.args.records.now ms f g c.args.mover.line c.args.mover.thread c.args.course c.args.slot held c.key_at.ensures.sized c.requires.thread (c.owner_now-held.ensures ms h) puts h
 
 pub returns-clause-fits : goal.returns-clause-fits

@@ -19,6 +19,6 @@ returns c =
     subst (λ (z : List Numbered). OnlyActs roots c.args.page.now.told.line p (gives z)) (slice_rest stays.result more) (c.only_gives.ensures.0 c.if-not-only_gives.false) in
     let becomes = with_again cache (cache_in c.replace-slots.new.self) (cache_in c.replace.new.self) p class c.new-none.result c.keep.new.self c.replace-slots.ensures.after c.replace.ensures.after in
     put_row roots c.args.page.now.told.line p class stays.result c.args.slot cache (cache_in c.replace.new.self)
-    c.replace-slots.result c.put_front.new.self c.items.result.now more c.replace-slots.ensures.slots c.in_ok-put_front.ensures
+    c.replace-slots.result c.put_front.new.self c.items.result.now more c.replace-slots.ensures.slots c.in_ok-put_front.ensures.put
     c.items.ensures c.items-2.ensures
     stays.ensures.kept stays.ensures.spilled only (becomes ∙ ap (λ (z : List Numbered). with_list cache p class z) c.keep.ensures)

@@ -12,7 +12,7 @@ loop-record-preserved c =
     let inv = c.loop-record.invariant in
     record {
       at = ap (λ n. n + 1) inv.at;
-      last = last_more ps f (value_at c.put.new.self) k c.loop-record.at _ c.loop-record-test.true inv.at c.in_ok-put.ensures inv.last;
+      last = last_more ps f (value_at c.put.new.self) k c.loop-record.at _ c.loop-record-test.true inv.at c.in_ok-put.ensures.puts inv.last;
       previous =
           subst (λ zs. ArePrevious ps zs (k + 1)) (sym c.in_ok-push.ensures.items)
           (previous_more ps c.loop-record.previous.items f k _ c.find.result c.loop-record-test.true c.find.ensures inv.last inv.previous);

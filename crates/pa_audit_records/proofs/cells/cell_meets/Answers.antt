@@ -38,7 +38,7 @@ loop-entry-preserved c =
       cell =
           cell_more cells ps (value_at c.loop-entry.known) (value_at c.put.new.self) (value_at c.loop-entry.last) (value_at c.put-in-loop-entry.new.self) c.loop-entry.phase 0 c.loop-entry.given k j _
           c.in-Some.told c.requires.rising c.loop-entry.invariant.cell (exchange_here c.args.cells.now k j c.entries-entries.result.now _ is c.loop-entry-test.true) c.in-Some.ensures.some.0
-          c.in-Some.ensures.some.1 c.in_ok-put.ensures c.in_ok-put-2.ensures;
+          c.in-Some.ensures.some.1 c.in_ok-put.ensures.puts c.in_ok-put-2.ensures.puts;
     }
 
 pub returns-clause-tells : goal.returns-clause-tells

@@ -11,7 +11,7 @@ loop-at-preserved-in-Continue-1 c =
       below = omega arith;
       firsts =
           firsts_more c.args.records.now (value_at c.loop-at.firsts) (value_at c.put.new.self) k c.loop-at.at c.in-Some.key _ (omega arith) (omega arith) c.in-Some.ensures.key c.step_key.ensures.sized
-          c.in_ok-put.ensures c.loop-at.invariant.firsts;
+          c.in_ok-put.ensures.puts c.loop-at.invariant.firsts;
     }
 
 pub loop-at-preserved : goal.loop-at-preserved

@@ -2,7 +2,7 @@ use Rattle.std.proofs.Common.{◌≡◌, ◌-◌, drop, length}
 use Rattle.pa_link.specs.Chains.{IsChain, Relinked, SameBeside}
 use Rattle.pa_cache.proofs.cache.push_all.Given as goal
 
--- so many were pushed, the last ones
+-- this many were pushed, the last ones
 abbrev pub invariant-loop-done : goal.invariant-loop-done
 invariant-loop-done l = record {
   region : l.seat.region ≡ l.initial.seat.region;

@@ -5,7 +5,7 @@ use Rattle.pa_root.specs.Taking.{CanTakeSlots}
 use Rattle.pa_root.proofs.SlotsTaken.{IsUnderWay}
 use Rattle.pa_root.proofs.takes.take_slots.Given as goal
 
--- so many are taken, and the rest is still to be taken
+-- this many are taken, and the rest is still to be taken
 abbrev pub invariant-loop-done : goal.invariant-loop-done
 invariant-loop-done l = record {
   region : l.own.region ≡ l.initial.own.region;

@@ -25,7 +25,7 @@ loop-item-preserved c =
     let s = c.loop-item in
     let behind : StandsBehind s.last (item_place c.in-Some.item) = subst (λ (p : Place). StandsBehind s.last p) c.place_of-place.ensures (c.if-not-stands_behind.ensures.0 refl) in
     let next = reads_next s.last s.n s.draft c.in-Some.item s.rest.now c.in-Some.after.now c.args.bytes.now s.invariant c.in-Some.ensures.fits behind c.in-Some.ensures.found in
-    rw (c.place_of-place.ensures, c.in_ok-put.ensures) next
+    rw (c.place_of-place.ensures, c.in_ok-put.ensures.gathered) next
 
 pub returns-then-is_whole-clause-found : goal.returns-then-is_whole-clause-found
 returns-then-is_whole-clause-found c = λ r told.

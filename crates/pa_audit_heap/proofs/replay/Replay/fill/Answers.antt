@@ -15,8 +15,8 @@ fill-requires-clause-some c = let row = IsRow-of c.args.class c.fill_count.ensur
 pub fill-requires-clause-few : goal.fill-requires-clause-few
 fill-requires-clause-few c = let row = IsRow-of c.args.class c.fill_count.ensures.bound in omega (arith, c.fill_count.ensures.count, row.few_fill)
 
-pub returns-then-is_none : goal.returns-then-is_none
-returns-then-is_none c =
+pub returns-then-is_none-clause-plays : goal.returns-then-is_none-clause-plays
+returns-then-is_none-clause-plays c =
     let pools = c.args.pools.now in
     let plan = c.args.self.now.plan in
     let r = c.args.self.now.root in
@@ -30,8 +30,8 @@ returns-then-is_none c =
     (λ left. fill_misfits pools plan c.fill.new.pool r c.fill.new.self c.args.class c.args.slots.now placed did
     (λ none names. both_ways _ left (c.are_named.ensures.1 (same ∙ names))))
 
-pub returns-else-is_none : goal.returns-else-is_none
-returns-else-is_none c =
+pub returns-else-is_none-clause-plays : goal.returns-else-is_none-clause-plays
+returns-else-is_none-clause-plays c =
     let pools = c.args.pools.now in
     let plan = c.args.self.now.plan in
     let r = c.args.self.now.root in

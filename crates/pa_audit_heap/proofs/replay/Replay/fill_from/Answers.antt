@@ -29,8 +29,8 @@ fill-requires-clause-born c =
     let at = at_entry c.args.pools.now c.args.self.now.plan.supers c.args.asked (pool.Take 1 (Some first)) c.play_to.new.self.plan c.requires.pool found c.play_to.ensures.plan in
     ready_at c.args.pools.now c.args.self.now.plan c.play_to.new.self.plan c.args.self.now.root c.play_to.new.self.root c.args.asked (pool.Take 1 (Some first)) c.requires.step c.requires.ahead at c.play_to.ensures.root
 
-pub returns-then-is_some : goal.returns-then-is_some
-returns-then-is_some c =
+pub returns-then-is_some-clause-plays : goal.returns-then-is_some-clause-plays
+returns-then-is_some-clause-plays c =
     let pools = c.args.pools.now in
     let r = c.args.self.now.root in
     let plan = c.play_to.new.self.plan in
@@ -48,8 +48,8 @@ returns-then-is_some c =
     (λ left. fill_from_misfits pools c.args.self.now.plan.supers plan c.fill.new.pool r c.fill.new.self c.args.class c.args.asked first c.args.slots.now placed found at did
     (λ some names. both_ways _ left (c.are_named.ensures.1 (same ∙ names))))
 
-pub returns-else-is_some : goal.returns-else-is_some
-returns-else-is_some c =
+pub returns-else-is_some-clause-plays : goal.returns-else-is_some-clause-plays
+returns-else-is_some-clause-plays c =
     let pools = c.args.pools.now in
     let r = c.args.self.now.root in
     let plan = c.play_to.new.self.plan in

@@ -26,8 +26,8 @@ fill-requires-clause-born c =
     let at = at_entry c.args.pools.now c.args.self.now.plan.supers c.args.asked (pool.Take 1 None) c.play_to.new.self.plan c.requires.pool found c.play_to.ensures.plan in
     ready_at c.args.pools.now c.args.self.now.plan c.play_to.new.self.plan c.args.self.now.root c.play_to.new.self.root c.args.asked (pool.Take 1 None) c.requires.step c.requires.ahead at c.play_to.ensures.root
 
-pub returns : goal.returns
-returns c =
+pub returns-clause-plays : goal.returns-clause-plays
+returns-clause-plays c =
     let pools = c.args.pools.now in
     let r = c.args.self.now.root in
     let plan = c.play_to.new.self.plan in

@@ -18,8 +18,8 @@ map-requires-clause-born c =
     let at = at_entry c.args.pools.now c.args.self.now.plan.supers c.args.asked a c.play_to.new.self.plan c.requires.pool c.in-Some.ensures.some c.play_to.ensures.plan in
     ready_at c.args.pools.now c.args.self.now.plan c.play_to.new.self.plan c.args.self.now.root c.play_to.new.self.root c.args.asked a c.requires.step c.requires.ahead at c.play_to.ensures.root
 
-pub returns : goal.returns
-returns c =
+pub returns-clause-plays : goal.returns-clause-plays
+returns-clause-plays c =
     let pools = c.args.pools.now in
     let r = c.args.self.now.root in
     let plan0 = c.args.self.now.plan in

@@ -15,16 +15,16 @@ use Rattle.pa_audit_heap.proofs.Walking.{IsTaken, fits_next, unmet_order, walked
 use Rattle.pa_audit_heap.proofs.walk.Walk.meets_next.Goals.{then-partition-partitions-via-then-partition-partitions, then-partition-partitions-via-else-partition-partitions+then-not-makes_entry}
 use Rattle.pa_audit_heap.proofs.walk.Walk.meets_next.Goals as goal
 
-pub returns-in_default : goal.returns-in_default
-returns-in_default c = λ demand.
+pub returns-in_default-clause-walks : goal.returns-in_default-clause-walks
+returns-in_default-clause-walks c = λ demand.
     let es = c.args.journal.now in
     let e = c.index-journal-at.result in
     let at = slice_get_read es (length es) c.args.at e refl c.requires.within c.index-journal-at.is in
     let (x, of, makes) = (demand e at).line in
     c.in_default.ensures.the_record x (subst (λ n. IsOfLine c.args.records.now n x) (sym c.line.ensures.line) of)
 
-pub returns-then-partition-partitions : goal.returns-then-partition-partitions
-returns-then-partition-partitions c = λ demand.
+pub returns-then-partition-partitions-clause-walks : goal.returns-then-partition-partitions-clause-walks
+returns-then-partition-partitions-clause-walks c = λ demand.
     let es = c.args.journal.now in
     let e = c.index-journal-at.result in
     let at = slice_get_read es (length es) c.args.at e refl c.requires.within c.index-journal-at.is in
@@ -38,8 +38,8 @@ returns-then-partition-partitions c = λ demand.
           both_ways _ w.if-not-makes_entry.true (w.makes_entry.ensures.1 (subst (λ act. MakesEntry c.args.pools.now c.args.partition act c.in-Some.found.op) (sym w.act.ensures.act) here))
     ]
 
-pub returns-then-not-rises : goal.returns-then-not-rises
-returns-then-not-rises c = λ demand.
+pub returns-then-not-rises-clause-walks : goal.returns-then-not-rises-clause-walks
+returns-then-not-rises-clause-walks c = λ demand.
     let es = c.args.journal.now in
     let e = c.index-journal-at.result in
     let at = slice_get_read es (length es) c.args.at e refl c.requires.within c.index-journal-at.is in
@@ -47,8 +47,8 @@ returns-then-not-rises c = λ demand.
     not_rises c.args.supers c.args.pools.now (λ q. es) c.args.partition c.args.at e w.replay w.least (asked_by e.act) c.requires.walked.replayed refl
     (λ from. both_ways _ c.if-not-rises.true (c.rises.ensures.1 (subst (AsksFrom w.least) (sym (c.asked_by-asked.ensures ∙ ap asked_by c.act-2.ensures.act)) from))) (demand e at).rises
 
-pub returns-then-not-enter : goal.returns-then-not-enter
-returns-then-not-enter c = λ demand.
+pub returns-then-not-enter-clause-walks : goal.returns-then-not-enter-clause-walks
+returns-then-not-enter-clause-walks c = λ demand.
     let es = c.args.journal.now in
     let e = c.index-journal-at.result in
     let at = slice_get_read es (length es) c.args.at e refl c.requires.within c.index-journal-at.is in
@@ -56,18 +56,19 @@ returns-then-not-enter c = λ demand.
     (subst (λ n. IsTheRecord c.args.records.now n (Some c.in-Some.found)) c.line.ensures.line c.in-Some.ensures.the_record)
     (λ behind. both_ways _ c.if-not-enter.true (c.enter.ensures.behind.1 behind)) (demand e at)
 
-pub returns-then-not-played : goal.returns-then-not-played
-returns-then-not-played c = λ demand.
+pub returns-then-not-played-clause-walks : goal.returns-then-not-played-clause-walks
+returns-then-not-played-clause-walks c = λ demand.
     let es = c.args.journal.now in
     let e = c.index-journal-at.result in
     let at = slice_get_read es (length es) c.args.at e refl c.requires.within c.index-journal-at.is in
     let w = c.args.self.now in
-    let played = subst (λ act. TellsPlay c.args.pools.now act w.replay.plan w.replay.root c.play.new.self.plan c.play.new.self.root c.in_ok-played.played) c.act-3.ensures.act c.in_ok-played.ensures in
+    let played = subst (λ act. TellsPlay c.args.pools.now act w.replay.plan w.replay.root c.play.new.self.plan c.play.new.self.root c.in_ok-played.played)
+    c.act-3.ensures.act c.in_ok-played.ensures.plays in
     let misfit = subst (TellsPlay c.args.pools.now e.act w.replay.plan w.replay.root c.play.new.self.plan c.play.new.self.root) c.if-not-played.true played in
     misfit (subst (RootActFits c.args.pools.now e.act) (sym c.requires.walked.replayed.root) (demand e at).fits)
 
-pub returns : goal.returns
-returns c =
+pub returns-clause-walks : goal.returns-clause-walks
+returns-clause-walks c =
     let es = c.args.journal.now in
     let e = c.index-journal-at.result in
     let at = slice_get_read es (length es) c.args.at e refl c.requires.within c.index-journal-at.is in
@@ -85,9 +86,9 @@ returns c =
       from = subst (AsksFrom c.args.self.now.least) asks (c.rises.ensures.0 c.if-not-rises.false);
       behind = c.enter.ensures.behind.0 c.if-not-enter.false;
     } in
-    let told = subst (λ act. TellsPlay pools act w.replay.plan w.replay.root c.play.new.self.plan c.play.new.self.root c.in_ok-played.played) c.act-3.ensures.act c.in_ok-played.ensures in
+    let told = subst (λ act. TellsPlay pools act w.replay.plan w.replay.root c.play.new.self.plan c.play.new.self.root c.in_ok-played.played) c.act-3.ensures.act c.in_ok-played.ensures.plays in
     let played = subst (TellsPlay pools e.act w.replay.plan w.replay.root c.play.new.self.plan c.play.new.self.root) c.if-not-played.false told in
-    let filled = subst (λ n. AreFilledUp (census w.replay.root) n w.censuses c.fill_up.new.self) c.phases_before-over.ensures c.in_ok-fill_up.ensures in (
+    let filled = subst (λ n. AreFilledUp (census w.replay.root) n w.censuses c.fill_up.new.self) c.phases_before-over.ensures c.in_ok-fill_up.ensures.filled in (
       meets_here c.args.partitions ps pools es p c.args.at e at (fits_next c.args.supers c.args.partitions c.args.phases ps pools es p c.args.at w e x c.requires.walked at taken played.0),
       walked_next c.args.supers c.args.partitions c.args.phases ps pools es p c.args.at w _ e x c.requires.threads c.requires.walked at taken (c.enter.ensures.entered c.if-not-enter.false) filled played.1
           (c.least_after-self.ensures.next ∙ ap (least_after w.least) asks) c.least_after-self.ensures.bound,

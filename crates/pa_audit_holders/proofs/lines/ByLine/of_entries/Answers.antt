@@ -18,7 +18,7 @@ loop-entry-preserved c =
     record {
       at = ap (λ n. n + 1) l.invariant.at;
       table =
-          subst (λ t. AreOnLinesTo c.args.journal.now c.args.count t (l.entry-index + 1)) (sym c.in_ok-enter.ensures)
+          subst (λ t. AreOnLinesTo c.args.journal.now c.args.count t (l.entry-index + 1)) (sym c.in_ok-enter.ensures.entered)
           (lines_next c.args.journal.now c.args.count l.by_line l.entry-index l.place c.line.result f l.invariant.table l.invariant.at is (sym c.line.ensures.line));
     }
 

@@ -1,4 +1,4 @@
-use Rattle.std.proofs.Common.{◌≡◌, ◌+◌, List, [], ◌∷◌, length, ◌∙◌, sym, ap, subst, arith, true}
+use Rattle.std.proofs.Common.{◌≡◌, ◌+◌, List, [], ◌∷◌, length, ◌∙◌, refl, sym, ap, subst, arith}
 use Rattle.std.proofs.lemmas.List.{length-append}
 use Rattle.pa_machine.specs.declared.word.Step.TheVariants as steps
 use Rattle.pa_trace.specs.declared.script.Op.TheVariants as ops
@@ -10,9 +10,9 @@ use Rattle.pa_op_specs.proofs.Growing.{alloc_less}
 use Rattle.pa_op_specs.proofs.Weighing.{alloc_counts}
 use Rattle.pa_heap.proofs.Working.{worker_plays, worker_goes_on, counts_by, covered_after}
 use Rattle.pa_totals.specs.declared.owed.Owed.{Owed}
-use Rattle.pa_totals.specs.Settled.{none_owed}
 use Rattle.pa_op_specs.proofs.Stakes.{covered_by_rule}
 use Rattle.pa_op_specs.proofs.Counting.{owed_none_by}
+use Rattle.pa_heap.proofs.Stopped.{stopped_as}
 use Rattle.pa_heap.proofs.worker.Worker.alloc.Goals as goal
 
 pub invariant_of-self : goal.invariant_of-self
@@ -104,14 +104,5 @@ returns-in-Ok-clause-goes_on g c =
 
 pub returns-in-Err-clause-same : goal.returns-in-Err-clause-same
 returns-in-Err-clause-same g c =
-    let w : WorkerValue = record {
-      stock = c.self.inside.stock;
-      records = c.self.inside.records.items;
-      room = c.self.inside.room;
-      stopped = c.self.inside.stopped;
-      counts = c.self.inside.counts;
-      owed = c.self.inside.owed;
-    } in
-    ap (λ (s : StockValue). record w { stock = s; stopped = true; owed = c.owed_none-self-inside.result }) c.in-Err.ensures.same
-    ∙ (ap (λ (os : List Owed). record w { stopped = true; owed = os }) c.owed_none-self-inside.ensures
-    ∙ ap (λ (z : WorkerValue). record z { stopped = true; owed = none_owed }) c.self.view_is)
+    stopped_as (λ (w : WorkerValue). w.stock) (λ (w : WorkerValue). w.room)
+    c.self.view_is c.in-Err.ensures.same refl c.owed_none-self-inside.ensures

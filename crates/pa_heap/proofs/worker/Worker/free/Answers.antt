@@ -1,4 +1,4 @@
-use Rattle.std.proofs.Common.{◌≡◌, ℕ, ◌+◌, List, [], ◌∷◌, length, ◌∙◌, sym, ap, subst, arith, true}
+use Rattle.std.proofs.Common.{◌≡◌, ◌+◌, List, [], ◌∷◌, length, ◌∙◌, refl, sym, ap, subst, arith}
 use Rattle.std.proofs.lemmas.List.{length-append}
 use Rattle.pa_machine.specs.declared.word.Step.TheVariants as steps
 use Rattle.pa_trace.specs.declared.script.Op.TheVariants as ops
@@ -11,10 +11,10 @@ use Rattle.pa_op_specs.proofs.Weighing.{free_counts}
 use Rattle.pa_thread_state.specs.Stopping.{KeepsItsStake}
 use Rattle.pa_heap.proofs.Working.{worker_plays, worker_goes_on, counts_by, covered_after}
 use Rattle.pa_totals.specs.declared.owed.Owed.{Owed}
-use Rattle.pa_totals.specs.Settled.{none_owed}
 use Rattle.pa_op_specs.proofs.Stakes.{covered_by_rule}
 use Rattle.pa_op_specs.proofs.Counting.{owed_none_by}
 use Rattle.pa_heap.specs.Stopping.{StopsFree}
+use Rattle.pa_heap.proofs.Stopped.{stopped_as}
 use Rattle.pa_heap.proofs.worker.Worker.free.Goals as goal
 
 pub invariant_of-self : goal.invariant_of-self
@@ -112,15 +112,5 @@ returns-in-Err-clause-left g c =
 
 pub returns-in-Err-clause-same : goal.returns-in-Err-clause-same
 returns-in-Err-clause-same g c =
-    let w : WorkerValue = record {
-      stock = c.self.inside.stock;
-      records = c.self.inside.records.items;
-      room = c.self.inside.room;
-      stopped = c.self.inside.stopped;
-      counts = c.self.inside.counts;
-      owed = c.self.inside.owed;
-    } in
-    let many : c.len.result ≡ length w.records = (let e = c.len.ensures in omega arith) in
-    ap (λ (n : ℕ). record w { stock = c.play_free.new.stock; room = n; stopped = true; owed = c.owed_none-self-inside.result }) many
-    ∙ ap (λ (os : List Owed). record w { stock = c.play_free.new.stock; room = length w.records; stopped = true; owed = os }) c.owed_none-self-inside.ensures
-    ∙ ap (λ (z : WorkerValue). record z { stock = c.play_free.new.stock; room = length z.records; stopped = true; owed = none_owed }) c.self.view_is
+    stopped_as (λ (w : WorkerValue). c.play_free.new.stock) (λ (w : WorkerValue). length w.records)
+    c.self.view_is refl (let e = c.len.ensures in omega arith) c.owed_none-self-inside.ensures

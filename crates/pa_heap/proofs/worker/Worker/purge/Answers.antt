@@ -1,4 +1,4 @@
-use Rattle.std.proofs.Common.{◌≡◌, ◌+◌, [], ◌∷◌, length, ◌∙◌, sym, ap, subst, arith, List, true}
+use Rattle.std.proofs.Common.{◌≡◌, ◌+◌, [], ◌∷◌, length, ◌∙◌, refl, sym, ap, subst, arith, List}
 use Rattle.std.proofs.lemmas.List.{length-append}
 use Rattle.pa_trace.specs.declared.script.Op.TheVariants as ops
 use Rattle.pa_op_specs.specs.Workers.{WorkerValue, CanPlayOp, KeepsOn, IsCovered}
@@ -8,10 +8,10 @@ use Rattle.pa_op_specs.proofs.Weighing.{purge_counts}
 use Rattle.pa_thread_state.specs.Stopping.{KeepsItsStake}
 use Rattle.pa_heap.proofs.Working.{worker_plays, worker_goes_on, covered_still}
 use Rattle.pa_totals.specs.declared.owed.Owed.{Owed}
-use Rattle.pa_totals.specs.Settled.{none_owed}
 use Rattle.pa_op_specs.proofs.Stakes.{covered_by_rule}
 use Rattle.pa_op_specs.specs.Counts.{IsOwedBySteps}
 use Rattle.pa_heap.specs.Stopping.{StopsPurge}
+use Rattle.pa_heap.proofs.Stopped.{stopped_as}
 use Rattle.pa_heap.proofs.worker.Worker.purge.Goals as goal
 
 pub invariant_of-self : goal.invariant_of-self
@@ -86,13 +86,5 @@ returns-in-Err-clause-left g c =
 
 pub returns-in-Err-clause-same : goal.returns-in-Err-clause-same
 returns-in-Err-clause-same g c =
-    let w : WorkerValue = record {
-      stock = c.self.inside.stock;
-      records = c.self.inside.records.items;
-      room = c.self.inside.room;
-      stopped = c.self.inside.stopped;
-      counts = c.self.inside.counts;
-      owed = c.self.inside.owed;
-    } in
-    ap (λ (os : List Owed). record w { stock = c.purge.new.stock; stopped = true; owed = os }) c.owed_none-self-inside.ensures
-    ∙ ap (λ (z : WorkerValue). record z { stock = c.purge.new.stock; stopped = true; owed = none_owed }) c.self.view_is
+    stopped_as (λ (w : WorkerValue). c.purge.new.stock) (λ (w : WorkerValue). w.room)
+    c.self.view_is refl refl c.owed_none-self-inside.ensures

@@ -1,6 +1,7 @@
 use Rattle.std.proofs.Common.{◌≡◌, length, arith, rules}
 use Rattle.pa_place.specs.Store.{root_of}
-use Rattle.pa_place.proofs.Looking.{bytes_low, pages_low, census_by}
+use Rattle.pa_record.proofs.Counted.{census_by}
+use Rattle.pa_place.proofs.Looking.{bytes_low, pages_low}
 use Rattle.pa_place.proofs.store.Store.census.Goals as goal
 
 pub sums_of-sums-requires-clause-bytes : goal.sums_of-sums-requires-clause-bytes

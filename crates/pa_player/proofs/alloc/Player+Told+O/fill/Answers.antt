@@ -18,7 +18,7 @@ returns-then-is_empty-clause-fills g c =
     let p = c.args.self.now in
     let q = c.args.partition in
     let placed : Placed = record { pool = c.in_ok-asked.asked; titles = c.fill.new.titles } in
-    let tells = c.in_ok-tell_asked.ensures
+    let tells = c.in_ok-tell_asked.ensures.asked
     ∙ ap (λ (z : List Title). asked_in q 1 z placed.pool (record p { heap = record { pool = c.fill.new.pool; roots = c.fill.new.self } })) c.as_slice.ensures.value in
     unfilled_told q c.args.class c.fill_count-want.result c.unwrap-pool.result c.in_ok-entry.entry p c.tell_asked.new.self c.refused.new.self c.fill.new.pool c.fill.new.self placed
     c.fill_count-want.ensures.count c.in_ok-asked.ensures.filled c.in_ok-asked.ensures.others tells (search rules) c.unwrap-pool.ensures c.in_ok-entry.ensures.place c.in_ok-entry.ensures.after
@@ -28,7 +28,7 @@ returns-clause-fills g c =
     let p = c.args.self.now in
     let q = c.args.partition in
     let placed : Placed = record { pool = c.in_ok-asked.asked; titles = c.fill.new.titles } in
-    let tells = c.in_ok-tell_asked.ensures
+    let tells = c.in_ok-tell_asked.ensures.asked
     ∙ ap (λ (z : List Title). asked_in q 1 z placed.pool (record p { heap = record { pool = c.fill.new.pool; roots = c.fill.new.self } })) c.as_slice.ensures.value in
     filled_told q c.args.at c.args.class c.fill_count-want.result p c.tell_asked.new.self c.tell_fill.new.self c.fill.new.pool c.fill.new.self placed
     c.fill_count-want.ensures.count c.in_ok-asked.ensures.filled c.in_ok-asked.ensures.others tells (search rules)

@@ -13,5 +13,5 @@ pub returns-in_ok-begin_phase-in-Phase-clause-played : goal.returns-in_ok-begin_
 returns-in_ok-begin_phase-in-Phase-clause-played g c =
     let p = c.args.self.now in
     let q = c.begin_phase.new.self in
-    let played : GoesTo p Phase None q = subst (GoesTo p Phase None) (sym c.in_ok-begin_phase-in-Phase.ensures) (phase_plays p) in
+    let played : GoesTo p Phase None q = subst (GoesTo p Phase None) (sym c.in_ok-begin_phase-in-Phase.ensures.begun) (phase_plays p) in
     subst (λ (l : Line). GoesTo p l None q) (sym c.in-Phase.is) played

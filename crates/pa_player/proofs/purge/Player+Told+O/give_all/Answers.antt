@@ -1,8 +1,10 @@
 use Rattle.std.proofs.Common.{◌≡◌, ◌+◌, length, drop, sym, ap, ◌∙◌, subst, arith}
+use Rattle.pa_machine.proofs.Outcomes.{any_err}
 use Rattle.pa_player.specs.Asks.{CanGive}
 use Rattle.pa_player.specs.Changes.{list_in, given}
 use Rattle.pa_player.specs.Playing.{list_place}
 use Rattle.pa_player.proofs.Purging.{purge_start, class_ready, class_few, purge_more, purge_end, IsGivenTo}
+use Rattle.pa_player.proofs.Settling.{lists_settled}
 use Rattle.pa_player.proofs.purge.Player+Told+O.give_all.Goals as goal
 
 pub loop-number-init : goal.loop-number-init
@@ -57,10 +59,14 @@ loop-number-preserved g c =
     ap length c.places.ensures.places ∙ ap (λ k. length (list_in c.loop-number.self k)) at in
     subst (λ k. IsGivenTo c.args.thread c.args.partition (c.loop-number.number + 1) c.args.self.now c.give.new.self (c.loop-number.slots + k)) (sym size)
     (purge_more c.args.thread c.args.partition c.loop-number.number c.args.self.now c.loop-number.self c.give.new.self c.loop-number.slots c.loop-number.invariant c.loop-number-test.true c.requires.among
-    (c.in_ok-give.ensures ∙ ap (λ k. given c.args.partition k 0 c.loop-number.self) at))
+    (c.in_ok-give.ensures.given ∙ ap (λ k. given c.args.partition k 0 c.loop-number.self) at))
 
 pub returns-clause-given : goal.returns-clause-given
 returns-clause-given g c =
     let past = c.loop-number-test.false in
     let last = c.loop-number.auto.number-end in
     (purge_end c.args.thread c.args.partition c.loop-number.number c.args.self.now c.loop-number.self c.loop-number.slots c.loop-number.invariant (omega arith)).0
+
+pub returns-in_err-give-clause-same : goal.returns-in_err-give-clause-same
+returns-in_err-give-clause-same g c =
+    any_err _ _ (c.in_err-give.ensures.same ∙ lists_settled c.args.thread c.args.partition c.loop-number.number c.args.self.now c.loop-number.self c.loop-number.slots c.loop-number.invariant)

@@ -1,6 +1,10 @@
-use Rattle.std.proofs.Common.{[], sym, subst, arith}
+use Rattle.std.proofs.Common.{[], sym, ap, ◌∙◌, subst, arith}
+use Rattle.pa_machine.proofs.Outcomes.{any_err}
+use Rattle.pa_player.specs.Player.{Player}
+use Rattle.pa_player.specs.Told.{told_before}
 use Rattle.pa_player.specs.Asks.{CanGive}
 use Rattle.pa_player.proofs.Purging.{given_can}
+use Rattle.pa_player.proofs.Settling.{given_settled}
 use Rattle.pa_player.proofs.purge.Player+Told+O.purge_one.Goals as goal
 
 pub purge-requires-clause-among : goal.purge-requires-clause-among
@@ -22,3 +26,7 @@ root-requires-clause-few g c =
     let can = subst (CanGive c.args.partition []) (sym c.in_ok-slots.ensures.given) (given_can c.args.thread c.args.partition 0 59 c.args.self.now (grind (arith, c.requires.gives.four)) (omega arith) c.requires.gives) in
     let few = can.few in
     omega arith
+
+pub returns-in_err-root-clause-same : goal.returns-in_err-root-clause-same
+returns-in_err-root-clause-same g c =
+    any_err _ _ (ap told_before c.in_err-root.ensures.same ∙ ap (λ (z : Player). told_before z.told) c.in_ok-slots.ensures.given ∙ given_settled c.args.thread c.args.partition 0 59 c.args.self.now)

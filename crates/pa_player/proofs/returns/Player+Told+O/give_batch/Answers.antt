@@ -30,8 +30,8 @@ give-requires-clause-once g c =
     let named : map name_of c.as_slice.result.now ≡ names (map (numbered_at p.table) xs) = ap (map name_of) (c.as_slice.ensures.value ∙ e) ∙ titles_named p.table xs in
     subst (λ z. AllPairs ◌≢◌ z) (sym named) c.requires.can.out.1
 
-pub returns : goal.returns
-returns g c =
+pub returns-clause-gave : goal.returns-clause-gave
+returns-clause-gave g c =
     let p = c.args.self.now in
     let q = c.args.partition in
     let xs = slice_range (list_in p c.args.at) c.args.from c.args.to in

@@ -24,12 +24,12 @@ free_through-requires g c =
     let is = was_read p c.args.thread c.args.reg c.register.result (Ref c.in-Ref.place) c.register.ensures c.in-Ref.is in
     place_ready p (Do c.args.thread (ops.Free c.args.reg)) c.args.thread c.args.reg c.in-Ref.place c.requires (points_ref p c.args.thread c.args.reg c.in-Ref.place is)
 
-pub returns-in-Empty : goal.returns-in-Empty
-returns-in-Empty g c =
+pub returns-in-Empty-clause-played : goal.returns-in-Empty-clause-played
+returns-in-Empty-clause-played g c =
     free_nothing c.args.self.now c.args.thread c.args.reg (was_read c.args.self.now c.args.thread c.args.reg c.register.result Empty c.register.ensures c.in-Empty.is)
 
-pub returns-in-Own : goal.returns-in-Own
-returns-in-Own g c =
+pub returns-in-Own-clause-played : goal.returns-in-Own-clause-played
+returns-in-Own-clause-played g c =
     let p = c.args.self.now in
     let is = was_read p c.args.thread c.args.reg c.register.result (Own c.in-Own.place) c.register.ensures c.in-Own.is in
     both_ok c.free_owned.result (λ (a : Answer). a ≡ answers.Done (seen_at p.table c.in-Own.place))
@@ -37,15 +37,15 @@ returns-in-Own g c =
     c.free_owned.ensures.answer c.free_owned.ensures.frees
     (λ a says frees. free_plays p c.free_owned.new.self c.args.thread c.args.reg c.in-Own.place a is (free_ready p c.args.thread c.args.reg c.in-Own.place c.requires is) says frees)
 
-pub returns-in-Ref : goal.returns-in-Ref
-returns-in-Ref g c =
+pub returns-in-Ref-clause-played : goal.returns-in-Ref-clause-played
+returns-in-Ref-clause-played g c =
     free_looks c.args.self.now c.args.thread c.args.reg c.in-Ref.place c.free_through.result
     (was_read c.args.self.now c.args.thread c.args.reg c.register.result (Ref c.in-Ref.place) c.register.ensures c.in-Ref.is) c.free_through.ensures
 
-pub returns-in-Freed : goal.returns-in-Freed
-returns-in-Freed g c =
+pub returns-in-Freed-clause-played : goal.returns-in-Freed-clause-played
+returns-in-Freed-clause-played g c =
     free_again c.args.self.now c.args.thread c.args.reg (was_read c.args.self.now c.args.thread c.args.reg c.register.result Freed c.register.ensures c.in-Freed.is)
 
-pub returns-in-Cleared : goal.returns-in-Cleared
-returns-in-Cleared g c =
+pub returns-in-Cleared-clause-played : goal.returns-in-Cleared-clause-played
+returns-in-Cleared-clause-played g c =
     free_stale c.args.self.now c.args.thread c.args.reg (was_read c.args.self.now c.args.thread c.args.reg c.register.result Cleared c.register.ensures c.in-Cleared.is)

@@ -1,5 +1,5 @@
 use Rattle.std.proofs.Common.{◌≡◌, ◌<◌, [], ◌∷◌, ◌++◌, length, map, get_or, ℕ, ◌+◌, List, ap, sym, ◌∙◌, arith}
-use Rattle.std.proofs.lemmas.List.{length-map}
+use Rattle.std.proofs.lemmas.List.{length-map, set-get_or}
 use Rattle.pa_record.specs.declared.root.RootEntry.{RootEntry}
 use Rattle.pa_run_writer.specs.Lines.{OneJournal}
 use Rattle.pa_run_writer.proofs.Growing.{from_at, from_set, entries_at, entries_set, ok_then, err_then}
@@ -30,7 +30,14 @@ returns-clause-pushed c =
     entries_set js c.args.self.now i c.push.new.self (get_or c.args.self.now i [] ++ c.args.entry.now ∷ []) c.self.view_is
     (ap (λ (j : OneJournal). j.entries) is ∙ ap (λ (z : List RootEntry). z ++ c.args.entry.now ∷ []) had)) c.push.ensures.pushed
 
-pub returns-clause-lost : goal.returns-clause-lost
-returns-clause-lost c =
-    err_then _ _ c.push.result (λ (is : c.push.new.self ≡ record c.index_mut-lines.result.now { entries = [] }).
-    entries_set c.self.inside.of.items c.args.self.now c.args.partition c.push.new.self [] c.self.view_is (ap (λ (j : OneJournal). j.entries) is)) c.push.ensures.lost
+pub returns-clause-kept : goal.returns-clause-kept
+returns-clause-kept c =
+    let js = c.self.inside.of.items in
+    let now = c.args.self.now in
+    let i = c.args.partition in
+    let old = c.index_mut-lines.result.now in
+    let low : i < length js = low_in js now i c.self.view_is c.requires.partition in
+    let had : old.entries ≡ get_or now i [] =
+    ap (λ (j : OneJournal). j.entries) c.index_mut-lines.ensures.value ∙ sym (entries_at js i old low) ∙ ap (λ (z : List (List RootEntry)). get_or z i []) c.self.view_is in
+    err_then _ _ c.push.result (λ (is : c.push.new.self ≡ old).
+    entries_set js now i c.push.new.self (get_or now i []) c.self.view_is (ap (λ (j : OneJournal). j.entries) is ∙ had) ∙ set-get_or now i []) c.push.ensures.kept

@@ -3,9 +3,10 @@ use Rattle.std.specs.Prelude.{Contains, sum_by}
 use Rattle.pa_machine.specs.declared.title.Title.{Title}
 use Rattle.pa_layout.specs.Pages.{supers_for}
 use Rattle.pa_record.specs.declared.taken.SuperPage.{SuperPage}
+use Rattle.pa_record.proofs.Counted.{census_by}
 use Rattle.pa_shelf.specs.Counting.{sum_of_supers, no_sums, AreAdded}
 use Rattle.pa_shelf.specs.Shelves.{ShelfParts}
-use Rattle.pa_shelf.proofs.Counting.{pages_had, census_by, census_added}
+use Rattle.pa_shelf.proofs.Counting.{pages_had, census_added}
 use Rattle.pa_shelf.proofs.shelf.Shelf.census.Goals as goal
 
 pub sums_of-sums-requires-clause-pages : goal.sums_of-sums-requires-clause-pages

@@ -5,7 +5,7 @@ use Rattle.pa_shelf.specs.Moving.{Rewritten}
 use Rattle.pa_shelf.specs.Shelves.{ShowsRoot}
 use Rattle.pa_shelf.proofs.shelf.Shelf.purge.Given as goal
 
--- so many spans were decommitted
+-- this many spans were decommitted
 abbrev pub invariant-loop-done : goal.invariant-loop-done
 invariant-loop-done l = record {
   region : l.own.region ≡ l.initial.own.region;

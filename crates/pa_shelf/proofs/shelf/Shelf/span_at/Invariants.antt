@@ -4,7 +4,7 @@ use Rattle.pa_record.specs.Root.{Root}
 use Rattle.pa_shelf.specs.Shelves.{IsBackAt}
 use Rattle.pa_shelf.proofs.shelf.Shelf.span_at.Given as goal
 
--- so many pages back from the slot's own, and not before the first one of its span
+-- this many pages back from the slot's own, and not before the first one of its span
 abbrev pub invariant-loop-back : goal.invariant-loop-back
 invariant-loop-back l = record {
   seat : l.own ≡ l.initial.own;

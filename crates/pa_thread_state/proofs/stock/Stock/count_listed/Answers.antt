@@ -3,7 +3,7 @@ use Rattle.std.specs.Prelude.{map}
 use Rattle.std.proofs.lemmas.List.{get_or-map, length-map}
 use Rattle.pa_cache.specs.Chained.{list_in}
 use Rattle.pa_op_specs.specs.Stocks.{StockValue, titles_in}
-use Rattle.pa_thread_state.proofs.Popping.{list_at}
+use Rattle.pa_thread_state.proofs.Fronting.{cache_of}
 use Rattle.pa_thread_state.proofs.stock.Stock.count_listed.Goals as goal
 
 pub returns-clause-few : goal.returns-clause-few
@@ -13,7 +13,7 @@ returns-clause-few g c =
     let i : StockValue = record { thread = c.self.inside.thread; partitions = c.self.inside.partitions; view = v; registers = c.self.inside.registers; caches = map (list_in v) cs } in
     let within : place < length cs =
     let n = c.self.invariant.1.lists.count in let k = c.place_of-place.ensures.among in omega (arith, length-map cs (list_in v)) in
-    let at = list_at i p class place (list_in v x) c.self.invariant.1 c.requires c.place_of-place.ensures.small
+    let at = cache_of i p class place (list_in v x) c.self.invariant.1 c.requires c.place_of-place.ensures.small
     c.place_of-place.ensures.place (ap (list_in v) c.index.ensures ∙ sym (get_or-map (list_in v) cs place x (list_in v x) within)) in
     let len = c.len.ensures v in
     let long : length (list_in v x).titles ≡ length (titles_in i.caches p class) = ap length at.titles_are in

@@ -12,7 +12,7 @@ use Rattle.pa_op_specs.specs.Stocks.{StockValue, IsStock, titles_in}
 use Rattle.pa_op_specs.specs.Workers.{HasItsStake}
 use Rattle.pa_thread_state.specs.Giving.{GivesBatch, HandsBack, TakesBack}
 use Rattle.pa_op_specs.proofs.Stakes.{least_is}
-use Rattle.pa_thread_state.proofs.HandedBack.{left_view, taken_free, taken_seen, taken_thread, taken_budget, taken_stake, batch_done, back_stock}
+use Rattle.pa_thread_state.proofs.HandedBack.{taken_free, taken_seen, taken_thread, taken_budget, taken_stake, batch_done, back_stock}
 use Rattle.pa_thread_state.proofs.Refused.{refused}
 use Rattle.pa_thread_state.proofs.Staying.{stock_of, has_still, after_as, firsts_left}
 use Rattle.pa_thread_state.proofs.stock.Stock.give_batch.Goals as goal

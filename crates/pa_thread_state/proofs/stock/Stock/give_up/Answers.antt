@@ -5,7 +5,7 @@ use Rattle.pa_machine.specs.Titles.{poison}
 use Rattle.pa_region.proofs.PoisonedOwns.{poisoned_owns_unclean}
 use Rattle.pa_quarantine.specs.Filling.{poisoned}
 use Rattle.pa_rules.specs.declared.register.Register.TheVariants.{Own, Freed}
-use Rattle.pa_op_specs.specs.Stocks.{StockValue, IsStock, register_in}
+use Rattle.pa_op_specs.specs.Stocks.{StockValue, register_in}
 use Rattle.pa_thread_state.specs.Changes.{LetsGo}
 use Rattle.pa_op_specs.proofs.Stocks.{register_has}
 use Rattle.pa_thread_state.proofs.Freeing.{can_free, can_step, freed_stock, freed_view}

@@ -3,7 +3,7 @@ use Rattle.std.specs.Prelude.{slice_set}
 use Rattle.pa_machine.specs.declared.word.Step.TheVariants.{Reset}
 use Rattle.pa_region.specs.Moves.{after_count}
 use Rattle.pa_rules.specs.declared.register.Register.TheVariants.{Ref, Cleared}
-use Rattle.pa_op_specs.specs.Stocks.{StockValue, IsStock, register_in}
+use Rattle.pa_op_specs.specs.Stocks.{StockValue, register_in}
 use Rattle.pa_thread_state.specs.Changes.{LetsGo}
 use Rattle.pa_op_specs.proofs.Stocks.{register_has}
 use Rattle.pa_thread_state.proofs.Resetting.{can_reset, cleared_stock}

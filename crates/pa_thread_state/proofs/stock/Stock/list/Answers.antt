@@ -1,5 +1,5 @@
-use Rattle.std.proofs.Common.{◌≡◌, ◌<◌, ◌≤◌, ◌∷◌, ◌∙◌, length, get_or, sym, subst, ap, arith}
-use Rattle.std.specs.Prelude.{Contains, map, slice_set}
+use Rattle.std.proofs.Common.{◌≡◌, ◌<◌, ◌∷◌, ◌∙◌, length, sym, subst, ap, arith}
+use Rattle.std.specs.Prelude.{Contains, map}
 use Rattle.std.proofs.lemmas.List.{get_or-map, length-map}
 use Rattle.pa_buckets.specs.Bands.{limit_of}
 use Rattle.pa_region.specs.Aware.{IsAware}
@@ -8,7 +8,7 @@ use Rattle.pa_cache.specs.Caches.{CacheList, IsCache}
 use Rattle.pa_cache.specs.Chained.{HoldsList, list_in}
 use Rattle.pa_op_specs.specs.Stocks.{StockValue, IsStock, titles_in}
 use Rattle.pa_thread_state.specs.Changes.{CanList, put_in_front}
-use Rattle.pa_thread_state.proofs.Chained.{lists_in, relisted, stock_relinked, front_well, front_alone}
+use Rattle.pa_thread_state.proofs.Chained.{relisted, stock_relinked, front_well, front_alone}
 use Rattle.pa_thread_state.proofs.Fronting.{cache_at, fronted_stock}
 use Rattle.pa_thread_state.proofs.stock.Stock.list.Goals as goal
 

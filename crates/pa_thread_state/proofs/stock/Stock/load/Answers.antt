@@ -1,19 +1,17 @@
 use Rattle.std.proofs.Common.{◌≡◌, ◌<◌, ◌∙◌, length, sym, subst, ap, arith}
-use Rattle.std.specs.Prelude.{Contains, map}
+use Rattle.std.specs.Prelude.{map}
 use Rattle.std.proofs.lemmas.List.{get_or-map, length-map}
 use Rattle.std.proofs.lemmas.List.Elements.{All-contains}
-use Rattle.pa_machine.specs.declared.title.Title.{Title}
 use Rattle.pa_machine.specs.Titles.{IsWellFormed}
 use Rattle.pa_buckets.specs.Table.{slot_of}
 use Rattle.pa_region.specs.Aware.{IsAware}
-use Rattle.pa_region.specs.Shares.{byte_word_count}
 use Rattle.pa_link.specs.Chains.{Relinked}
 use Rattle.pa_cache.specs.Caches.{CacheList, IsCache}
 use Rattle.pa_cache.specs.Chained.{list_in}
 use Rattle.pa_op_specs.specs.Stocks.{StockValue, IsStock}
 use Rattle.pa_thread_state.specs.Allocating.{CanLoad, with_listed}
+use Rattle.pa_thread_state.proofs.Fronting.{cache_of}
 use Rattle.pa_thread_state.proofs.Chained.{relisted, stock_relinked}
-use Rattle.pa_thread_state.proofs.Popping.{list_at}
 use Rattle.pa_thread_state.proofs.Receiving.{loaded_stock, loads_free}
 use Rattle.pa_thread_state.proofs.stock.Stock.load.Goals as goal
 
@@ -29,7 +27,7 @@ load-requires-clause-empty g c =
     let v = c.self.inside.seat.view in let cs = c.self.inside.caches.items in let x = c.index_mut-cache.result.now in
     let within : c.place_of-place.result < length cs =
     let n = c.self.invariant.1.lists.count in let k = c.place_of-place.ensures.among in omega (arith, length-map cs (list_in v)) in
-    let at = list_at i c.args.partition c.args.class c.place_of-place.result (list_in v x) c.self.invariant.1 can.partition
+    let at = cache_of i c.args.partition c.args.class c.place_of-place.result (list_in v x) c.self.invariant.1 can.partition
     c.place_of-place.ensures.small c.place_of-place.ensures.place
     (ap (list_in v) c.index_mut-cache.ensures.value ∙ sym (get_or-map (list_in v) cs c.place_of-place.result x (list_in v x) within)) in
     at.titles_are ∙ can.empty
@@ -46,7 +44,7 @@ load-requires-clause-size g c =
     let v = c.self.inside.seat.view in let cs = c.self.inside.caches.items in let x = c.index_mut-cache.result.now in
     let within : c.place_of-place.result < length cs =
     let n = c.self.invariant.1.lists.count in let k = c.place_of-place.ensures.among in omega (arith, length-map cs (list_in v)) in
-    let at = list_at i c.args.partition c.args.class c.place_of-place.result (list_in v x) c.self.invariant.1 can.partition
+    let at = cache_of i c.args.partition c.args.class c.place_of-place.result (list_in v x) c.self.invariant.1 can.partition
     c.place_of-place.ensures.small c.place_of-place.ensures.place
     (ap (list_in v) c.index_mut-cache.ensures.value ∙ sym (get_or-map (list_in v) cs c.place_of-place.result x (list_in v x) within)) in
     λ k d less. can.sized k d less ∙ ap slot_of (sym at.class_is)
@@ -61,7 +59,7 @@ invariant_of-self g c =
     let aware = subst (λ (z : StockValue). IsAware z.view) (sym c.self.view_is) c.kept.ensures.aware in
     let long : length cs ≡ 236 = sym (length-map cs (list_in v)) ∙ c.self.invariant.1.lists.count in
     let within : place < length cs = let k = c.place_of-place.ensures.among in omega arith in
-    let at = list_at i p class place (list_in v x) c.self.invariant.1 can.partition c.place_of-place.ensures.small
+    let at = cache_of i p class place (list_in v x) c.self.invariant.1 can.partition c.place_of-place.ensures.small
     c.place_of-place.ensures.place (ap (list_in v) c.index_mut-cache.ensures.value ∙ sym (get_or-map (list_in v) cs place x (list_in v x) within)) in
     let both = relisted c.other_lists_stay.ensures v w cs p class place y ts long c.place_of-place.ensures.place aware c.self.invariant.2
     c.load.ensures.list (c.load.ensures.class ∙ at.class_is) c.load.ensures.titles c.load.ensures.relinked c.load.ensures.beside
@@ -85,7 +83,7 @@ returns-clause-loaded g c =
     let aware = subst (λ (z : StockValue). IsAware z.view) (sym c.self.view_is) c.kept.ensures.aware in
     let long : length cs ≡ 236 = sym (length-map cs (list_in v)) ∙ c.self.invariant.1.lists.count in
     let within : place < length cs = let k = c.place_of-place.ensures.among in omega arith in
-    let at = list_at i p class place (list_in v x) c.self.invariant.1 can.partition c.place_of-place.ensures.small
+    let at = cache_of i p class place (list_in v x) c.self.invariant.1 can.partition c.place_of-place.ensures.small
     c.place_of-place.ensures.place (ap (list_in v) c.index_mut-cache.ensures.value ∙ sym (get_or-map (list_in v) cs place x (list_in v x) within)) in
     let both = relisted c.other_lists_stay.ensures v w cs p class place y ts long c.place_of-place.ensures.place aware c.self.invariant.2
     c.load.ensures.list (c.load.ensures.class ∙ at.class_is) c.load.ensures.titles c.load.ensures.relinked c.load.ensures.beside

@@ -3,7 +3,7 @@ use Rattle.std.specs.Prelude.{slice_set}
 use Rattle.pa_machine.specs.declared.word.Step.TheVariants.{Copy}
 use Rattle.pa_region.specs.Moves.{after_count}
 use Rattle.pa_rules.specs.declared.register.Register.TheVariants.{Ref}
-use Rattle.pa_op_specs.specs.Stocks.{StockValue, IsStock, HasNoHandle, register_in}
+use Rattle.pa_op_specs.specs.Stocks.{StockValue, HasNoHandle, register_in}
 use Rattle.pa_thread_state.specs.Changes.{PointsTo}
 use Rattle.pa_thread_state.proofs.Copying.{can_copy, copied_stock}
 use Rattle.pa_thread_state.proofs.Ready.{inside, inside_budget}

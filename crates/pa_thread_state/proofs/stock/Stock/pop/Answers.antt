@@ -7,7 +7,8 @@ use Rattle.pa_region.specs.Shares.{Share}
 use Rattle.pa_cache.specs.Chained.{HoldsList, list_in}
 use Rattle.pa_op_specs.specs.Stocks.{StockValue, IsStock}
 use Rattle.pa_thread_state.specs.Allocating.{Pops}
-use Rattle.pa_thread_state.proofs.Popping.{list_at, popped_stock, pops}
+use Rattle.pa_thread_state.proofs.Fronting.{cache_of}
+use Rattle.pa_thread_state.proofs.Popping.{popped_stock, pops}
 use Rattle.pa_thread_state.proofs.stock.Stock.pop.Goals as goal
 
 pub pop-requires-clause-list : goal.pop-requires-clause-list
@@ -24,7 +25,7 @@ invariant_of-self g c =
     let i : StockValue = record { thread = c.self.inside.thread; partitions = c.self.inside.partitions; view = v; registers = c.self.inside.registers; caches = map (list_in v) cs } in
     let within : place < length cs =
     let n = c.self.invariant.1.lists.count in let k = c.place_of-place.ensures.among in omega (arith, length-map cs (list_in v)) in
-    let at = list_at i p class place (list_in v x) c.self.invariant.1 c.requires.partition c.place_of-place.ensures.small
+    let at = cache_of i p class place (list_in v x) c.self.invariant.1 c.requires.partition c.place_of-place.ensures.small
     c.place_of-place.ensures.place (ap (list_in v) c.index_mut-cache.ensures.value ∙ sym (get_or-map (list_in v) cs place x (list_in v x) within)) in
     let now = subst (λ (s : Share). HoldsList s.view y) c.pop.ensures.seat c.pop.ensures.list in
     let front = subst (λ (s : Share). (list_in v x).titles ≡ option_to_list c.pop.result ++ (list_in s.view y).titles) c.pop.ensures.seat c.pop.ensures.front in (
@@ -44,7 +45,7 @@ returns g c =
     let i : StockValue = record { thread = c.self.inside.thread; partitions = c.self.inside.partitions; view = v; registers = c.self.inside.registers; caches = map (list_in v) cs } in
     let within : place < length cs =
     let n = c.self.invariant.1.lists.count in let k = c.place_of-place.ensures.among in omega (arith, length-map cs (list_in v)) in
-    let at = list_at i p class place (list_in v x) c.self.invariant.1 c.requires.partition c.place_of-place.ensures.small
+    let at = cache_of i p class place (list_in v x) c.self.invariant.1 c.requires.partition c.place_of-place.ensures.small
     c.place_of-place.ensures.place (ap (list_in v) c.index_mut-cache.ensures.value ∙ sym (get_or-map (list_in v) cs place x (list_in v x) within)) in
     let front = subst (λ (s : Share). (list_in v x).titles ≡ option_to_list c.pop.result ++ (list_in s.view y).titles) c.pop.ensures.seat c.pop.ensures.front in
     subst (λ (z : StockValue). Pops p class c.pop.result z (record i { view = c.pop.new.seat.view; caches = map (list_in c.pop.new.seat.view) (slice_set cs place y) }))

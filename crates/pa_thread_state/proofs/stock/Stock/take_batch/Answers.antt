@@ -7,9 +7,9 @@ use Rattle.pa_cache.proofs.Middle.{outside_short}
 use Rattle.pa_cache.specs.Chained.{HoldsList, list_in}
 use Rattle.pa_op_specs.specs.Stocks.{StockValue, IsStock, titles_in}
 use Rattle.pa_thread_state.specs.Allocating.{BecomesList, with_listed}
+use Rattle.pa_thread_state.proofs.Fronting.{cache_of}
 use Rattle.pa_thread_state.proofs.Chained.{relisted, stock_relinked}
 use Rattle.pa_thread_state.proofs.Lists.{in_rest}
-use Rattle.pa_thread_state.proofs.Popping.{list_at}
 use Rattle.pa_thread_state.proofs.Relisting.{relisted_stock}
 use Rattle.pa_thread_state.proofs.stock.Stock.take_batch.Goals as goal
 
@@ -30,7 +30,7 @@ invariant_of-self g c =
     let aware = subst (λ (z : StockValue). IsAware z.view) (sym c.self.view_is) c.kept.ensures.aware in
     let long : length cs ≡ 236 = sym (length-map cs (list_in v)) ∙ is.lists.count in
     let within : place < length cs = let k = c.place_of-place.ensures.among in omega arith in
-    let at = list_at i p class place (list_in v x) is c.requires.partition c.place_of-place.ensures.small
+    let at = cache_of i p class place (list_in v x) is c.requires.partition c.place_of-place.ensures.small
     c.place_of-place.ensures.place (ap (list_in v) c.index_mut-cache.ensures.value ∙ sym (get_or-map (list_in v) cs place x (list_in v x) within)) in
     let ts = titles_in i.caches p class in
     let titles = c.spill.ensures.rest ∙ ap (rest_after keep) at.titles_are in
@@ -64,7 +64,7 @@ returns-clause-titles g c =
     let aware = subst (λ (z : StockValue). IsAware z.view) (sym c.self.view_is) c.kept.ensures.aware in
     let long : length cs ≡ 236 = sym (length-map cs (list_in v)) ∙ is.lists.count in
     let within : place < length cs = let k = c.place_of-place.ensures.among in omega arith in
-    let at = list_at i p class place (list_in v x) is c.requires.partition c.place_of-place.ensures.small
+    let at = cache_of i p class place (list_in v x) is c.requires.partition c.place_of-place.ensures.small
     c.place_of-place.ensures.place (ap (list_in v) c.index_mut-cache.ensures.value ∙ sym (get_or-map (list_in v) cs place x (list_in v x) within)) in
     c.spill.ensures.batch ∙ (ap (batch_after keep) at.titles_are
     ∙ ap (λ (z : StockValue). batch_after keep (titles_in z.caches p class)) c.self.view_is)
@@ -79,7 +79,7 @@ returns-clause-rest g c =
     let aware = subst (λ (z : StockValue). IsAware z.view) (sym c.self.view_is) c.kept.ensures.aware in
     let long : length cs ≡ 236 = sym (length-map cs (list_in v)) ∙ is.lists.count in
     let within : place < length cs = let k = c.place_of-place.ensures.among in omega arith in
-    let at = list_at i p class place (list_in v x) is c.requires.partition c.place_of-place.ensures.small
+    let at = cache_of i p class place (list_in v x) is c.requires.partition c.place_of-place.ensures.small
     c.place_of-place.ensures.place (ap (list_in v) c.index_mut-cache.ensures.value ∙ sym (get_or-map (list_in v) cs place x (list_in v x) within)) in
     let ts = titles_in i.caches p class in
     let titles = c.spill.ensures.rest ∙ ap (rest_after keep) at.titles_are in

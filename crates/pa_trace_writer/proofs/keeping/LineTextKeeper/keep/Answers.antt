@@ -2,7 +2,6 @@ use Rattle.std.proofs.Common.{List, sym, subst}
 use Rattle.pa_trace.specs.declared.script.Line.{Line}
 use Rattle.pa_trace.specs.Grammar.{IsTraceText}
 use Rattle.pa_trace.specs.Unread.{trace_with}
-use Rattle.pa_trace_writer.specs.Lines.{line_text}
 use Rattle.pa_trace_writer.proofs.Growing.{line_more}
 use Rattle.pa_trace_writer.proofs.keeping.LineTextKeeper.keep.Goals as goal
 
@@ -11,4 +10,4 @@ invariant_of-self c =
     let s = c.self.inside in
     let l = c.args.line in
     subst (λ (ls : List Line). IsTraceText (trace_with s.head ls) c.push_line.new.out) (sym c.and-self-inside.ensures)
-    (line_more s.head s.past.items l s.text (line_text l) c.push_line.new.out c.self.invariant c.line_is.ensures c.in-Ok.ensures.pushed)
+    (line_more s.head s.past.items l s.text c.push_line.new.out c.self.invariant c.in-Ok.ensures.pushed)

@@ -1,5 +1,0 @@
-use Rattle.pa_examples.proofs.order.Unordered.{gone_poison_has_none}
-use Rattle.pa_examples.proofs.laws.poison_then_content_has_no_timeline.Goals as goal
-
-pub returns : goal.returns
-returns c = gone_poison_has_none

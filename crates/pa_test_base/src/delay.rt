@@ -1,0 +1,53 @@
+use pa_buckets::Class;
+use pa_delay::{Delay, Freed};
+use pa_machine::SlotName;
+use pa_record::Numbered;
+use std::test::Fail;
+
+fn freed(start: u32, class: Class) -> Freed {
+    let slot = SlotName { start, born: 0 };
+    Freed {
+        slot: Numbered { slot, number: 2 },
+        class,
+    }
+}
+
+fn start_of(front: Option<Freed>) -> Option<u32> {
+    front.map(|s| s.slot.slot.start)
+}
+
+// At the bound all stay. One slot more, and slots leave from the front until at most the bound is left; a slot that is larger
+// than the bound empties the queue, itself included.
+#[test]
+fn slots_leave_past_the_bound(rt: HostRuntime) -> Result<(), Fail> {
+    let small = Class::of(0).unwrap();
+    let large = Class::of(1).unwrap();
+    let mut queue = Delay::new(rt.alloc(), 32, 4)?;
+    assert!(rt; queue.evict() == None);
+    queue.push(freed(0x4000, small));
+    queue.push(freed(0x4010, small));
+    assert_eq!(rt; queue.bytes(), 32);
+    assert!(rt; queue.evict() == None);
+    queue.push(freed(0x8000, large));
+    assert_eq!(rt; queue.bytes(), 64);
+    assert_eq!(rt; start_of(queue.evict()), Some(0x4000));
+    assert_eq!(rt; start_of(queue.evict()), Some(0x4010));
+    assert!(rt; queue.evict() == None);
+    assert_eq!(rt; queue.bytes(), 32);
+    assert_eq!(rt; start_of(queue.drain()), Some(0x8000));
+    assert!(rt; queue.drain() == None);
+    Ok(())
+}
+
+// With no bytes each slot leaves at once.
+#[test]
+fn nothing_waits_within_no_bytes(rt: HostRuntime) -> Result<(), Fail> {
+    let mut queue = Delay::new(rt.alloc(), 0, 1)?;
+    assert!(rt; !queue.is_full());
+    queue.push(freed(0x4000, Class::of(2).unwrap()));
+    assert!(rt; queue.is_full());
+    assert_eq!(rt; start_of(queue.evict()), Some(0x4000));
+    assert!(rt; queue.evict() == None);
+    assert_eq!(rt; queue.bytes(), 0);
+    Ok(())
+}

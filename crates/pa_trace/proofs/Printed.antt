@@ -1,0 +1,77 @@
+-- What is printed of a head and of a line is their text.
+use Rattle.std.proofs.Common.{◌≡◌, ℕ, ◌<◌, ◌^◌, List, [], ◌∷◌, ◌++◌, codes, refl, append_assoc, sym, ◌∙◌, ap, arith}
+use Rattle.std.specs.Fmt.{decimal}
+use Rattle.pa_text.specs.Numeral.{IsNumeral}
+use Rattle.pa_text.specs.Hex.{hex}
+use Rattle.pa_text.proofs.Numerals.{decimal_numeral}
+use Rattle.pa_trace.specs.declared.line.Head.{Head}
+use Rattle.pa_trace.specs.declared.script.Line.{Line}
+use Rattle.pa_trace.specs.declared.script.Line.TheVariants.{Phase, Do}
+use Rattle.pa_trace.specs.declared.script.Op.{Op}
+use Rattle.pa_trace.specs.declared.script.Op.TheVariants.{Alloc, Copy, Reset, Free, Write, Read, Swap, Purge}
+use Rattle.pa_trace.specs.Faults.{IsBodyLine, IsHeadLine}
+use Rattle.pa_trace.specs.Grammar.{IsOpText}
+use Rattle.pa_trace.specs.Printed.{word_then_number, head_text, line_text, op_text, OpInBits, LineInBits}
+
+-- the op without the space before it
+op_spelled : (op : Op) → OpInBits op → (o : List ℕ) × IsOpText op o × (op_text op ≡ codes " " ++ o)
+op_spelled (Alloc reg partition size) h = (
+  codes "A r" ++ decimal reg ++ codes " p" ++ decimal partition ++ codes " " ++ decimal size,
+  (decimal reg, decimal partition, decimal size, decimal_numeral reg (omega (arith, h.0)), decimal_numeral partition (omega (arith, h.1)), decimal_numeral size (omega (arith, h.2)), refl),
+  simp append_assoc,
+)
+op_spelled (Copy from to) h = (
+  codes "C r" ++ decimal from ++ codes " r" ++ decimal to,
+  (decimal from, decimal to, decimal_numeral from (omega (arith, h.0)), decimal_numeral to (omega (arith, h.1)), refl),
+  simp append_assoc,
+)
+op_spelled (Reset reg) h = (codes "R r" ++ decimal reg, (decimal reg, decimal_numeral reg (omega (arith, h)), refl), refl)
+op_spelled (Free reg) h = (codes "F r" ++ decimal reg, (decimal reg, decimal_numeral reg (omega (arith, h)), refl), refl)
+op_spelled (Write reg value) h =
+    (codes "W r" ++ decimal reg ++ codes " " ++ hex 16 value, (decimal reg, decimal_numeral reg (omega (arith, h.0)), omega (arith, h.1), refl), simp append_assoc)
+op_spelled (Read reg place) h = (
+  codes "D r" ++ decimal reg ++ codes " " ++ decimal place,
+  (decimal reg, decimal place, decimal_numeral reg (omega (arith, h.0)), decimal_numeral place (omega (arith, h.1)), refl),
+  simp append_assoc,
+)
+op_spelled (Swap cell reg) h = (
+  codes "X c" ++ decimal cell ++ codes " r" ++ decimal reg,
+  (decimal cell, decimal reg, decimal_numeral cell (omega (arith, h.0)), decimal_numeral reg (omega (arith, h.1)), refl),
+  simp append_assoc,
+)
+op_spelled Purge h = (codes "P", refl, refl)
+
+pub line_spelled : (line : Line) → LineInBits line → IsBodyLine line (line_text line)
+line_spelled Phase h = (codes "phase", refl, refl)
+line_spelled (Do thread op) h =
+    let (o, is, at) = op_spelled op h.1 in (
+      decimal thread ++ codes " " ++ o,
+      (decimal thread, o, decimal_numeral thread (omega (arith, h.0)), is, refl),
+      ap (λ (x : List ℕ). decimal thread ++ x ++ 10 ∷ []) at ∙ simp append_assoc,
+    )
+
+three : (v a w b u d n : List ℕ) → (v ++ a) ++ ((w ++ b) ++ ((u ++ d) ++ n)) ≡ (v ++ a ++ w ++ b ++ u ++ d) ++ n
+three v a w b u d n = simp append_assoc
+
+pub head_spelled : (head : Head) → head.region < 4294967296 → head.partitions < 4294967296 → head.threads < 4294967296 → IsHeadLine head.region head.partitions head.threads (head_text head)
+head_spelled head r p t =
+    let a : List ℕ = decimal head.region in
+    let b : List ℕ = decimal head.partitions in
+    let d : List ℕ = decimal head.threads in (
+      codes "trace 1 region " ++ a ++ codes " partitions " ++ b ++ codes " threads " ++ d,
+      (a, b, d, decimal_numeral head.region (omega (arith, r)), decimal_numeral head.partitions (omega (arith, p)), decimal_numeral head.threads (omega (arith, t)), refl),
+      three (codes "trace 1 region ") a (codes " partitions ") b (codes " threads ") d (10 ∷ []),
+    )
+
+-- what is printed part by part
+four : (old a b c d x y z w : List ℕ) → a ≡ old ++ x → b ≡ a ++ y → c ≡ b ++ z → d ≡ c ++ w → d ≡ old ++ (x ++ (y ++ (z ++ w)))
+four old a b c d x y z w e f g h =
+    h ∙ ap (λ (t : List ℕ). t ++ w) (g ∙ ap (λ (t : List ℕ). t ++ z) (f ∙ ap (λ (t : List ℕ). t ++ y) e)) ∙ simp append_assoc
+
+pub head_joined : (head : Head) (old a b c d : List ℕ) → a ≡ old ++ word_then_number (codes "trace 1 region ") head.region → b ≡ a ++ word_then_number (codes " partitions ") head.partitions
+    → c ≡ b ++ word_then_number (codes " threads ") head.threads → d ≡ c ++ 10 ∷ [] → d ≡ old ++ head_text head
+head_joined head old a b c d e f g h =
+    let x : List ℕ = word_then_number (codes "trace 1 region ") head.region in
+    let y : List ℕ = word_then_number (codes " partitions ") head.partitions in
+    let z : List ℕ = word_then_number (codes " threads ") head.threads in
+    four old a b c d x y z (10 ∷ []) e f g h

@@ -1,6 +1,0 @@
-use Rattle.std.proofs.Common.{arith}
-use Rattle.pa_trace_writer.proofs.Spelled.{head_spelled}
-use Rattle.pa_trace_writer.proofs.printing.head_is.Goals as goal
-
-pub returns : goal.returns
-returns c = head_spelled c.args.head (omega arith) (omega arith) (omega arith)
