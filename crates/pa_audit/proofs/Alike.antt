@@ -31,7 +31,7 @@ same_told a b same =
     ∙ ap (λ cs. told_of a.entries.items a.roots.items a.pool.items cs b.report.items) same.cells
     ∙ ap (λ ls. told_of a.entries.items a.roots.items a.pool.items a.cells.items ls) same.report
 
--- and so are the lines of the text
+-- the line of a place in the text of a run with these lists
 abbrev line_of : List Entry → List (List RootEntry) → List PoolEntry → List (List CellEntry) → List ReportLine → Place → ℕ
 line_of es rs ps cs ls (places.Record i) = 2 + i
 line_of es rs ps cs ls (places.Root p j) = 2 + length es + sum_by length (take p rs) + j

@@ -26,7 +26,7 @@ list_there xs p j less = elim (cases_lt p (length xs)) [
   | inr past ↦ let none = ap length (get_or_past xs p [] past) in absurd (omega (arith, none, less))
 ]
 
--- all before it, and it, are within them
+-- the members before a member of one of the lists are less than all members of the lists
 pub within_all : {A : Type 0} (xs : List (List A)) (p j : ℕ) → j < length (get_or xs p []) → sum_by length (take p xs) + j < sum_by length xs
 within_all xs p j less = let most = sum_by_more_le length xs p [] (list_there xs p j less) in omega (arith, most, less)
 

@@ -14,7 +14,7 @@ use Rattle.pa_audit_report.specs.Given.{AreRecordsOf}
 use Rattle.pa_audit_report.specs.Known.{KnowsCensuses, KnowsEnds, KnowsLists}
 use Rattle.pa_audit_report.specs.declared.known.Known.{Known}
 
--- nothing: the clause holds; a line: it is the first at which it fails
+-- The clause holds if no line is found, and else fails first at this line.
 abbrev pub TellsLine : Clause → Trace → Run → Option ℕ → Type 0
 TellsLine c t r None = Holds c t r
 TellsLine c t r (Some n) = FailsAt c t r n
@@ -27,8 +27,8 @@ HasLines32 r = report_at r + length r.report.items < 2 ^ 32 - 1
 abbrev pub HoldBefore : Clause → Trace → Run → Type 0
 HoldBefore c t r = (d : Clause) → turn d < turn c → Holds d t r
 
--- What the test of a clause is given: a trace within its limits; a run that has a text, whose lines have numbers of 32 bits; the
--- run's records with the ops of the trace, few and in the order of their lines; and that the clauses before this one hold.
+-- What the test of a clause has: a trace within its limits, a run that has a text with line numbers of 32 bits, and the run's records
+-- with the ops of the trace, which are few and in the order of their lines. The clauses before this one hold.
 pub record CanBeAudited (c : Clause) (t : Trace) (r : Run) (ps : List Played) : Type 0 where
   pub limits : IsWithinLimits t
   pub printable : IsPrintable r
@@ -38,8 +38,8 @@ pub record CanBeAudited (c : Clause) (t : Trace) (r : Run) (ps : List Played) : 
   pub rising : RiseByLine ps
   pub before : HoldBefore c t r
 
--- What is known for the report before the clause of that turn is tested: where each phase ends; after the clause of the roots what these
--- have, and after that of the caches what the lists have.
+-- What is known for the report before the clause of that turn is tested: the index at which each phase ends, what the roots have once
+-- their clause was tested, and what the lists have once that of the caches was.
 pub record KnowsBefore (n : ℕ) (t : Trace) (r : Run) (ps : List Played) (k : Known) : Type 0 where
   pub ends : KnowsEnds t ps k
   pub censuses : turn clauses.Roots < n → KnowsCensuses t r ps k

@@ -6,7 +6,7 @@ use Rattle.pa_rules.specs.declared.verdict.Place.{Place}
 use Rattle.pa_rules.specs.declared.verdict.Place.TheVariants as places
 use Rattle.pa_rules.specs.RecordDemands.{IsAbove}
 
--- the run's text has the place; after the report's lines comes its end
+-- the run's text has the place, and the end of the report counts as a line of it
 abbrev pub IsThere : Run → Place → Type 0
 IsThere r (places.Record i) = i < length r.entries.items
 IsThere r (places.Root p j) = j < length (journal_of r p)
@@ -42,7 +42,7 @@ Precedes (places.Report i) (places.Pool j) = ⊥
 Precedes (places.Report i) (places.Cell p j) = ⊥
 Precedes (places.Report i) (places.Report j) = i < j
 
--- nothing: each place meets its demand; a place: it doesn't, and each above it does
+-- Nothing is found if each place meets what is required of it, and else the first in the text that doesn't.
 abbrev pub TellsPlace : (Place → Type 0) → Option Place → Type 0
 TellsPlace Meets None = (place : Place) → Meets place
 TellsPlace Meets (Some place) = (Meets place → ⊥) × ((other : Place) → Precedes other place → Meets other)

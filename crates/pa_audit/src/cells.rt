@@ -10,8 +10,8 @@ ghost use Rattle.pa_audit.specs.Placed.{TellsPlace};
 use crate::places::line_where;
 use pa_audit_records::{Salt, exchanges_meet, swaps_meet};
 use pa_dense::DenseRun;
-use pa_machine::OutOfMemory;
 use pa_rules::{Place, Played};
+use pa_slot::OutOfMemory;
 use pa_trace::Trace;
 use std::alloc::Global;
 

@@ -15,9 +15,9 @@ use crate::report::report_fails;
 use pa_audit_records::{ByKey, Salt, phases_in, record_ends, records_of};
 use pa_audit_report::Known;
 use pa_dense::DenseRun;
-use pa_machine::OutOfMemory;
 use pa_record::Run;
 use pa_rules::{Clause, Played, Verdict};
+use pa_slot::OutOfMemory;
 use pa_trace::Trace;
 use pa_verdict::{legal_is, titles_never_fail};
 use std::alloc::Global;
@@ -37,7 +37,7 @@ pub fn audit(alloc: Global, trace: &Trace, run: &Run) -> Result<Verdict, OutOfMe
     audit_dense(alloc, trace, &dense)
 }
 
-/// The same verdict, on a run whose journals are kept densely.
+/// The verdict on a run of a trace, as `audit` returns it, for a run whose journals are kept densely.
 pub fn audit_dense(alloc: Global, trace: &Trace, run: &DenseRun) -> Result<Verdict, OutOfMemory>
     requires limits { IsWithinLimits trace.now }
     requires printable { IsPrintable run.now }

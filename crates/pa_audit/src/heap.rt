@@ -1,4 +1,4 @@
-ghost use Rattle.std.specs.Prelude.{◌≡◌, IfOk, None, OnErr};
+ghost use Rattle.std.specs.Prelude.{◌≡◌, ℕ, IfOk, None, OnErr};
 ghost use Rattle.std.specs.Option.{option_map};
 ghost use Rattle.pa_record.specs.RunText.{journal_of};
 ghost use Rattle.pa_rules.specs.declared.verdict.Clause.TheVariants as clauses;
@@ -16,8 +16,8 @@ use pa_audit_heap::{Censuses, journals_meet, pool_meets, refusals_meet};
 use pa_audit_records::phases_in;
 use pa_audit_report::Known;
 use pa_dense::DenseRun;
-use pa_machine::OutOfMemory;
 use pa_rules::{Place, Played};
+use pa_slot::OutOfMemory;
 use pa_trace::Trace;
 use std::alloc::Global;
 
@@ -47,7 +47,8 @@ fn pool_place(at: Option<u32>) -> Option<Place>
 }
 
 /// The first line at which a journal isn't right: a record's that was refused and names no Full of its line, or an entry's. If there is
-/// none, it is known what each root has at the end of each phase. If memory runs out, what was known stays.
+/// none, it is known what each root has at the end of each phase. It needs memory only if no record fails; if that runs out, what was
+/// known stays.
 pub fn roots_fail(
     alloc: Global,
     trace: &Trace,
@@ -60,6 +61,8 @@ pub fn roots_fail(
     ensures censuses { IfOk result (λ line. line ≡ None → KnowsCensuses trace.now run.now records.now known.new) }
     ensures ends { known.new.ends.items ≡ known.old.ends.items }
     ensures same { OnErr result (known.new ≡ known.old) }
+    ensures asks { OnErr result ((i : ℕ) →
+        RootsDemand trace.now.partitions records.now run.now.pool.items (journal_of run.now) (places.Record i)) }
 {
     let place = first_place(alloc, trace, run, records, &mut known.censuses)?;
     Ok(line_where(run, place))
@@ -79,6 +82,8 @@ fn first_place(
     ensures censuses { IfOk result (λ place. place ≡ None → HaveAllCensuses trace.now.partitions (phases_in trace.now.lines) records.now
         run.now.pool.items (journal_of run.now) censuses.new.items) }
     ensures same { OnErr result (censuses.new ≡ censuses.old) }
+    ensures asks { OnErr result ((i : ℕ) →
+        RootsDemand trace.now.partitions records.now run.now.pool.items (journal_of run.now) (places.Record i)) }
 {
     match refusals_meet(records, run.roots()) {
         Some(at) => Ok(Some(Place::Record(at))),

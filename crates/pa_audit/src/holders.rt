@@ -9,8 +9,8 @@ use pa_audit_holders::{Books, caches_meet, holders_meet, homes_of};
 use pa_audit_records::Salt;
 use pa_audit_report::Known;
 use pa_dense::DenseRun;
-use pa_machine::OutOfMemory;
 use pa_rules::Played;
+use pa_slot::OutOfMemory;
 use pa_trace::Trace;
 use std::alloc::Global;
 

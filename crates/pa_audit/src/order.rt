@@ -6,8 +6,8 @@ use crate::records::record_line;
 use pa_audit_order::{contents_meet, seen_meets};
 use pa_audit_records::Salt;
 use pa_dense::DenseRun;
-use pa_machine::OutOfMemory;
 use pa_rules::Played;
+use pa_slot::OutOfMemory;
 use pa_trace::Trace;
 use std::alloc::Global;
 

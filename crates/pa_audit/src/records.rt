@@ -6,8 +6,8 @@ ghost use Rattle.pa_audit.specs.Lined.{CanBeAudited, HasLines32, TellsLine};
 
 use pa_audit_records::{Salt, lines_meet, records_are_within, registers_meet, slots_meet};
 use pa_dense::DenseRun;
-use pa_machine::OutOfMemory;
 use pa_rules::Played;
+use pa_slot::OutOfMemory;
 use pa_trace::Trace;
 use std::alloc::Global;
 

@@ -8,13 +8,12 @@ ghost use Rattle.pa_audit.specs.Lined.{CanBeAudited, KnowsBefore, TellsLine};
 use crate::places::line_where;
 use pa_audit_report::{Known, report_meets};
 use pa_dense::DenseRun;
-use pa_machine::OutOfMemory;
 use pa_rules::{Place, Played};
+use pa_slot::OutOfMemory;
 use pa_trace::Trace;
 use std::alloc::Global;
 
-/// The first line of the report that isn't the one due there; after the last one, the line that ends the run, if one is
-/// missing.
+/// The first line of the report that isn't the one due there, or the line that ends the run if one is missing after the last.
 pub fn report_fails(
     alloc: Global,
     trace: &Trace,

@@ -103,7 +103,7 @@ not_rises supers pools roots p i e r least (Some b) h asks low rises = elim h.re
       low (omega arith)
 ]
 
--- an entry that meets its clause, as the walk over its journal tells it
+-- an entry meets its clause if it fits
 pub meets_here : (partitions : ℕ) (ps : List Played) (pools : List PoolEntry) (es : List RootEntry) (p j : ℕ) (e : RootEntry) → slice_get es j ≡ Some e → EntryFits partitions ps pools (λ q. es) p j e
     → RootsDemand partitions ps pools (λ q. es) (places.Root p j)
 meets_here partitions ps pools es p j e at fits d at' = subst (EntryFits partitions ps pools (λ q. es) p j) (one_at es j e d at at') fits

@@ -26,7 +26,7 @@ above_cases p i q n (inr (same, less)) = elim (cases_lt i n) [
   | inr more ↦ inr (same, omega arith)
 ]
 
--- the same entries name it
+-- a naming stays if the same entries name the entry of the pool
 pub naming_same : (roots : Journals) (q n r m j : ℕ) (naming : Naming) → ((p i : ℕ) → NamesAbove roots q n p i j → NamesAbove roots r m p i j)
     → ((p i : ℕ) → NamesAbove roots r m p i j → NamesAbove roots q n p i j) → IsNaming roots q n j naming → IsNaming roots r m j naming
 naming_same roots q n r m j Nobody f g h = λ p i names. h p i (g p i names)
@@ -94,7 +94,7 @@ naming_next roots q n j naming past h = naming_same roots q n (q + 1) 0 j naming
       names.1,
     )) h
 
--- so for all of the pool's entries
+-- an entry that names none of the pool's entries leaves all namings as they are
 pub namings_other : (roots : Journals) (q n size : ℕ) (f : RootEntry) (namings : List Naming) → IsEntry roots q n f → ((j : ℕ) → j < size → asked_by f.act ≡ Some j → ⊥)
     → AreNamings roots q n size namings → AreNamings roots q (n + 1) size namings
 namings_other roots q n size f namings is other h = record {
@@ -102,6 +102,7 @@ namings_other roots q n size f namings is other h = record {
   each = λ j within. naming_other roots q n j f (get_or namings j Nobody) is (other j within) (h.each j within);
 }
 
+-- an entry that names one of the pool's entries changes the naming of that one
 pub namings_more : (roots : Journals) (q n size j : ℕ) (f : RootEntry) (namings : List Naming) → IsEntry roots q n f → asked_by f.act ≡ Some j
     → AreNamings roots q n size namings → AreNamings roots q (n + 1) size (set namings j (named_by (get_or namings j Nobody) (Once q f.line)))
 namings_more roots q n size j f namings is asks h = record {

@@ -101,7 +101,7 @@ order_met ps lines j n o x h at (is, one) behind i m n' y z at' at'' less among 
 pub order_met_none : (ps : List Played) (lines : List ℕ) (j n : ℕ) → slice_get lines j ≡ Some n → ((x : Played) → IsOfLine ps n x → ⊥) → ComesInOrder ps lines j
 order_met_none ps lines j n at none i m n' y z at' at'' less among is' among' is'' before = none z (among', is'' ∙ one_at lines j n' n at'' at)
 
--- one of a record that isn't after the last one doesn't
+-- an entry of a record that isn't after the last one doesn't come in order
 pub order_unmet : (ps : List Played) (lines : List ℕ) (j n : ℕ) (o : Order) (x : Played) → HasSeen ps lines j o → slice_get lines j ≡ Some n → IsOfLine ps n x → (IsBehind o x → ⊥)
     → ComesInOrder ps lines j → ⊥
 order_unmet ps lines j n o x h at is ahead met =

@@ -1,8 +1,8 @@
 -- The entries of a journal, one by one.
 use Rattle.std.proofs.Common.{◌≡◌, ℕ, ◌+◌, ◌<◌, ◌≤◌, ◌≢◌, List, length, map, take, Bool, not, true, false, Option, Some, None, refl, sym, ◌∙◌, ap, subst, arith, inl, inr}
 use Rattle.std.specs.Prelude.{Contains, All, AllPairs, IfSome, slice_get, IsSome, IsNone, is_some}
-use Rattle.pa_machine.specs.declared.title.Title.{Title}
-use Rattle.pa_machine.specs.declared.word.SlotName.{SlotName}
+use Rattle.pa_slot.specs.declared.title.Title.{Title}
+use Rattle.pa_slot.specs.declared.word.SlotName.{SlotName}
 use Rattle.pa_layout.specs.Pages.{page_place, supers_for, super_page_at}
 use Rattle.pa_buckets.specs.Bands.{fill_of}
 use Rattle.pa_record.specs.declared.numbered.Numbered.{Numbered}
@@ -99,7 +99,7 @@ least_rises : (m n : ℕ) (o : Option ℕ) → m ≤ n → AsksFrom n o → m �
 least_rises m n None low from = low
 least_rises m n (Some j) low from = omega arith
 
--- one that names none, or doesn't ask for it
+-- an entry that changes nothing in the pool is played with the plan as it is
 pub played_still : (pools : List PoolEntry) (act : RootAct) (plan : PoolState) (r after : Root) → IsInStep pools plan r → after ≡ root_next pools act r → after.turn ≤ r.turn + 32
     → IsBornBelow plan.entries after → IsPlayedBy pools act plan r plan after
 played_still pools act plan r after old after_is turn born = record {

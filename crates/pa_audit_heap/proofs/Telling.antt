@@ -18,6 +18,6 @@ pub tells_same : (P Q : ℕ → Type 0) (a : Option ℕ) → ((i : ℕ) → P i 
 tells_same P Q None f g p = λ i. f i (p i)
 tells_same P Q (Some i) f g p = (λ q. p.0 (g i q), λ j less. f j (p.1 j less))
 
--- all places up to the end meet it, and past the end nothing is asked
+-- if each place up to the end meets the demand, and nothing is asked past the end, no place fails
 pub tells_none : (P : ℕ → Type 0) (n : ℕ) → ((j : ℕ) → j < n → P j) → ((j : ℕ) → n ≤ j → P j) → TellsFirst P None
 tells_none P n here past j = elim (cases_lt j n) [ inl less ↦ here j less | inr more ↦ past j more ]

@@ -60,7 +60,7 @@ fits_next supers partitions phases ps pools es p j w e x h at t fits = record {
   order = order_met ps (map (λ (f : RootEntry). f.line) es) j e.line w.order x h.seen (at_map (λ (f : RootEntry). f.line) es j e at) t.is t.behind;
 }
 
--- and the walk goes on after it
+-- the walk goes on after an entry that was played
 pub walked_next : (supers partitions phases : ℕ) (ps : List Played) (pools : List PoolEntry) (es : List RootEntry) (p j : ℕ) (w next : Walk) (e : RootEntry) (x : Played)
     → AreOfThreads16 ps → IsWalked supers phases ps pools es j w → slice_get es j ≡ Some e → IsTaken partitions ps pools p w e x → next.order ≡ entered_by x w.order
     → AreFilledUp (census w.replay.root) (min phases (x.phase - 1)) w.censuses next.censuses → IsPlayedBy pools e.act w.replay.plan w.replay.root next.replay.plan next.replay.root

@@ -11,7 +11,7 @@ use Rattle.pa_audit_records.specs.Cuts.{HasEach}
 abbrev pub HaveCensuses : List Played → List PoolEntry → Journals → ℕ → List Census → Type 0
 HaveCensuses ps pools roots p censuses = HasEach (λ i c. HasCensus ps pools roots (i + 1) p c) censuses
 
--- those of each of the first partitions, at the end of each of the first phases
+-- what the root of each of the first partitions has at the end of each of the first phases
 pub record HaveAllCensuses (partitions phases : ℕ) (ps : List Played) (pools : List PoolEntry) (roots : Journals)
     (all : List (List Census)) : Type 0 where
   pub many : partitions ≤ length all

@@ -10,7 +10,7 @@ use Rattle.pa_audit_heap.specs.declared.roots.JournalFound.{JournalFound}
 use Rattle.pa_audit_heap.specs.declared.roots.JournalFound.TheVariants.{Misfit, Meets}
 use Rattle.pa_audit_heap.specs.Censuses.{HaveCensuses}
 
--- the first entry that doesn't meet its clause; or each does, and the root has this at the end of each phase
+-- This is the first entry that doesn't meet its clause, or each does and the root has this at the end of each phase.
 abbrev pub TellsJournal : ℕ → ℕ → List Played → List PoolEntry → Journals → ℕ → JournalFound → Type 0
 TellsJournal partitions phases ps pools roots p (Misfit j) =
     TellsFirst (λ i. RootsDemand partitions ps pools roots (places.Root p i)) (Some j)

@@ -19,11 +19,12 @@ pub record IsBehind (o : Order) (x : Played) : Type 0 where
   pub line : slice_index o.lines x.thread ≤ x.line
   pub phase : o.phase ≤ x.phase
 
--- x is the last one
+-- the order after record x, which is the last one of its thread now
 abbrev pub entered_by : Played → Order → Order
 entered_by x o = record { lines = slice_set o.lines x.thread x.line; phase = x.phase }
 
--- An entry on the line comes in order, and is the last one; a line without a record is in order. Or it doesn't.
+-- With true, the line has no record and nothing changes, or its record comes in order and is the last one now. With false, it doesn't
+-- come in order.
 abbrev pub Admits : List Played → ℕ → Order → Order → Bool → Type 0
 Admits ps line before after true =
     (((x : Played) → IsOfLine ps line x → ⊥) × (after ≡ before))

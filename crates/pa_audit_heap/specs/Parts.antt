@@ -1,4 +1,4 @@
--- The parts of what the clause of the pool requires of an entry, each of which has a pass of its own; and what that of the roots
+-- The parts of what the clause of the pool requires of an entry, each of which has a pass of its own, and what the clause of the roots
 -- requires of a record.
 use Rattle.std.specs.Prelude.{◌≡◌, ℕ, List, map, take}
 use Rattle.pa_record.specs.declared.pool.PoolEntry.{PoolEntry}
@@ -12,16 +12,16 @@ use Rattle.pa_rules.specs.Roots.{Journals, IsEntry, IsFull}
 use Rattle.pa_rules.specs.HeapDemands.{IsPoolEntry}
 use Rattle.pa_audit_heap.specs.Namings.{IsNamed}
 
--- the entry fits the pool after those before it
+-- entry j fits the pool as the entries before it leave it
 abbrev pub FitsPool : ℕ → List PoolEntry → ℕ → Type 0
 FitsPool supers pools j =
     (e : PoolEntry) → IsPoolEntry pools j e → PoolActFits pools e.partition e.act (pool_replayed (take j pools) (new_pool supers))
 
--- the journals name it exactly once, with its partition and line
+-- the journals name entry j of the pool exactly once, with its partition and line
 abbrev pub IsNamedAt : List PoolEntry → Journals → ℕ → Type 0
 IsNamedAt pools roots j = (e : PoolEntry) → IsPoolEntry pools j e → IsNamed roots j e
 
--- no entry before it should come after it
+-- no entry of the pool before entry j should come after it
 abbrev pub ComesAt : List Played → List PoolEntry → ℕ → Type 0
 ComesAt ps pools j = ComesInOrder ps (map (λ (e : PoolEntry). e.line) pools) j
 

@@ -10,7 +10,7 @@ use Rattle.pa_record.specs.Root.{Root, root_next, RootActFits, asked_by}
 use Rattle.pa_record.specs.Sound.{IsBornBelow, AsksFrom, least_after}
 use Rattle.pa_audit_heap.specs.Parts.{FitsPool}
 
--- each entry of the pool fits it
+-- each entry of the pool fits the pool as the entries before it leave it
 abbrev pub DoAllFit : ℕ → List PoolEntry → Type 0
 DoAllFit supers pools = (j : ℕ) → FitsPool supers pools j
 
@@ -38,7 +38,7 @@ pub record IsPlayedBy (pools : List PoolEntry) (act : RootAct) (plan : PoolState
   pub turn : after.turn ≤ r.turn + 32
   pub least : (n : ℕ) → plan.entries ≤ n → AsksFrom n (asked_by act) → next.entries ≤ least_after n (asked_by act)
 
--- the entry fits, and was played; or it doesn't fit
+-- With true, the entry fits and was played. With false, it doesn't fit.
 abbrev pub TellsPlay : List PoolEntry → RootAct → PoolState → Root → PoolState → Root → Bool → Type 0
 TellsPlay pools act plan r next after true = RootActFits pools act r × IsPlayedBy pools act plan r next after
 TellsPlay pools act plan r next after false = RootActFits pools act r → ⊥

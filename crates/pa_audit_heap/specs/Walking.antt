@@ -35,7 +35,8 @@ pub record IsWalked (supers phases : ℕ) (ps : List Played) (pools : List PoolE
   pub bound : w.least ≤ 2 ^ 32
   pub counted : AreCounted phases ps pools (take j es) w.order.phase w.censuses
 
--- entry j of partition p's journal, which has these entries, meets its clause, and was walked over; or it doesn't
+-- With true, entry j of partition p's journal, which has these entries, meets its clause and was walked over. With false, it doesn't meet
+-- it.
 abbrev pub TellsWalk : ℕ → ℕ → ℕ → List Played → List PoolEntry → ℕ → List RootEntry → ℕ → Walk → Bool → Type 0
 TellsWalk supers partitions phases ps pools p es j w true =
     RootsDemand partitions ps pools (λ q. es) (places.Root p j) × IsWalked supers phases ps pools es (j + 1) w

@@ -2,9 +2,9 @@ ghost use Rattle.std.specs.Prelude.{◌≡◌, ℕ, ◌<◌, OnErr, OnOk, []};
 ghost use Rattle.pa_record.specs.Census.{census};
 ghost use Rattle.pa_audit_heap.specs.Walking.{AreFilledUp};
 
-use pa_machine::OutOfMemory;
 use pa_place::Placement;
 use pa_record::Census;
+use pa_slot::OutOfMemory;
 use std::alloc::Global;
 use std::marker::Model;
 
@@ -32,7 +32,7 @@ impl Censuses {
         Censuses { items }
     }
 
-    /// They, phase by phase.
+    /// The censuses, phase by phase.
     pub fn items(&self) -> &[Census]
         ensures items { result.now ≡ self.now }
     {

@@ -1,7 +1,7 @@
 ghost use Rattle.std.specs.Prelude.{◌≡◌};
 ghost use Rattle.pa_audit_heap.specs.Tells.{least_place};
 
-// The lesser of two indices, if there is one.
+// The lesser of two indices, or the only one.
 pub(crate) fn earlier(a: Option<u32>, b: Option<u32>) -> Option<u32>
     ensures { result ≡ least_place a b }
 {

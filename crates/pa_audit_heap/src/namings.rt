@@ -5,7 +5,7 @@ ghost use Rattle.pa_rules.specs.Roots.{journal_at};
 ghost use Rattle.pa_audit_heap.specs.Namings.{AreNamings, named_by};
 
 use pa_dense::{Act, DenseJournal};
-use pa_machine::OutOfMemory;
+use pa_slot::OutOfMemory;
 use std::alloc::Global;
 
 // How the journals name an entry of the pool: no entry of theirs does, exactly one does, which is of this partition and line,

@@ -11,7 +11,7 @@ use pa_trace::MOST_THREADS;
 // The most threads of a trace.
 pub(crate) const THREADS: usize = MOST_THREADS as usize;
 
-// Entries in the order of their records: the last line of each thread, and the last phase; 0 if there is none.
+// Entries in the order of their records: the last line of each thread, and the last phase, each of which is 0 if there is none.
 #[derive(Drop)]
 pub(crate) struct Order {
     pub(crate) lines: [u32; THREADS],

@@ -14,14 +14,14 @@ use crate::first::earlier;
 use crate::namings::{Naming, namings_of};
 use crate::order::Order;
 use pa_dense::DenseJournal;
-use pa_machine::OutOfMemory;
 use pa_place::PoolPlan;
 use pa_record::{PoolAct, PoolEntry, Taken};
 use pa_rules::Played;
+use pa_slot::OutOfMemory;
 use std::alloc::Global;
 
-/// The first entry of the pool that doesn't meet what the clause `pool` requires of it, by its index. The records are in the
-/// order of their lines; `supers` is the number of the region's super pages.
+/// The first entry of the pool that doesn't meet what the clause `pool` requires of it, by its index. The records are in the order of
+/// their lines, and `supers` is the number of the region's super pages.
 pub fn pool_meets(
     alloc: Global,
     supers: u32,
@@ -88,7 +88,7 @@ fn is_taken(runs: &[Taken], pools: &[PoolEntry], partition: u32, first: u32, cou
         && is_partitions(pools, partition, *run))
 }
 
-// Whether it was taken for the partition, as its entry says.
+// Whether the run of super pages was taken for the partition, as its entry says.
 fn is_partitions(pools: &[PoolEntry], partition: u32, run: Taken) -> bool
     ensures { IsTrue result ↔ IsPartitions pools.now partition run }
 {
@@ -119,7 +119,7 @@ fn are_named(
     Ok(None)
 }
 
-// Whether the naming is one, of the entry's partition and line.
+// Whether the naming is the only one, and is of the entry's partition and line.
 fn is_named(naming: Naming, entry: PoolEntry) -> bool
     ensures { IsTrue result ↔ (naming ≡ Naming.Once entry.partition entry.line) }
 {

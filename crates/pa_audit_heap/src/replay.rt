@@ -2,7 +2,7 @@ ghost use Rattle.std.specs.Prelude.{◌≡◌, ◌≢◌, ℕ, ◌-◌, ◌%◌,
 ghost use Rattle.pa_layout.specs.Limits.{most_supers};
 ghost use Rattle.pa_dense.specs.Act.{act_of};
 ghost use Rattle.pa_layout.specs.Pages.{supers_for};
-ghost use Rattle.pa_machine.specs.declared.title.Title.{Title as Slice};
+ghost use Rattle.pa_slot.specs.declared.title.Title.{Title as Slice};
 ghost use Rattle.pa_record.specs.declared.root.RootAct.{RootAct};
 ghost use Rattle.pa_record.specs.Pool.{new_pool, pool_replayed};
 ghost use Rattle.pa_record.specs.Root.{IsOut, asked_by, names, new_root};
@@ -16,9 +16,9 @@ use arrayvec::ArrayVec;
 use pa_buckets::{Class, fill_count};
 use pa_dense::Act;
 use pa_layout::{super_page_of, supers_for};
-use pa_machine::{OutOfMemory, SlotName, Title};
 use pa_place::{Out, Placement, PoolPlan};
 use pa_record::{Numbered, PoolEntry};
+use pa_slot::{OutOfMemory, SlotName, Title};
 use std::alloc::Global;
 
 // A root and the pool that it asks, as the entries of its journal so far have left them.
@@ -86,7 +86,7 @@ impl Replay {
         }
     }
 
-    // A fill that asked for no super page.
+    // Plays a fill that asked for no super page.
     fn fill(
         &mut self,
         pools: &[PoolEntry],
@@ -104,7 +104,7 @@ impl Replay {
         Ok(placed.pool.is_none() && are_named(placed.titles.as_slice(), slots))
     }
 
-    // A fill that got a super page by this entry of the pool.
+    // Plays a fill that got a super page by this entry of the pool.
     fn fill_from(
         &mut self,
         pools: &[PoolEntry],
@@ -129,7 +129,7 @@ impl Replay {
         Ok(placed.pool.is_some() && are_named(placed.titles.as_slice(), slots))
     }
 
-    // A direct map.
+    // Plays a direct map.
     fn map(
         &mut self,
         pools: &[PoolEntry],
@@ -161,7 +161,7 @@ impl Replay {
         Ok(true)
     }
 
-    // No room for a slot of a class.
+    // Plays a refusal: the entry of the pool found no room for a slot of the class.
     fn full(&mut self, pools: &[PoolEntry], class: Class, asked: u32) -> Result<bool, OutOfMemory>
         requires pool { DoAllFit self.old.plan.supers pools.now }
         requires few { length pools.now < 2 ^ 32 - 1 }
@@ -180,7 +180,7 @@ impl Replay {
         Ok(placed.pool.is_some())
     }
 
-    // Slots that come back.
+    // Plays slots that come back.
     fn give(&mut self, pools: &[PoolEntry], slots: &[Numbered]) -> bool
         requires few { length slots.now ≤ 16 }
         requires step { IsInStep pools.now self.old.plan self.old.root }
@@ -201,7 +201,7 @@ impl Replay {
         true
     }
 
-    // A direct map that comes back.
+    // Plays a direct map that comes back.
     fn unmap(&mut self, pools: &[PoolEntry], asked: u32, slot: Numbered) -> bool
         requires pool { DoAllFit self.old.plan.supers pools.now }
         requires few { length pools.now < 2 ^ 32 - 1 }
@@ -267,7 +267,7 @@ fn are_named(titles: &[Title], slots: &[Numbered]) -> bool
     true
 }
 
-// Whether it is the title's name.
+// Whether this is the title's name.
 fn is_named(title: Title, name: SlotName) -> bool
     ensures { IsTrue result ↔ (name_of title ≡ name) }
 {

@@ -12,29 +12,28 @@ ghost use Rattle.pa_audit_heap.specs.Found.{TellsJournal};
 use crate::censuses::Censuses;
 use crate::walk::Walk;
 use pa_dense::{DenseEntry, DenseJournal};
-use pa_machine::OutOfMemory;
 use pa_record::PoolEntry;
 use pa_rules::Played;
+use pa_slot::OutOfMemory;
 use std::alloc::Global;
 
-/// What the walk over the journals found: the first entry that doesn't meet its clause, by its partition and its index; and,
-/// if each does, what each partition's root has at the end of each phase.
+/// What the walk over the journals found: the first entry that doesn't meet its clause, by its partition and its index, or, if each does,
+/// what each partition's root has at the end of each phase.
 #[derive(Drop)]
 pub struct JournalsFound {
     pub misfit: Option<(u32, u32)>,
     pub censuses: Vec<Censuses>,
 }
 
-// The same of one journal.
+// What the walk over one journal found: the index of the first entry that doesn't meet its clause, or the root's censuses.
 #[derive(Drop)]
 pub(crate) enum JournalFound {
     Misfit(u32),
     Meets(Censuses),
 }
 
-/// The first entry of the journals that doesn't meet what the clause `roots` requires of it; if each does, the censuses. Each
-/// entry of the pool meets its clause, and the records are in the order of their lines. `supers` is the number of the
-/// region's super pages.
+/// The first entry of the journals that doesn't meet what the clause `roots` requires of it, and the censuses if each does. Each entry of
+/// the pool meets its clause, and the records are in the order of their lines. `supers` is the number of the region's super pages.
 pub fn journals_meet(
     alloc: Global,
     supers: u32,
@@ -112,7 +111,7 @@ fn journal_meets(
     Ok(JournalFound::Meets(censuses))
 }
 
-// The entries of a partition's journal; none if it isn't there.
+// The entries of a partition's journal, and none if it has no journal.
 fn journal_of(roots: &[DenseJournal], partition: u32) -> &[DenseEntry]
     ensures { result.now ≡ journal_at roots.now partition }
 {

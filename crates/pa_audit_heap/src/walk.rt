@@ -15,9 +15,9 @@ use crate::namings::asked_by;
 use crate::order::Order;
 use crate::replay::Replay;
 use pa_dense::DenseEntry;
-use pa_machine::OutOfMemory;
 use pa_record::PoolEntry;
 use pa_rules::Played;
+use pa_slot::OutOfMemory;
 use std::alloc::Global;
 
 // A partition's journal, as far as its entries have met the clause `roots`: their order, the root and its pool, the

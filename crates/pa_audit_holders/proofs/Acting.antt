@@ -1,6 +1,6 @@
 -- What an entry did, by the parts of it that a test looks at.
 use Rattle.std.proofs.Common.{◌≡◌, ℕ, ◌∙◌, sym, ap}
-use Rattle.pa_machine.specs.declared.word.SlotName.{SlotName}
+use Rattle.pa_slot.specs.declared.word.SlotName.{SlotName}
 use Rattle.pa_record.specs.declared.numbered.Numbered.{Numbered}
 use Rattle.pa_record.specs.declared.root.RootAct.{RootAct}
 use Rattle.pa_record.specs.declared.root.RootAct.TheVariants.{Unmap}

@@ -3,9 +3,9 @@ use Rattle.std.proofs.Common.{◌≡◌, ℕ, ◌+◌, ◌<◌, ◌≤◌, Bool,
 use Rattle.std.specs.Prelude.{IsSome}
 use Rattle.std.proofs.lemmas.Bool.{cases_lt}
 use Rattle.std.proofs.lemmas.List.{take_more}
-use Rattle.pa_machine.specs.declared.word.SlotName.{SlotName}
-use Rattle.pa_machine.specs.declared.word.Step.{Step}
-use Rattle.pa_machine.specs.Count.{number_of}
+use Rattle.pa_slot.specs.declared.word.SlotName.{SlotName}
+use Rattle.pa_slot.specs.declared.word.Step.{Step}
+use Rattle.pa_slot.specs.Count.{number_of}
 use Rattle.pa_record.specs.declared.entry.Seen.{Seen}
 use Rattle.pa_record.specs.declared.entry.Answer.{Answer}
 use Rattle.pa_record.specs.declared.entry.Answer.TheVariants as answers
@@ -25,8 +25,7 @@ use Rattle.pa_rules.proofs.CachesAfter.{caches_snoc}
 use Rattle.pa_audit_holders.specs.Homes.{HasOneHome}
 use Rattle.pa_audit_holders.specs.Cached.{CachesSoFar, TellsPlayed}
 use Rattle.pa_audit_holders.specs.Rows.{TellsNext}
-use Rattle.pa_audit_records.proofs.Walking.{here_is}
-use Rattle.pa_lists.proofs.Indexed.{none_past}
+use Rattle.pa_lists.proofs.Indexed.{none_past, here_is}
 use Rattle.pa_lists.proofs.Tests.{met_more}
 
 -- every slot of the journals has one kind
@@ -35,7 +34,7 @@ HaveOneKind roots = (s : SlotName) → HasOneHome roots s
 
 -- ---- a row leads to one thread's lists
 
--- what became the same lists is one
+-- two caches that are the same lists as a third one are one
 one_becomes : (next other cache : Cache) → SameLists next cache → SameLists other cache → next ≡ other
 one_becomes next other cache h k = λ i p c. (h p c ∙ sym (k p c)) i
 

@@ -16,8 +16,8 @@ use Rattle.pa_audit_holders.proofs.Remaining.{AreLeft, left_more, left_none, lef
 abbrev pub from_place : List (List Numbered) → ℕ → ℕ → List Numbered
 from_place lists first class = get_or lists (first + class) []
 
--- As many lists stay as there were. Those from the first place to another are empty, and the others are as they were; of the
--- partition's that are left, this many slots are.
+-- As many lists stay as there were. Those from the first place to another are empty, and the others are as they were. The partition's
+-- lists that are left have this many slots.
 pub record AreEmptied (lists now : List (List Numbered)) (first at rest : ℕ) : Type 0 where
   pub many : length now ≡ length lists
   pub low : first ≤ at
@@ -94,7 +94,7 @@ emptied_these lists now first at rest h none k up high = elim (cases_lt k at) [
 
 -- ---- partition by partition
 
--- As many lists stay as there were; those of the partitions below p are empty, and the others are as they were.
+-- As many lists stay as there were. Those of the partitions below p are empty, and the others are as they were.
 pub record AreCleared (lists now : List (List Numbered)) (p : ℕ) : Type 0 where
   pub many : length now ≡ length lists
   pub these : (k : ℕ) → k < 59 * p → get_or now k [] ≡ []

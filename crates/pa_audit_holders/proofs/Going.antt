@@ -5,7 +5,7 @@ use Rattle.std.proofs.lemmas.Bool.{cases_eq, cases_lt, false≢true}
 use Rattle.std.proofs.lemmas.List.{get_or_append_left, get_or_default, get_or-map, length-map, length_push}
 use Rattle.std.proofs.lemmas.Option.{get_or_from_slice_get, slice_get-get_or, slice_get_within}
 use Rattle.pa_record.proofs.PoolSteps.{slice_get_more}
-use Rattle.pa_machine.specs.declared.word.SlotName.{SlotName}
+use Rattle.pa_slot.specs.declared.word.SlotName.{SlotName}
 use Rattle.pa_record.specs.declared.numbered.Numbered.{Numbered}
 use Rattle.pa_record.specs.declared.root.RootEntry.{RootEntry}
 use Rattle.pa_record.specs.declared.root.RootAct.{RootAct}
@@ -76,7 +76,7 @@ least_is es f slot (Some k) low at h = elim (cases_lt slot.number k) [
       record { among = inl (subst (λ z. IsUnmapped es slot.slot z) (sym is) (h.hit slot.slot k low at)); low = omega arith; below = λ n gone. let down = h.least slot.slot k n low at gone in omega (arith, down) }
 ]
 
--- one that takes a slot away: the least number from then on
+-- an entry that takes a slot away leaves the lesser of its number and the one that the table had
 gone_more : (es : List RootEntry) (e : RootEntry) (f g : ℕ → Option ℕ) (asked : ℕ) (slot : Numbered) → e.act ≡ Unmap asked slot → slot.slot.start < 4294967296 →
     Puts f g (name_key slot.slot) (lesser_of (f (name_key slot.slot)) slot.number) → HasGone es f → HasGone (es ++ e ∷ []) g
 gone_more es e f g asked slot is low puts h =
@@ -114,7 +114,7 @@ gone_more es e f g asked slot is low puts h =
       ];
     }
 
--- the same of a table by any number of the slot, which is set to the lesser of its value, if any, and the entry's number
+-- an entry that takes a slot away sets the table's number of it to the lesser of the old one, if there is one, and its own
 pub gone_entered : (es : List RootEntry) (e : RootEntry) (f g : ℕ → Option ℕ) (asked key : ℕ) (slot : Numbered) (old : Option ℕ) (n : ℕ) → e.act ≡ Unmap asked slot → slot.slot.start < 4294967296 →
     key ≡ name_key slot.slot → old ≡ f key → n ≡ lesser_of old slot.number → Puts f g key n → HasGone es f → HasGone (es ++ e ∷ []) g
 gone_entered es e f g asked key slot old n is low same was least puts h =
@@ -147,7 +147,7 @@ none_next f slots j d below h here before known i n d' less gone = elim (cases_l
       here before known (n, subst (λ (z : Numbered). IsUnmapped before z.slot n) (ap (λ k. get_or slots k d') same ∙ get_or_default slots j d' d below) gone)
 ]
 
--- the slots of an entry, and the moves that name them
+-- none of the slots that an entry moves is gone exactly if it names none that is
 pub names_none : (es : List RootEntry) (e : RootEntry) (line : ℕ) (course : Course) (slots : List Numbered) → moves_by e.line e.act ≡ map (move_on line course) slots → NoneGone es slots ↔ NamesNoneGone es e
 names_none es e line course slots is = (
   λ none s n (m, (i, below, at), same) gone.

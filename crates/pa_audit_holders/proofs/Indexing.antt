@@ -71,7 +71,7 @@ lines_hit journal count table j line h below is within =
       ];
     }
 
--- one of another line
+-- an entry on a line past the table leaves the table as it is
 pub lines_miss : (journal : List RootEntry) (count : ℕ) (table : List (List ℕ)) (j : ℕ) → AreOnLinesTo journal count table j → j < length journal → count ≤ (get_or journal j no_entry).line →
     AreOnLinesTo journal count table (j + 1)
 lines_miss journal count table j h below past = record {

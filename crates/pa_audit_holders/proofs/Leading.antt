@@ -4,10 +4,10 @@ use Rattle.std.specs.Prelude.{IsTrue}
 use Rattle.std.proofs.Math.Seq.{take_all}
 use Rattle.std.proofs.lemmas.Bool.{false≢true}
 use Rattle.std.proofs.lemmas.List.{get_or_default, length-drop}
-use Rattle.pa_machine.specs.declared.word.SlotName.{SlotName}
-use Rattle.pa_machine.specs.declared.word.Step.{Step}
-use Rattle.pa_machine.specs.Count.{number_of}
-use Rattle.pa_machine.specs.Run.{IsReturning}
+use Rattle.pa_slot.specs.declared.word.SlotName.{SlotName}
+use Rattle.pa_slot.specs.declared.word.Step.{Step}
+use Rattle.pa_slot.specs.Count.{number_of}
+use Rattle.pa_slot.specs.Run.{IsReturning}
 use Rattle.pa_record.specs.declared.entry.Seen.{Seen}
 use Rattle.pa_record.specs.declared.numbered.Numbered.{Numbered}
 use Rattle.pa_record.specs.declared.root.RootAct.TheVariants.{Full, Map}
@@ -188,14 +188,14 @@ class_other roots line p class seen cache list xs there filled other next (ys, r
     let same : ys ≡ xs = filled_one roots line p class list ys xs (subst (λ z. FilledFirst roots line p class z ys) (sym there) filled') filled in
     other rest (sym same ∙ front)
 
--- what a look for the list from which a slot is taken tells
+-- what is found by a look for the list from which a slot is taken
 pub filled_is : (IsAsked : List Numbered → Type 0) (xs : List Numbered) (b : Bool) → TellsFilled IsAsked xs b → b ≡ true → IsAsked xs
 filled_is IsAsked xs b told fits = subst (TellsFilled IsAsked xs) fits told
 
 pub filled_not : (IsAsked : List Numbered → Type 0) (xs : List Numbered) (b : Bool) → TellsFilled IsAsked xs b → b ≡ false → (ys : List Numbered) → IsAsked ys → ⊥
 filled_not IsAsked xs b told misfits = subst (TellsFilled IsAsked xs) misfits told
 
--- what a test of the slots tells of the list
+-- what a test of the slots says of the list that has them
 pub front_told : (seen : Seen) (slots xs : List Numbered) (b : Bool) → slots ≡ xs → IsTrue b ↔ FrontIs seen slots (drop 1 slots) → IsTrue b ↔ FrontIs seen xs (drop 1 xs)
 front_told seen slots xs b same told = subst (λ (ys : List Numbered). IsTrue b ↔ FrontIs seen ys (drop 1 ys)) same told
 

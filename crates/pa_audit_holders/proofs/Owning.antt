@@ -5,19 +5,19 @@ use Rattle.std.proofs.lemmas.Bool.{cases_eq, cases_lt, ne_eqb}
 use Rattle.std.proofs.lemmas.List.{append-nil, get_or_default}
 use Rattle.std.proofs.lemmas.Option.{slice_get-get_or, get_or_from_slice_get}
 use Rattle.std.proofs.lemmas.List.Elements.{filter-append}
-use Rattle.pa_machine.specs.declared.word.SlotName.{SlotName}
-use Rattle.pa_machine.specs.Count.{number_of}
-use Rattle.pa_machine.specs.Run.{Mark, IsFirstAt, IsRunFrom}
-use Rattle.pa_machine.proofs.Runs.{number_stepped, same_slot_cases, same_slot_yes, same_slot_no}
+use Rattle.pa_slot.specs.declared.word.SlotName.{SlotName}
+use Rattle.pa_slot.specs.Count.{number_of}
+use Rattle.pa_slot.specs.Run.{Mark, IsFirstAt, IsRunFrom}
+use Rattle.pa_slot.proofs.Runs.{same_slot_cases, same_slot_yes, same_slot_no}
 use Rattle.pa_record.specs.declared.numbered.Numbered.{Numbered}
-use Rattle.pa_lists.proofs.Members.{in_cases, not_in_none, not_some, of_some}
+use Rattle.pa_lists.proofs.Members.{not_some, of_some}
 use Rattle.pa_rules.specs.declared.played.Played.{Played}
 use Rattle.pa_rules.specs.Played.{marks_of}
 use Rattle.pa_rules.specs.Order.{IsOfLine}
 use Rattle.pa_rules.specs.Holders.{Holder, InRoot, WithThread, Move, is_move_of, IsReturnedBy, IsFirstHolder, HolderAfter, made_by, needed_by}
 use Rattle.pa_rules.proofs.ByLines.{same_record}
 use Rattle.pa_rules.proofs.Marking.{mark_line}
-use Rattle.pa_rules.proofs.Running.{marks_differ, one_mark, run_rises}
+use Rattle.pa_rules.proofs.Running.{marks_differ, one_mark, same_word}
 use Rattle.pa_audit_records.specs.Keys.{word_key}
 use Rattle.pa_audit_records.specs.Marks.{IsSized}
 use Rattle.pa_audit_records.specs.Tables.{Puts}
@@ -33,34 +33,6 @@ use Rattle.pa_verdict.proofs.Holding.{own_move}
 
 -- ---- one first holder
 
--- the words of a run differ in their numbers
-run_number : (ms : List Mark) (s : SlotName) (u : ℕ) (vs : List ℕ) (x y : ℕ) → IsRunFrom ms s u vs → Contains (u ∷ vs) x → Contains (u ∷ vs) y → number_of x ≡ number_of y → x ≡ y
-run_number ms s u [] x y run first second same = elim (in_cases u x [] first) [
-  | inr none ↦ absurd (not_in_none x none)
-  | inl e ↦ elim (in_cases u y [] second) [
-    | inr none ↦ absurd (not_in_none y none)
-    | inl e' ↦ sym e ∙ e'
-  ]
-]
-run_number ms s u (v ∷ vs) x y (m, p, at, can, is, rest) first second same =
-    let up : number_of v ≡ number_of u + 1 = ap number_of is ∙ number_stepped p u can in
-    elim (in_cases u x (v ∷ vs) first) [
-      | inl e ↦ elim (in_cases u y (v ∷ vs) second) [
-        | inl e' ↦ sym e ∙ e'
-        | inr after ↦
-            let low = run_rises ms s v vs y rest after in
-            let one : number_of u ≡ number_of x = ap number_of e in
-            absurd (omega arith)
-      ]
-      | inr after ↦ elim (in_cases u y (v ∷ vs) second) [
-        | inl e' ↦
-            let low = run_rises ms s v vs x rest after in
-            let one : number_of u ≡ number_of y = ap number_of e' in
-            absurd (omega arith)
-        | inr after' ↦ run_number ms s v vs x y rest after after' same
-      ]
-    ]
-
 returned_one : (ps : List Played) (s : SlotName) (k : ℕ) (x y : Played) → AreOfRuns ps → IsReturnedBy ps s k x → IsReturnedBy ps s k y → x ≡ y
 returned_one ps s k x y known (among, m, p, is, slot, made, back, number) (among', n, q, is', slot', made', back', number') =
     let ms = marks_of ps in
@@ -73,7 +45,7 @@ returned_one ps s k x y known (among, m, p, is, slot, made, back, number) (among
     let whole' : IsRunFrom ms s 0 ws = subst (λ z. IsRunFrom ms z 0 ws) slot' run' in
     let one : ws ≡ vs = same_run ms s 0 0 ws vs (marks_differ ps differ) refl whole' whole in
     let numbers : number_of m.found ≡ number_of n.found = omega arith in
-    let word = run_number ms s 0 vs m.found n.found whole there (subst (λ zs. Contains (0 ∷ zs) n.found) one there') numbers in
+    let word = same_word ms s 0 vs m.found n.found whole there (subst (λ zs. Contains (0 ∷ zs) n.found) one there') numbers in
     let first : IsFirstAt ms s m.found m p = subst (λ z. IsFirstAt ms z m.found m p) slot (used p made).0 in
     let second : IsFirstAt ms s n.found n q = subst (λ z. IsFirstAt ms z n.found n q) slot' (used' q made').0 in
     let mark = one_mark ms s n.found m n p q (marks_differ ps differ) (subst (λ z. IsFirstAt ms s z m p) word first) second in

@@ -36,7 +36,7 @@ tables_more ps roots tables after t n is here h =
 
 -- ---- the first entry
 
--- what a journal tells, as the clause asks it
+-- what is found of a journal's entry is what the clause asks of it
 demand_is : (ps : List Played) (roots : Journals) (p j : ℕ) → EntryMovesFitAt ps (roots p) j ↔ HoldersDemand ps roots (places.Root p j)
 demand_is ps roots p j = entry_demand ps roots p j
 

@@ -16,8 +16,8 @@ cancel {X = X} (x ∷ xs) ys zs e = let one : ◌≡◌ {A = List X} (x ∷ (xs 
 
 -- ---- a partition
 
--- From the place `at` on the entries purge the lists from class k on, of which there are n, exactly when all of them purge the
--- partition; and that many slots are left to be counted.
+-- From the place `at` on the entries purge the lists from class k on, of which there are n, exactly when all of them purge the partition.
+-- Then `left` slots are left to be counted.
 pub record IsPurging (acts : List RootAct) (lists : ℕ → List Numbered) (slots k n at left : ℕ) : Type 0 where
   pub within : at ≤ length acts
   pub low : left ≤ slots
@@ -29,7 +29,7 @@ pub purging_start : (acts : List RootAct) (lists : ℕ → List Numbered) (slots
 unfolding whole_count whole_purge
 purging_start acts lists slots = record { within = omega arith; low = omega arith; counted = refl; onto = λ e. e; back = λ e. e }
 
--- it doesn't go back
+-- if the next list doesn't go back, the entries don't purge the partition
 pub purging_not : (acts : List RootAct) (lists : ℕ → List Numbered) (slots k n at left : ℕ) (xs : List Numbered) → IsPurging acts lists slots k (suc n) at left → xs ≡ lists k → TellsGives acts at xs None
     → TellsPurge acts lists slots None
 purging_not acts lists slots k n at left xs h is none e few = none (purge_acts lists (k + 1) n) (h.onto e ∙ ap (λ z. gives z ++ purge_acts lists (k + 1) n) (sym is))
@@ -52,7 +52,7 @@ purging_more acts lists slots k n at left next xs h is few (gave, within) =
 
 -- ---- lists that are left and have no slots
 
--- they don't go back
+-- lists that have no slots are purged by a Purge alone
 none_left : (lists : ℕ → List Numbered) (k n : ℕ) → listed_slots lists k n ≡ 0 → purge_acts lists k n ≡ Purge ∷ []
 none_left lists k zero none = refl
 none_left lists k (suc n) none =

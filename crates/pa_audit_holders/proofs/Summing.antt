@@ -70,7 +70,7 @@ bytes_over counts k (suc n) = ap (λ z. slot_of k * counts k + z) (bytes_over co
 
 -- ---- how much the lists have at most
 
--- the lists of a cache, counted; and their bytes
+-- the number of slots in a list of a cache, and the bytes of these
 abbrev pub slots_in : Cache → ℕ → ℕ → ℕ
 slots_in cache p c = length (cache p c)
 

@@ -1,6 +1,6 @@
--- What the books of a run show: its records and the journals of its roots; and what they show on the page of one record.
+-- What the books of a run, its records and the journals of its roots, show in all and on the page of one record.
 use Rattle.std.specs.Prelude.{◌≡◌, ℕ, ◌<◌, ◌≤◌, ◌^◌, List, Option, All, length}
-use Rattle.pa_machine.specs.declared.word.SlotName.{SlotName}
+use Rattle.pa_slot.specs.declared.word.SlotName.{SlotName}
 use Rattle.pa_record.specs.declared.root.RootEntry.{RootEntry}
 use Rattle.pa_trace.specs.Limits.{most_partitions}
 use Rattle.pa_rules.specs.declared.played.Played.{Played}
@@ -31,7 +31,7 @@ pub record AreBooks (b : RunBooks) (lines : List (List (List ℕ))) (at : ℕ �
   pub homes : KnowsHomes (journal_at b.roots) at
   pub kinds : (s : SlotName) → HasOneHome (journal_at b.roots) s
 
--- the page of one record
+-- the page of one record: the record, and the partitions and journals of its run
 pub record RecordPage : Type 0 where
   pub partitions : ℕ
   pub roots : List (List RootEntry)
@@ -45,7 +45,7 @@ page_of b x = record { partitions = b.partitions; roots = b.roots; told = x }
 abbrev pub IsRecordsLine : List Played → ℕ → Type 0
 IsRecordsLine ps line = (i : ℕ) × (x : Played) × IsRecord ps i x × (x.line ≡ line)
 
--- the record is one of the books', of one of 16 threads and four partitions
+-- the record is on the line of one of the books' records, and is of one of 16 threads and four partitions
 pub record IsOnPage (b : RunBooks) (x : Played) : Type 0 where
   pub among : IsRecordsLine b.records x.line
   pub within : IsOfThreads x

@@ -12,16 +12,17 @@ use Rattle.pa_rules.specs.Tells.{TellsFirst}
 use Rattle.pa_audit_holders.specs.Lists.{no_slots}
 use Rattle.pa_audit_records.specs.Cuts.{HasEach}
 
--- the first records, this many of them, meet their demands, and lead to these lists
+-- the first `end` records lead to these lists
 abbrev pub HaveLed : ℕ → Journals → List Played → ℕ → Caches → Type 0
 HaveLed partitions roots ps end all = CachesTo partitions roots no_caches (take end ps) all
 
--- each of the first records, this many of them, meets the clause of the caches, and they lead to these lists
+-- each of the first `end` records meets the clause of the caches, and they lead to these lists
 pub record CachesSoFar (partitions : ℕ) (roots : Journals) (ps : List Played) (all : Caches) (end : ℕ) : Type 0 where
   pub met : (i : ℕ) → i < end → CachesDemand partitions roots ps (places.Record i)
   pub led : HaveLed partitions roots ps end all
 
--- the same holds; or this is the first record that doesn't meet it
+-- each of the first `end` records meets the clause of the caches and they lead to these lists, or record i is the first that doesn't meet
+-- it
 abbrev pub TellsPlayed : ℕ → Journals → List Played → Caches → ℕ → Option ℕ → Type 0
 TellsPlayed partitions roots ps all end None = CachesSoFar partitions roots ps all end
 TellsPlayed partitions roots ps all end (Some i) = TellsFirst (λ k. CachesDemand partitions roots ps (places.Record k)) (Some i)
@@ -31,7 +32,7 @@ pub record IsListed (threads : ℕ) (all : Caches) (p : ℕ) (tally : Tally) : T
   pub slots : tally.slots ≡ cached_slots all p threads
   pub bytes : tally.bytes ≡ cached_bytes all p threads
 
--- the same for each of four partitions
+-- the tallies are those of the first threads' lists of each of the four partitions
 pub record HaveListed (threads : ℕ) (all : Caches) (tallies : List Tally) : Type 0 where
   pub many : length tallies ≡ most_partitions
   pub each : (p : ℕ) → p < most_partitions → IsListed threads all p (slice_index_or tallies p no_slots)
@@ -41,7 +42,7 @@ pub record AreCachedAt (partitions threads : ℕ) (roots : Journals) (xs : List 
   pub many : length tallies ≡ most_partitions
   pub each : (p : ℕ) → p < most_partitions → IsCached partitions threads roots xs p (slice_index_or tallies p no_slots)
 
--- those at the end of each phase
+-- these are the tallies of the caches at the end of each phase
 abbrev pub HaveCached : ℕ → ℕ → Journals → List Played → List (List Tally) → Type 0
 HaveCached partitions threads roots ps cached =
     HasEach (λ i tallies. AreCachedAt partitions threads roots (until (i + 1) ps) tallies) cached

@@ -6,12 +6,12 @@ use Rattle.pa_record.specs.declared.root.RootAct.{RootAct}
 use Rattle.pa_rules.specs.Roots.{Journals}
 use Rattle.pa_rules.specs.Caches.{Cache, acts_of, all_listed, gives, listed_slots, purge_acts}
 
--- Of the entries from one index on, those up to another index give back these slots; or no first part of them does.
+-- Of the entries from one index on, those up to another index give back these slots, or no first part of them does.
 abbrev pub TellsGives : List RootAct → ℕ → List Numbered → Option ℕ → Type 0
 TellsGives acts at xs (Some end) = (drop at acts ≡ gives xs ++ drop end acts) × (end ≤ length acts)
 TellsGives acts at xs None = (rest : List RootAct) → drop at acts ≡ gives xs ++ rest → ⊥
 
--- what a purge does in a partition whose lists these are, and how many slots they have
+-- what a purge does in a partition whose lists these are
 unfoldable pub whole_purge : (ℕ → List Numbered) → List RootAct
 whole_purge lists = purge_acts lists 0 class_count
 
@@ -19,8 +19,8 @@ whole_purge lists = purge_acts lists 0 class_count
 unfoldable pub whole_count : (ℕ → List Numbered) → ℕ
 whole_count lists = listed_slots lists 0 class_count
 
--- A line's entries purge the partition whose lists these are, and that many slots are left to be counted; or they don't, or
--- the lists have more slots than there are to count.
+-- A line's entries purge the partition whose lists these are, and that many slots are left to be counted. With none, the entries don't
+-- purge it, or the lists have more slots than there are to count.
 abbrev pub TellsPurge : List RootAct → (ℕ → List Numbered) → ℕ → Option ℕ → Type 0
 TellsPurge acts lists slots (Some left) = (acts ≡ whole_purge lists) × (slots ≡ whole_count lists + left)
 TellsPurge acts lists slots None = acts ≡ whole_purge lists → whole_count lists ≤ slots → ⊥

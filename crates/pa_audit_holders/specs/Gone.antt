@@ -1,6 +1,6 @@
 -- Direct maps that an entry of a journal took away for good.
 use Rattle.std.specs.Prelude.{◌≡◌, ℕ, ◌<◌, ◌≤◌, min, List, Option, Some, None, length, slice_get, slice_index_or}
-use Rattle.pa_machine.specs.declared.word.SlotName.{SlotName}
+use Rattle.pa_slot.specs.declared.word.SlotName.{SlotName}
 use Rattle.pa_record.specs.declared.numbered.Numbered.{Numbered}
 use Rattle.pa_record.specs.declared.root.RootEntry.{RootEntry}
 use Rattle.pa_record.specs.declared.root.RootAct.TheVariants.{Unmap}
@@ -22,11 +22,11 @@ pub record HasGone (journal : List RootEntry) (at : ℕ → Option ℕ) : Type 0
 abbrev pub NamesNoneGone : List RootEntry → RootEntry → Type 0
 NamesNoneGone before e = (s : SlotName) (n : ℕ) → NamesSlot e s → IsUnmapped before s n → ⊥
 
--- the same of these slots
+-- none of the entries before took one of these slots away
 abbrev pub NoneGone : List RootEntry → List Numbered → Type 0
 NoneGone before slots = (i n : ℕ) (d : Numbered) → i < length slots → IsUnmapped before (slice_index_or slots i d).slot n → ⊥
 
--- the lesser of two numbers, if there are two
+-- the lesser of a number and another one, if there is another
 abbrev pub lesser_of : Option ℕ → ℕ → ℕ
 lesser_of None n = n
 lesser_of (Some k) n = min k n

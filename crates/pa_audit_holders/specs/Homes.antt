@@ -2,7 +2,7 @@
 use Rattle.std.specs.Prelude.{◌≡◌, ℕ, ◌<◌, nat_lt, if◌then◌else◌, List, Option, Some, None, IsSome, Contains}
 use Rattle.pa_buckets.specs.Limits.{class_count}
 use Rattle.pa_buckets.specs.Table.{slot_of}
-use Rattle.pa_machine.specs.declared.word.SlotName.{SlotName}
+use Rattle.pa_slot.specs.declared.word.SlotName.{SlotName}
 use Rattle.pa_record.specs.declared.pool.PoolEntry.{PoolEntry}
 use Rattle.pa_record.specs.declared.root.RootEntry.{RootEntry}
 use Rattle.pa_record.specs.declared.root.RootAct.{RootAct}
@@ -21,7 +21,7 @@ abbrev pub IsHomeIn : Journals → SlotName → ℕ → Option ℕ → Type 0
 IsHomeIn roots s p (Some class) = IsOfClass roots s p class × (class < class_count)
 IsHomeIn roots s p None = IsDirect roots s p
 
--- so the slot has this home, and these bytes
+-- the slot has the partition and the class of this home, and its bytes
 pub record IsHomeOf (roots : Journals) (s : SlotName) (h : Home) : Type 0 where
   pub goes : IsHomeIn roots s h.partition h.class
   pub size : HasSize roots h.partition s h.bytes
@@ -43,7 +43,7 @@ pub record IsHomeless (roots : Journals) (s : SlotName) : Type 0 where
   pub class : (p class : ℕ) → IsOfClass roots s p class → ⊥
   pub direct : (p : ℕ) → IsDirect roots s p → ⊥
 
--- the slot has this home; if there is none, no entry of a journal handed it out
+-- The slot has this home. If there is none, no entry of a journal handed the slot out.
 abbrev pub TellsHome : Journals → SlotName → Option Home → Type 0
 TellsHome roots s None = IsHomeless roots s
 TellsHome roots s (Some h) = IsHomeOf roots s h
@@ -52,25 +52,25 @@ TellsHome roots s (Some h) = IsHomeOf roots s h
 abbrev pub HasHomes : Journals → (ℕ → Option Home) → Type 0
 HasHomes roots at = (k : ℕ) (h : Home) → at k ≡ Some h → (s : SlotName) × (name_key s ≡ k) × (s.start < 4294967296) × IsHomeOf roots s h
 
--- it has one for each of these slots
+-- the table has a home for each of these slots
 abbrev pub HasAll : (ℕ → Option Home) → List SlotName → Type 0
 HasAll at slots = (s : SlotName) → Contains slots s → IsSome (at (name_key s)) × (s.start < 4294967296)
 
--- it keeps what it had, and has a home for each of these slots
+-- the table keeps the homes that it had, and has one for each of these slots
 pub record EntersSlots (before after : ℕ → Option Home) (slots : List SlotName) : Type 0 where
   pub kept : (k : ℕ) → IsSome (before k) → IsSome (after k)
   pub has : HasAll after slots
 
--- it has a home for the slots that the entries above entry n of partition q's journal handed out
+-- the table has a home for each slot that the entries above entry n of partition q's journal handed out
 abbrev pub HasAbove : Journals → ℕ → ℕ → (ℕ → Option Home) → Type 0
 HasAbove roots q n at = (p i : ℕ) (e : RootEntry) → IsAbove p i q n → IsEntry roots p i e → HasAll at (leaves_by e.act)
 
--- it has the home of each slot that was handed out
+-- the table has the home of each slot that was handed out
 pub record KnowsHomes (roots : Journals) (at : ℕ → Option Home) : Type 0 where
   pub homes : HasHomes roots at
   pub all : (p i : ℕ) (e : RootEntry) → IsEntry roots p i e → HasAll at (leaves_by e.act)
 
--- what the table has of a slot; names start below 2^32
+-- the home that the table has for a slot, and none for a slot that starts at 2^32 or above
 abbrev pub home_at : (ℕ → Option Home) → SlotName → Option Home
 home_at at s = if nat_lt s.start 4294967296 then at (name_key s) else None
 

@@ -6,7 +6,7 @@ use Rattle.pa_record.specs.declared.root.RootAct.TheVariants.{Purge}
 use Rattle.pa_rules.specs.Roots.{Journals, journal_at}
 use Rattle.pa_rules.specs.Caches.{acts_of}
 
--- what the entry at an index did; a purge stands in for an index past the end
+-- the entry that stands in for one past the end of a journal: a purge on line 0
 abbrev pub no_entry : RootEntry
 no_entry = record { line = 0; act = Purge }
 
@@ -23,11 +23,11 @@ pub record ArePlacesOf (journal : List RootEntry) (places : List ℕ) (acts : Li
   pub among : All (λ j. j < length journal) places
   pub did : map (did_at journal) places ≡ acts
 
--- for each line below a number, the indices of its entries in the journal; none if the table doesn't reach the line
+-- for each line below a number, the indices of its entries in the journal, and none past the end of the table
 abbrev pub AreOnLines : List RootEntry → ℕ → List (List ℕ) → Type 0
 AreOnLines journal count table = (l : ℕ) → l < count → ArePlacesOf journal (slice_index_or table l []) (acts_on journal l)
 
--- the same for each journal
+-- for each journal, the tables have the indices of its entries on each line below a number
 pub record HaveLines (roots : List (List RootEntry)) (count : ℕ) (tables : List (List (List ℕ))) : Type 0 where
   pub many : length tables ≡ length roots
   pub each : (p : ℕ) → p < length roots → AreOnLines (journal_at roots p) count (slice_index_or tables p [])

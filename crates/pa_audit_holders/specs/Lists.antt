@@ -9,15 +9,15 @@ use Rattle.pa_rules.specs.Limits.{list_count}
 use Rattle.pa_rules.specs.Caches.{Cache, Caches, listed_slots}
 use Rattle.pa_rules.specs.Report.{listed_bytes}
 
--- the lists of one thread, 59 of each partition; one that isn't there is empty
+-- the lists of one thread, 59 of each partition, and an empty one past the end
 abbrev pub cache_in : List (List Numbered) → Cache
 cache_in lists p class = if nat_lt class class_count then slice_index_or lists (class_count * p + class) [] else []
 
--- those of all threads
+-- the lists of all threads, and empty ones past the last thread
 abbrev pub caches_in : List (List (List Numbered)) → Caches
 caches_in threads t = cache_in (slice_index_or threads t [])
 
--- no slots
+-- the tally of no slots
 abbrev pub no_slots : Tally
 no_slots = record { slots = 0; bytes = 0 }
 
@@ -42,7 +42,7 @@ changed_by sum class before after = record {
   bytes = sum.bytes - slot_of class * before + slot_of class * after;
 }
 
--- the tally counts a list of this class with that many slots; no number is great
+-- The tally counts a list of this class with `before` slots, and all numbers are small enough for a change to `after` slots.
 pub record HasPart (sum : Tally) (class before after : ℕ) : Type 0 where
   pub slots : before ≤ sum.slots
   pub bytes : slot_of class * before ≤ sum.bytes

@@ -1,9 +1,9 @@
 -- Who holds a free slot at a number, as tables have it while the journals are gone through.
 use Rattle.std.specs.Prelude.{◌≡◌, ℕ, ◌+◌, ◌<◌, ◌⊎◌, Bool, true, false, List, [], ◌∷◌, ◌++◌, filter, Option, Some, None}
-use Rattle.pa_machine.specs.declared.word.SlotName.{SlotName}
-use Rattle.pa_machine.specs.declared.word.Step.{Step}
-use Rattle.pa_machine.specs.Count.{number_of}
-use Rattle.pa_machine.specs.Run.{Mark, IsReturning}
+use Rattle.pa_slot.specs.declared.word.SlotName.{SlotName}
+use Rattle.pa_slot.specs.declared.word.Step.{Step}
+use Rattle.pa_slot.specs.Count.{number_of}
+use Rattle.pa_slot.specs.Run.{Mark, IsReturning}
 use Rattle.pa_record.specs.declared.numbered.Numbered.{Numbered}
 use Rattle.pa_record.specs.declared.root.RootAct.{RootAct}
 use Rattle.pa_record.specs.declared.root.RootAct.TheVariants.{Fill, Map, Full, Give, Unmap, Purge}
@@ -32,7 +32,7 @@ pub record HasReturnsTo (ps : List Played) (j : ℕ) (at : ℕ → Option ℕ) :
   pub hit : (s : SlotName) (k t : ℕ) → IsSized s k → at (word_key s k) ≡ Some t → (x : Played) × IsReturnedBy ps s k x × (t ≡ x.thread)
   pub miss : (s : SlotName) (k i : ℕ) (x : Played) → IsSized s k → at (word_key s k) ≡ None → i < j → IsRecord ps i x → HasReturned x s k → ⊥
 
--- so by all records
+-- the table has the thread that returned each slot at each number, by all records
 pub record HasReturns (ps : List Played) (at : ℕ → Option ℕ) : Type 0 where
   pub hit : (s : SlotName) (k t : ℕ) → IsSized s k → at (word_key s k) ≡ Some t → (x : Played) × IsReturnedBy ps s k x × (t ≡ x.thread)
   pub miss : (s : SlotName) (k : ℕ) (x : Played) → IsSized s k → at (word_key s k) ≡ None → IsReturnedBy ps s k x → ⊥
@@ -45,7 +45,7 @@ IsThreadsLine ps line thread = (x : Played) × IsOfLine ps line x × (thread ≡
 abbrev pub HolderNow : List Played → List Move → SlotName → ℕ → Holder → Type 0
 HolderNow ps own s k last = (h : Holder) × IsFirstHolder ps s k h × HolderAfter ps h own last
 
--- the owner is that holder: the root or a thread; it is nobody if the slot has no holder there
+-- The owner is the root or the thread that holds the slot at the number after its moves, and nobody if no one holds it there.
 abbrev pub TellsOwner : List Played → List Move → SlotName → ℕ → Owner → Type 0
 TellsOwner ps own s k Nobody = (last : Holder) → HolderNow ps own s k last → ⊥
 TellsOwner ps own s k Root = HolderNow ps own s k InRoot
@@ -57,7 +57,7 @@ pub record HasOwners (ps : List Played) (ms : List Move) (at : ℕ → Option Ow
       → TellsOwner ps (filter (is_move_of s k) ms) s k o × (filter (is_move_of s k) ms ≡ [] → ⊥)
   pub miss : (s : SlotName) (k : ℕ) → IsSized s k → at (word_key s k) ≡ None → filter (is_move_of s k) ms ≡ []
 
--- the move of a slot on a line
+-- the way of a slot on this course: out of the root, or back to it
 abbrev pub way_of : Course → Way
 way_of courses.Out = Out
 way_of courses.Back = Back
@@ -75,23 +75,22 @@ AreDirect (Full class asked) xs = Unit {0}
 AreDirect (Give slots) xs = Unit {0}
 AreDirect Purge xs = Unit {0}
 
--- the holder is the one that the move needs, after these
+-- after these moves the slot has the holder that the next move needs
 abbrev pub MoveFits : List Played → List Move → Move → Type 0
 MoveFits ps ms m =
     (x : Played) × IsOfLine ps m.line x × HolderNow ps (filter (is_move_of m.slot m.number) ms) m.slot m.number (needed_by m.way x)
 
--- the same for one move after the other
+-- each of the moves fits, one after the other, after those that were made before
 abbrev pub AllFit : List Played → List Move → List Move → Type 0
 AllFit ps ms [] = Unit {0}
 AllFit ps ms (m ∷ rest) = MoveFits ps ms m × AllFit ps (ms ++ m ∷ []) rest
 
--- The owner that a move makes, and that it is the one that the move needs, on a line of this thread, or of none. If the
--- slot isn't free at the number it never is, and no move on a line of no record finds a holder.
+-- the owner after a move on a line of this thread: the thread if the slot goes out, the root if it comes back
 abbrev pub owner_after : Course → ℕ → Owner
 owner_after courses.Out thread = Thread thread
 owner_after courses.Back thread = Root
 
--- the owner after a move; nobody if there was none before it, or if its line is of no record
+-- the owner after a move, and nobody if there was none before it, or if its line is of no record
 abbrev pub made_owner : Owner → Course → Option ℕ → Owner
 made_owner Nobody course thread = Nobody
 made_owner Root course None = Nobody
@@ -104,7 +103,7 @@ abbrev pub needed_owner : Course → ℕ → Owner
 needed_owner courses.Out thread = Root
 needed_owner courses.Back thread = Thread thread
 
--- this is the owner that a move needs; no owner is if its line is of no record
+-- this is the owner that a move needs, which no owner is if the move's line is of no record
 abbrev pub IsNeeded : Owner → Course → Option ℕ → Type 0
 IsNeeded held course None = ⊥
 IsNeeded held course (Some thread) = held ≡ needed_owner course thread
@@ -129,12 +128,12 @@ pub record AreOfRuns (ps : List Played) : Type 0 where
 
 -- ---- journals, entry by entry
 
--- of the first places: each meets it, or this is the first that doesn't
+-- each of the first n places meets what is required, or this is the first that doesn't
 abbrev pub FirstSoFar : (ℕ → Type 0) → ℕ → Option ℕ → Type 0
 FirstSoFar P n None = (j : ℕ) → j < n → P j
 FirstSoFar P n (Some i) = (P i → ⊥) × ((j : ℕ) → j < i → P j)
 
--- the first place that doesn't fit, when the next one does or doesn't
+-- the first place that doesn't fit, once the next one is known to fit or not
 abbrev pub first_place : Option ℕ → ℕ → Bool → Option ℕ
 first_place (Some i) at fits = Some i
 first_place None at true = None

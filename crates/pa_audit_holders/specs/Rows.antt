@@ -9,12 +9,12 @@ use Rattle.pa_rules.specs.declared.played.Played.{Played}
 use Rattle.pa_rules.specs.Roots.{Journals}
 use Rattle.pa_rules.specs.Caches.{Cache, CacheRow, Caches, FilledFirst, FrontIs, OnlyActs, SameLists, gives, kept, spilled, with_cache, with_list}
 
--- the row leads to these lists; or it leads to none
+-- With true, the row leads to these lists. With false, it leads to none.
 abbrev pub TellsRow : (Cache → Type 0) → Cache → Bool → Type 0
 TellsRow Row after true = Row after
 TellsRow Row after false = (next : Cache) → Row next → ⊥
 
--- this is the list that is required; or there is none
+-- With true, this is the list that is required. With false, there is none.
 abbrev pub TellsFilled : (List Numbered → Type 0) → List Numbered → Bool → Type 0
 TellsFilled IsAsked xs true = IsAsked xs
 TellsFilled IsAsked xs false = (ys : List Numbered) → IsAsked ys → ⊥
@@ -46,7 +46,7 @@ NamesPartition ops.Purge = Unit {0}
 abbrev pub IsOfThreads : Played → Type 0
 IsOfThreads x = (x.thread < most_threads) × NamesPartition x.op
 
--- the record's row leads from these lists to those; or it leads to none
+-- With true, the record's row leads from these lists to those. With false, it leads to none.
 pub record TellsNext (partitions : ℕ) (roots : Journals) (x : Played) (all after : Caches) (b : Bool) : Type 0 where
   pub fits : b ≡ true → (next : Cache) × CacheRow partitions roots x x.answer (all x.thread) next × (after ≡ with_cache all x.thread next)
   pub misfits : b ≡ false → (next : Cache) → CacheRow partitions roots x x.answer (all x.thread) next → ⊥

@@ -6,8 +6,8 @@ ghost use Rattle.pa_rules.specs.Caches.{unmap_at};
 
 use pa_buckets::Class;
 use pa_dense::Act;
-use pa_machine::SlotName;
 use pa_record::Numbered;
+use pa_slot::SlotName;
 
 // The slots that the entry filled from the class.
 pub(crate) fn filled_by(act: Act<'_>, class: Class) -> Option<&[Numbered]>
@@ -41,7 +41,7 @@ pub(crate) fn maps(act: Act<'_>, slot: SlotName) -> bool
     }
 }
 
-// Whether the entry found no room for a slot of the class; for a direct map.
+// Whether the entry found no room for a slot of the class.
 pub(crate) fn lacks_class(act: Act<'_>, class: Class) -> bool
     ensures { IsTrue result ↔ ((asked : ℕ) × (act_of act.entry ≡ acts.Full (Some class) asked)) }
 {
@@ -54,6 +54,7 @@ pub(crate) fn lacks_class(act: Act<'_>, class: Class) -> bool
     }
 }
 
+// Whether the entry found no room for a direct map.
 pub(crate) fn lacks_map(act: Act<'_>) -> bool
     ensures { IsTrue result ↔ ((asked : ℕ) × (act_of act.entry ≡ acts.Full None asked)) }
 {

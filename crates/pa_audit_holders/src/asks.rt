@@ -5,7 +5,7 @@ ghost use Rattle.pa_rules.specs.Roots.{AsksForClass, AsksForMap};
 
 use pa_buckets::{Class, class_of, raw_of};
 use pa_direct::{GREATEST_IN_CLASS, GREATEST_SIZE};
-use pa_machine::Step;
+use pa_slot::Step;
 use pa_trace::Op;
 
 // A partition, and a class of its slots.

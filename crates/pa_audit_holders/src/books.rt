@@ -2,7 +2,7 @@ ghost use Rattle.std.specs.Prelude.{◌≡◌, ℕ, ◌+◌, ◌<◌, ◌≤◌,
 ghost use Rattle.pa_trace.specs.Limits.{most_partitions, most_threads};
 ghost use Rattle.pa_audit_records.specs.ByKeys.{value_at};
 ghost use Rattle.pa_dense.specs.Act.{act_of};
-ghost use Rattle.pa_machine.specs.declared.word.SlotName.{SlotName as Name};
+ghost use Rattle.pa_slot.specs.declared.word.SlotName.{SlotName as Name};
 ghost use Rattle.pa_record.specs.declared.root.RootAct.{RootAct};
 ghost use Rattle.pa_rules.specs.Caches.{NoActs, OnlyActs, acts_of};
 ghost use Rattle.pa_rules.specs.RecordDemands.{IsRecord};
@@ -16,9 +16,9 @@ use crate::homes::{Home, key};
 use crate::lines::{ByLine, journal_of, lines_below, lines_of};
 use pa_audit_records::ByKey;
 use pa_dense::{Act, DenseEntry, DenseJournal};
-use pa_machine::{OutOfMemory, SlotName};
 use pa_record::Answer;
 use pa_rules::Played;
+use pa_slot::{OutOfMemory, SlotName};
 use pa_trace::Op;
 use std::alloc::Global;
 use std::marker::Model;
@@ -195,7 +195,7 @@ impl<'a> Page<'a> {
         self.books.home_of(slot)
     }
 
-    // The entries of a partition's journal; none if it isn't there.
+    // The entries of a partition's journal, and none if it has no journal.
     pub(crate) fn journal(&self, partition: u32) -> &[DenseEntry]
         ensures { result.now ≡ journal_at self.now.roots partition }
     {

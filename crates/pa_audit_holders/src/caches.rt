@@ -14,22 +14,22 @@ use crate::books::{Books, Page};
 use crate::cached::all_listed;
 use crate::lists::ThreadLists;
 use crate::rows::plays;
-use pa_machine::OutOfMemory;
 use pa_record::Tally;
+use pa_slot::OutOfMemory;
 use pa_trace::{MOST_PARTITIONS, MOST_THREADS};
 use std::alloc::Global;
 
-/// What the walk over the records found: the first that doesn't fit; and, if each fits, what the threads' lists had of each
-/// of four partitions at the end of each phase.
+/// What the walk over the records found: the first that doesn't fit, and, if each fits, what the threads' lists had of each of four
+/// partitions at the end of each phase.
 #[derive(Drop)]
 pub struct CachesFound {
     pub misfit: Option<u32>,
     pub cached: Vec<[Tally; MOST_PARTITIONS as usize]>,
 }
 
-/// The index of the first record whose line's entries, or whose answer, aren't those that its thread's lists of free slots
-/// require; none if each is. Beside it, if there is none, what the lists of the first threads had at the end of each phase:
-/// the records of the first phases end at these indices.
+/// The index of the first record whose line's entries, or whose answer, aren't those that its thread's lists of free slots require. If
+/// there is none, what the lists of the first threads had at the end of each phase is beside it: the records of the first phases end at
+/// these indices.
 pub fn caches_meet(
     alloc: Global,
     books: &Books<'_>,

@@ -12,8 +12,8 @@ use pa_record::Numbered;
 // The most slots that go back to a root at once.
 const BATCH: usize = 16;
 
-// Of the entries at these indices, from one of them on, those that give these slots back, 16 each and the rest in the last:
-// the position after them. None if they don't.
+// The position after those of the entries at these indices that, from position `at` on, give these slots back, 16 each and the rest in
+// the last. None if they don't.
 pub(crate) fn gives_from(
     journal: &[DenseEntry],
     places: &[u32],

@@ -10,8 +10,8 @@ ghost use Rattle.pa_audit_holders.specs.Gone.{HasGone, IsUnmapped, NoneGone};
 use crate::homes::key;
 use pa_audit_records::ByKey;
 use pa_dense::{Act, DenseEntry};
-use pa_machine::{OutOfMemory, SlotName};
 use pa_record::Numbered;
+use pa_slot::{OutOfMemory, SlotName};
 
 // Whether the table has the slot.
 fn has(gone: &ByKey<u64>, slot: SlotName) -> bool

@@ -1,7 +1,7 @@
 ghost use Rattle.std.specs.Prelude.{◌≡◌, ℕ, ◌+◌, ◌<◌, ◌^◌, ◌↔◌, IsSome, IsTrue, length};
 ghost use Rattle.pa_audit_records.specs.ByKeys.{value_at};
 ghost use Rattle.std.specs.Option.{option_map};
-ghost use Rattle.pa_machine.specs.Count.{number_of};
+ghost use Rattle.pa_slot.specs.Count.{number_of};
 ghost use Rattle.pa_rules.specs.declared.verdict.Place.TheVariants as places;
 ghost use Rattle.pa_rules.specs.Roots.{journal_at};
 ghost use Rattle.pa_rules.specs.Played.{mark_of};
@@ -17,9 +17,9 @@ use crate::owners::{Owner, first_owner, is_owner, key_at};
 use crate::tables::Table;
 use pa_audit_records::ByKey;
 use pa_dense::DenseJournal;
-use pa_machine::number;
 use pa_record::{Answer, Numbered, Seen};
 use pa_rules::Played;
+use pa_slot::number;
 
 // The slot that the record reports, at the number that it found.
 fn told_slot(told: Played) -> Option<Numbered>
@@ -50,7 +50,7 @@ fn numbered(seen: Seen) -> Numbered
     }
 }
 
-// Who holds a slot at a number after all journals; nobody if two of them name it there.
+// Who holds a slot at a number after all journals, and nobody if two of them name it there.
 fn owner_of(
     records: &[Played],
     firsts: &ByKey<u32>,

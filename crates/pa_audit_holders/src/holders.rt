@@ -10,13 +10,13 @@ use crate::owners::returns_of;
 use crate::tables::walk;
 use pa_audit_records::Salt;
 use pa_dense::DenseJournal;
-use pa_machine::OutOfMemory;
 use pa_rules::{Place, Played};
+use pa_slot::OutOfMemory;
 use std::alloc::Global;
 
-/// The first place that doesn't meet what the clause `holders` asks of it: a record that made a slot which its thread doesn't
-/// have, or found a number at which its slot was gone for good; an entry of a journal that names a slot at a number at which it
-/// isn't free, whose holder isn't the one that the entry needs, or which was gone for good.
+/// The first place that doesn't meet what the clause `holders` asks of it. It is a record that made a slot which its thread doesn't have,
+/// or found a number at which its slot was gone for good. Or it is an entry of a journal that names a slot at a number at which it isn't
+/// free, that needs another holder than the slot has, or that names a slot which was gone for good.
 pub fn holders_meet(
     alloc: Global,
     salt: Salt,
@@ -46,7 +46,7 @@ pub fn holders_meet(
     }
 }
 
-// The first entry, when the next partition's journal has this first one.
+// The first entry that doesn't fit, once the next partition's journal has this first one.
 fn first_entry(misfit: Option<(u32, u32)>, partition: u32, at: Option<u32>) -> Option<(u32, u32)>
     ensures { result ≡ first_in misfit partition at }
 {

@@ -1,6 +1,6 @@
 ghost use Rattle.std.specs.Prelude.{◌≡◌, ℕ, ◌+◌, ◌*◌, ◌<◌, ◌^◌, [], ◌∷◌, Contains, IfOk, OnErr, OnOk, length};
 ghost use Rattle.pa_audit_records.specs.ByKeys.{value_at};
-ghost use Rattle.pa_machine.specs.declared.word.SlotName.{SlotName as Name};
+ghost use Rattle.pa_slot.specs.declared.word.SlotName.{SlotName as Name};
 ghost use Rattle.pa_record.specs.Laws.{leaves_by};
 ghost use Rattle.pa_record.specs.Root.{names};
 ghost use Rattle.pa_rules.specs.Roots.{journal_at};
@@ -10,12 +10,12 @@ ghost use Rattle.pa_audit_holders.specs.Homes.{KnowsHomes, EntersSlots, HasAbove
 use pa_audit_records::{ByKey, Salt};
 use pa_buckets::slot_size;
 use pa_dense::{Act, DenseEntry, DenseJournal};
-use pa_machine::{OutOfMemory, SlotName};
 use pa_record::Numbered;
+use pa_slot::{OutOfMemory, SlotName};
 use std::alloc::Global;
 
-/// The owner of a free slot: the lists of its partition and class, by the class's number, or, if it has no class, the root of its
-/// partition; and the slot's bytes.
+/// The owner of a free slot and the slot's bytes. The owner is the lists of its partition and class, by the class's number, or, if it has
+/// no class, the root of its partition.
 #[derive(Clone, Copy)]
 pub struct Home {
     pub partition: u32,

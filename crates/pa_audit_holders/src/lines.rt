@@ -3,8 +3,8 @@ ghost use Rattle.pa_rules.specs.Roots.{journal_at};
 ghost use Rattle.pa_audit_holders.specs.Lines.{AreOnLines, HaveLines};
 
 use pa_dense::{DenseEntry, DenseJournal};
-use pa_machine::OutOfMemory;
 use pa_rules::Played;
+use pa_slot::OutOfMemory;
 use smallvec::SmallVec;
 use std::alloc::Global;
 use std::marker::Model;
@@ -85,8 +85,7 @@ impl ByLine {
         Ok(())
     }
 
-    // The indices of the entries on those of the journal's lines that are below this number. A journal of no entries needs no
-    // memory for its lines.
+    // The indices of the entries of each line that is below this number. A journal of no entries needs no memory for its lines.
     #[tactic(auto, using(crate::proofs::Indexing::no_lines))]
     fn of(alloc: Global, count: usize, journal: &DenseJournal) -> Result<ByLine, OutOfMemory>
         requires few { length journal.now < 4294967296 }
@@ -126,7 +125,7 @@ impl ByLine {
         Ok(by_line)
     }
 
-    // The indices of the entries of a line; none if there is no such line.
+    // The indices of the entries of a line, and none if there is no such line.
     pub(crate) fn places(&self, line: u32) -> &[u32]
         ensures { result.now ≡ slice_index_or self.now line [] }
     {
@@ -165,7 +164,7 @@ pub(crate) fn lines_of(
     Ok(tables)
 }
 
-// The entries of a partition's journal; none if it isn't there.
+// The entries of a partition's journal, and none if it has no journal.
 pub(crate) fn journal_of(roots: &[DenseJournal], partition: u32) -> &[DenseEntry]
     ensures { result.now ≡ journal_at roots.now partition }
 {

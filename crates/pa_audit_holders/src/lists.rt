@@ -5,9 +5,9 @@ ghost use Rattle.pa_rules.specs.Caches.{listed_slots, with_list};
 ghost use Rattle.pa_audit_holders.specs.Lists.{AreSummed, HasPart, IsListedBy, cache_in, changed_by, no_slots};
 
 use pa_buckets::{Class, slot_size};
-use pa_machine::OutOfMemory;
 use pa_record::{Numbered, Tally};
 use pa_rules::LISTS;
+use pa_slot::OutOfMemory;
 use pa_trace::MOST_PARTITIONS;
 use std::alloc::Global;
 use std::marker::Model;
@@ -137,7 +137,7 @@ impl Model for ThreadLists {
 }
 
 impl ThreadLists {
-    // All empty.
+    // Lists that are all empty.
     pub(crate) fn new(alloc: Global) -> Result<ThreadLists, OutOfMemory>
         ensures { IfOk result (λ t. cache_in t ≡ (λ p class. [])) }
     {
@@ -151,7 +151,7 @@ impl ThreadLists {
         })
     }
 
-    // Empties all.
+    // Empties all lists.
     pub(crate) fn clear(&mut self)
         ensures { cache_in self.new ≡ (λ p class. []) }
     {

@@ -10,13 +10,13 @@ ghost use Rattle.pa_audit_holders.specs.Owners.{AllFit, AreDirect, AreOfRuns, Ha
 use crate::owners::{Course, Mover, Owner, move_slot};
 use pa_audit_records::{ByKey, record_near};
 use pa_dense::Act;
-use pa_machine::OutOfMemory;
 use pa_record::Numbered;
 use pa_rules::Played;
+use pa_slot::OutOfMemory;
 use std::alloc::Global;
 
-// What is found of a line: the thread of its record, if there is one; and how far a line is above its record's index, as
-// it was found last.
+// What is found of a line: the thread of its record, if there is one, and how far a line is above its record's index, as it was found
+// last.
 #[derive(Clone, Copy)]
 pub(crate) struct Found {
     pub(crate) thread: Option<u32>,
@@ -56,7 +56,7 @@ pub(crate) struct Moves<'a> {
     pub(crate) slots: &'a [Numbered],
 }
 
-// The slot of a direct map that an entry of this act moves, at its number; for another act any.
+// The slot of a direct map that an entry of this act moves, at its number. For another act it is any slot.
 pub(crate) fn direct_slots(act: Act<'_>) -> [Numbered; 1]
     ensures { AreDirect (act_of act.entry) result }
 {
@@ -85,7 +85,7 @@ fn back(slots: &[Numbered]) -> Moves<'_>
     }
 }
 
-// The slots that an entry of this act moves; a direct map's is the one beside the act.
+// The slots that an entry of this act moves. A direct map's is the one beside the act.
 pub(crate) fn moves_of<'a>(act: Act<'a>, direct: &'a [Numbered]) -> Moves<'a>
     requires { AreDirect (act_of act) direct.now }
     ensures { (line : ℕ) → moves_by line (act_of act.entry) ≡ map (move_on line result.course) result.slots.now }

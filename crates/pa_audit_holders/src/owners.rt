@@ -1,6 +1,6 @@
 ghost use Rattle.std.specs.Prelude.{◌≡◌, ℕ, ◌+◌, ◌*◌, ◌<◌, ◌↔◌, [], ◌∷◌, ◌++◌, IfNone, IfOk, IfSome, IsTrue, List, None, OnErr, OnOk, Some, filter};
 ghost use Rattle.pa_audit_records.specs.ByKeys.{value_at};
-ghost use Rattle.pa_machine.specs.declared.word.SlotName.{SlotName as Name};
+ghost use Rattle.pa_slot.specs.declared.word.SlotName.{SlotName as Name};
 ghost use Rattle.pa_rules.specs.Holders.{Move, is_move_of};
 ghost use Rattle.pa_audit_records.specs.Keys.{word_key};
 ghost use Rattle.pa_audit_records.specs.Marks.{IsSized};
@@ -8,12 +8,12 @@ ghost use Rattle.pa_audit_holders.specs.Owners.{AreOfRuns, EntersReturn, MoveFit
 
 use crate::asks::step_of;
 use pa_audit_records::{ByKey, Salt};
-use pa_machine::{OutOfMemory, SlotName, number, returns};
 use pa_record::{Answer, Numbered};
 use pa_rules::Played;
+use pa_slot::{OutOfMemory, SlotName, number, returns};
 use std::alloc::Global;
 
-// Who holds a free slot at a number: the root, or a thread; nobody if it isn't free there.
+// Who holds a free slot at a number: the root or a thread, or nobody if it isn't free there.
 #[derive(Clone, Copy, Debug, PartialEq, Eq)]
 pub(crate) enum Owner {
     Nobody,
@@ -107,7 +107,7 @@ pub(crate) fn first_owner(records: &[Played], firsts: &ByKey<u32>, slot: Numbere
     }
 }
 
-// Who holds it after the moves so far.
+// Who holds a slot at a number after the moves so far.
 fn owner_now(
     records: &[Played],
     firsts: &ByKey<u32>,
@@ -124,7 +124,7 @@ fn owner_now(
     }
 }
 
-// The owner that a move makes, on a line of this thread, or of none.
+// The owner after a move on a line of this thread, or of none.
 fn made(held: Owner, course: Course, thread: Option<u32>) -> Owner
     ensures { result ≡ made_owner held course thread }
 {
@@ -157,7 +157,7 @@ pub(crate) fn is_owner(a: Owner, b: Owner) -> bool
     }
 }
 
-// Whether it is the owner that the move needs.
+// Whether this is the owner that the move needs.
 fn is_needed(held: Owner, course: Course, thread: Option<u32>) -> bool
     ensures { IsTrue result ↔ IsNeeded held course thread }
 {

@@ -13,8 +13,8 @@ use crate::gives::all_give;
 use crate::homes::Home;
 use crate::lists::{FreeSlots, ThreadLists};
 use pa_buckets::{Class, cache_limit};
-use pa_machine::{OutOfMemory, SlotName, Step, number, returns};
 use pa_record::{Numbered, Seen};
+use pa_slot::{OutOfMemory, SlotName, Step, number, returns};
 use std::alloc::Global;
 
 // An op was done: its step returned the slot, or the line has no entries.

@@ -1,5 +1,5 @@
 ghost use Rattle.std.specs.Prelude.{◌≡◌, ℕ, ◌+◌, ◌<◌, ◌≤◌, ◌^◌, ◌↔◌, [], ◌∷◌, IfNone, IfOk, IfSome, IsTrue, List, OnOk, drop, length};
-ghost use Rattle.pa_machine.specs.Run.{IsReturning};
+ghost use Rattle.pa_slot.specs.Run.{IsReturning};
 ghost use Rattle.pa_record.specs.declared.numbered.Numbered.{Numbered as Listed};
 ghost use Rattle.pa_record.specs.declared.root.RootAct.TheVariants as acts;
 ghost use Rattle.pa_trace.specs.Limits.{most_partitions};
@@ -15,8 +15,8 @@ use crate::books::Page;
 use crate::lists::{FreeSlots, ThreadLists};
 use crate::purges::purged;
 use crate::returns::done;
-use pa_machine::{OutOfMemory, SlotName, number};
 use pa_record::{Answer, Numbered, Seen};
+use pa_slot::{OutOfMemory, SlotName, number};
 use std::alloc::Global;
 
 // Whether a record's row leads on from its thread's lists. If it does, they are the next ones.
@@ -168,7 +168,7 @@ fn is_class_full(page: &Page<'_>, bin: &Bin, list: &[Numbered]) -> bool
     list.is_empty() && lacks_room(page, bin)
 }
 
-// Whether the line's only entry found no room for a slot of this partition and class; for a direct map.
+// Whether the line's only entry found no room for a slot of this partition and class.
 fn lacks_room(page: &Page<'_>, bin: &Bin) -> bool
     ensures { IsTrue result ↔
         ((asked : ℕ)
@@ -180,6 +180,7 @@ fn lacks_room(page: &Page<'_>, bin: &Bin) -> bool
     }
 }
 
+// Whether the line's only entry found no room for a direct map of this partition.
 fn is_map_full(page: &Page<'_>, partition: u32) -> bool
     ensures { IsTrue result ↔
         ((asked : ℕ) × OnlyActs (journal_at page.now.roots) page.now.told.line partition (acts.Full None asked ∷ [])) }

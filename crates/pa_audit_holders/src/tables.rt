@@ -10,12 +10,12 @@ use crate::moves::{both, direct_slots, move_slots, moves_of, thread_on};
 use crate::owners::{Mover, Owner};
 use pa_audit_records::{ByKey, Salt};
 use pa_dense::{DenseEntry, DenseJournal};
-use pa_machine::OutOfMemory;
 use pa_rules::Played;
+use pa_slot::OutOfMemory;
 use std::alloc::Global;
 
-// What is known of a journal's slots: the owner of each at each number that an entry names, and the direct maps that went
-// back, with the least number.
+// What is known of a journal's slots: the owner of each at each number that an entry names, and the least number at which each direct map
+// went back.
 #[derive(Drop)]
 pub(crate) struct Table {
     pub(crate) owners: ByKey<Owner>,
@@ -65,7 +65,7 @@ fn play(
     Ok(both(fit, stays))
 }
 
-// The first place so far that doesn't fit, when the next one does or doesn't.
+// The first place so far that doesn't fit, once the next one is known to fit or not.
 fn first_misfit(first: Option<u32>, at: u32, fits: bool) -> Option<u32>
     ensures { result ≡ first_place first at fits }
 {

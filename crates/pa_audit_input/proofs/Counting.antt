@@ -66,7 +66,7 @@ items_count r =
     let j = length-map r.report.items (λ l. items.Report l) in
     omega (arith, a, b, c, d, e, f, g, h, i, j)
 
--- so its lines are no more than its bytes
+-- the text of a run has no more lines than bytes
 pub run_lines : (r : Run) (bytes : List ℕ) → IsRunText r bytes → report_at r + length r.report.items ≤ length bytes
 run_lines r bytes h =
     let lines : lines_of bytes ≡ map item_text (items_of r) = ap lines_of (h.text ∙ items_text r) ∙ items_lines (items_of r) in

@@ -205,7 +205,7 @@ shared_front : (e : TraceFault) (bytes front p z w : List ℕ) → length p ≡ 
 shared_front e bytes front p z w full first second h =
     subst (IsFirstFault e) (sym second) (long_fault e p w z full (subst (IsFirstFault e) first h))
 
--- so it has the fault of that text
+-- the part before `run 1` has the fault that the first bytes have
 front_fault : (e : TraceFault) (bytes more front back : List ℕ) → length bytes ≡ most_audited + 1 → IsFirstFault e bytes
     → AllByRecursion (λ line. line ≡ run_line → ⊥) (lines_of bytes) → IsParted front back (bytes ++ more) → IsFirstFault e front
 front_fault e bytes more front back full h none parted =

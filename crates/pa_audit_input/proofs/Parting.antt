@@ -76,7 +76,7 @@ some_parting bytes =
 
 -- ---- the first faulty line of the run's part
 
--- there is one at most
+-- the lines of a run have at most one first fault
 one_of_run : (lines : List (List ℕ)) (n before : ℕ) (last : Option Item) (d e : TraceFault) → IsFirstOfRun n before last lines d
     → IsFirstOfRun n before last lines e → d ≡ e
 one_of_run [] n before last d e h k = h.0 ∙ sym k.0
@@ -115,7 +115,7 @@ no_fault_of_run r back n before e h short first =
 
 -- ---- the first faulty line of all
 
--- of other parts of the same bytes
+-- the first fault of the bytes is that of their parts
 fault_of_parts : (e : TraceFault) (front back bytes : List ℕ) → IsParted front back bytes → IsFirstAuditFault e bytes → IsFirstOfParts e front back
 fault_of_parts e front back bytes parted h =
     let same = one_parting h.front h.back front back bytes h.parted parted in

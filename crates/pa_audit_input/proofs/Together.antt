@@ -94,5 +94,6 @@ together t r front back input printed legal short = record {
   legal = legal;
 }
 
+-- a legal run of a trace is a legal input
 pub legal_input : (t : Trace) (r : Run) (bytes : List ℕ) → IsLegalOf t r bytes → IsLegalInput bytes
 legal_input t r bytes h = record { trace = t; run = r; lines = h.lines; input = h.input; legal = h.legal }

@@ -23,7 +23,7 @@ pub record IsBehindLine (bytes after : List ℕ) : Type 0 where
   pub parts : bytes ≡ line ++ after
   pub lines : lines_of bytes ≡ line ∷ lines_of after
 
--- the last bytes are the last line of these, and the first the lines before it, whose number is given
+-- the last bytes are the last line of these, and the first ones are the lines before it, of which there are that many
 pub record IsLastCut (bytes before last : List ℕ) (lines : ℕ) : Type 0 where
   pub parts : bytes ≡ before ++ last
   pub whole : lines_of bytes ≡ lines_of before ++ last ∷ []

@@ -27,7 +27,7 @@ pub record IsLegalInput (bytes : List ℕ) : Type 0 where
   pub input : IsAudited trace run lines bytes
   pub legal : IsLegal trace run
 
--- the bytes are a trace followed by a run; this clause is the first that fails, first at line n of the bytes
+-- the bytes are a trace followed by a run, of which this clause is the first that fails, first at line n of the bytes
 pub record IsRefutedInput (clause : Clause) (n : ℕ) (bytes : List ℕ) : Type 0 where
   pub trace : Trace
   pub run : Run
@@ -42,7 +42,7 @@ abbrev pub IsVerdictOn : Verdict → List ℕ → Type 0
 IsVerdictOn Legal bytes = IsLegalInput bytes
 IsVerdictOn (Broken clause n) bytes = IsRefutedInput clause n bytes
 
--- the same, with the trace and the run of legal bytes
+-- the judgement on the bytes, with the trace and the run if these are legal
 abbrev pub IsJudgementOn : Judgement → List ℕ → Type 0
 IsJudgementOn (judgements.Legal trace run) bytes = IsLegalOf trace run bytes
 IsJudgementOn (judgements.Broken clause n) bytes = IsRefutedInput clause n bytes

@@ -16,11 +16,11 @@ pub enum Judgement {
     Broken(Clause, u32),
 }
 
-/// The verdict on the bytes: they are the text of a trace and after it, from the first line that is `run 1` on, that of a run.
-/// Lines and bytes count from 1 in the whole input. `BadLine(n)` and `Limit(n)` name the first faulty line. In the trace's part
-/// they are those of `read_trace`. After it a line is faulty by `Limit` if it contains byte 134,217,729, else by `BadLine` if
-/// it isn't the line of an item that may come there; n is one more than the number of lines if no line is `run 1` or the end is
-/// missing. Of more than 134,217,728 bytes the first 134,217,729 are enough: what follows them changes no answer.
+/// The verdict on the bytes: they are the text of a trace and after it, from the first line that is `run 1` on, that of a run. Lines and
+/// bytes count from 1 in the whole input. `BadLine(n)` and `Limit(n)` name the first faulty line. In the trace's part they are those of
+/// `read_trace`. After it a line is faulty by `Limit` if it contains byte 134,217,729, else by `BadLine` if it isn't the line of an item
+/// that may come there. If no line is `run 1` or the end is missing, n is one more than the number of lines. Of more than 134,217,728
+/// bytes the first 134,217,729 are enough: what follows them changes no answer.
 pub fn judge(alloc: Global, bytes: &[u8]) -> Result<Verdict, TraceFault>
     requires { length bytes.now ≤ 134217729 }
     ensures verdict { IfOk result (λ v. IsVerdictOn v bytes.now) }
@@ -33,7 +33,8 @@ pub fn judge(alloc: Global, bytes: &[u8]) -> Result<Verdict, TraceFault>
     }
 }
 
-/// The same, with the trace and the run if that is legal: a caller that goes on with them has read and audited them once.
+/// The verdict on the bytes, as `judge` returns it, with the trace and the run if that is legal. A caller that goes on with them has read
+/// and audited them once.
 pub fn judged(alloc: Global, bytes: &[u8]) -> Result<Judgement, TraceFault>
     requires { length bytes.now ≤ 134217729 }
     ensures judged { IfOk result (λ j. IsJudgementOn j bytes.now) }

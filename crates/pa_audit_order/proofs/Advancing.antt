@@ -10,10 +10,9 @@ use Rattle.pa_lists.proofs.Members.{of_some, not_in_none, in_cases}
 use Rattle.pa_rules.specs.declared.played.Played.{Played}
 use Rattle.pa_rules.specs.RecordDemands.{IsRecord}
 use Rattle.pa_rules.specs.Seen.{HandsTo}
-use Rattle.pa_lists.proofs.Indexed.{one_at}
+use Rattle.pa_lists.proofs.Indexed.{one_at, here_is}
 use Rattle.pa_rules.specs.Rising.{RiseByLine}
 use Rattle.pa_rules.proofs.Rising.{rises}
-use Rattle.pa_audit_records.proofs.Walking.{here_is}
 use Rattle.pa_audit_records.specs.Cuts.{RiseByPhase}
 use Rattle.pa_audit_order.specs.Steps.{IsLastOf, ArePrevious, as_list, Adds, AddsAll, AddsSteps}
 

@@ -5,8 +5,8 @@ use Rattle.std.specs.Option.{option_map, unwrap_or}
 use Rattle.std.proofs.lemmas.Bool.{cases_eq, cases_lt}
 use Rattle.std.proofs.lemmas.List.{get_or_past}
 use Rattle.std.proofs.lemmas.Option.{slice_get_within, get_or_from_slice_get}
-use Rattle.pa_machine.specs.Count.{number_of}
-use Rattle.pa_machine.specs.Run.{Mark}
+use Rattle.pa_slot.specs.Count.{number_of}
+use Rattle.pa_slot.specs.Run.{Mark}
 use Rattle.pa_record.specs.declared.history.CellEntry.{CellEntry}
 use Rattle.pa_lists.proofs.Members.{of_some, not_some}
 use Rattle.pa_rules.specs.declared.played.Played.{Played}
@@ -17,10 +17,9 @@ use Rattle.pa_rules.specs.RecordDemands.{IsRecord, SeenDemand}
 use Rattle.pa_rules.specs.Rising.{RiseByLine}
 use Rattle.pa_rules.specs.Seen.{IsBefore, Standing, Handing, Between, left_number}
 use Rattle.pa_rules.proofs.Rising.{rises}
-use Rattle.pa_lists.proofs.Indexed.{in_at, one_at}
+use Rattle.pa_lists.proofs.Indexed.{in_at, one_at, here_is}
 use Rattle.pa_audit_records.specs.Keys.{word_key}
 use Rattle.pa_audit_records.specs.Tables.{Puts}
-use Rattle.pa_audit_records.proofs.Walking.{here_is}
 use Rattle.pa_audit_order.specs.declared.looks.Look.{Look}
 use Rattle.pa_audit_order.specs.Looks.{look_by, NumbersRise}
 use Rattle.pa_audit_records.specs.Cuts.{RiseByPhase}
@@ -77,7 +76,7 @@ stands_above cells ps i j x y rising phases none at at' (Between z among first s
     let high : k < j = stands_above cells ps k j z y rising phases none there at' second in
     omega (arith, low, high)
 
--- so what rises is seen in order
+-- records are seen in order if their numbers rise and no cell has an exchange
 pub seen_met : (cells : ℕ → List CellEntry) (ps : List Played) → RiseByLine ps → RiseByPhase ps → HasNoExchange cells → NumbersRise ps → (i : ℕ) → SeenDemand cells ps (places.Record i)
 seen_met cells ps rising phases none rise i y at = (
   λ before. let less : i < i = stands_above cells ps i i y y rising phases none at at before in omega (arith, less),
@@ -88,7 +87,7 @@ seen_met cells ps rising phases none rise i y at = (
 
 -- ---- the walk along the records
 
--- so far they rise, and the table has for each slot a number that no record so far left a greater one than
+-- the numbers of the records so far rise, and the table has for each slot a number that none of them left a greater one than
 pub record RisesSoFar (ps : List Played) (at : ℕ → Option ℕ) (k : ℕ) : Type 0 where
   pub rise : (i j : ℕ) (x y : Played) (m n : Mark) → i < j → j < k → IsRecord ps i x → IsRecord ps j y → mark_of x ≡ Some m → mark_of y ≡ Some n → m.slot ≡ n.slot → left_number m ≤ number_of n.found
   pub left : (i : ℕ) (x : Played) (m : Mark) → i < k → IsRecord ps i x → mark_of x ≡ Some m → (v : ℕ) × (at (word_key m.slot 0) ≡ Some v) × (left_number m ≤ v)

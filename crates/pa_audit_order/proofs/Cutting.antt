@@ -11,10 +11,9 @@ use Rattle.pa_lists.proofs.Members.{of_some, not_some, not_in_none}
 use Rattle.pa_rules.specs.declared.played.Played.{Played}
 use Rattle.pa_rules.specs.RecordDemands.{IsRecord}
 use Rattle.pa_rules.specs.Seen.{IsBefore, Standing, Handing, Between}
-use Rattle.pa_lists.proofs.Indexed.{in_at, one_at}
+use Rattle.pa_lists.proofs.Indexed.{in_at, one_at, here_is}
 use Rattle.pa_rules.specs.Rising.{RiseByLine}
 use Rattle.pa_rules.proofs.Rising.{rises}
-use Rattle.pa_audit_records.proofs.Walking.{here_is}
 use Rattle.pa_audit_order.specs.Looks.{IsMarked, AreLeft}
 use Rattle.pa_audit_order.specs.Steps.{IsStepTo, IsLastOf, ArePrevious, AddsSteps}
 use Rattle.pa_audit_order.specs.Cuts.{IsNear, IsTakenUp, IsGrown, unmarked}
@@ -109,7 +108,7 @@ cut_but cells ps A k marked stack floor left h = record {
   numbers = h.numbers;
 }
 
--- and if the steps to that record are in, nothing is left out
+-- if the nearest steps to the record that was left out come from records that are taken up, no record is left out any more
 pub cut_all : (cells : ℕ → List CellEntry) (ps : List Played) (A : Played → Type 0) (k : ℕ) (marked : List Bool) (stack : List ℕ) (floor : ℕ) (left : ℕ → Option ℕ) → ((j : ℕ) → IsNear cells ps j k → IsTakenUp marked stack j)
     → IsGrown cells ps A k marked stack floor left → IsGrown cells ps A (length ps) marked stack floor left
 cut_all cells ps A k marked stack floor left steps h = record {
@@ -175,7 +174,7 @@ in_skip marked rest k j is (inr among) = elim (Contains-push_cases rest k j amon
   | inr e ↦ inl (subst (IsMarked marked) e is)
 ]
 
--- it was marked before
+-- a record that was marked before only leaves the stack
 pub cut_skip : (cells : ℕ → List CellEntry) (ps : List Played) (A : Played → Type 0) (but k : ℕ) (marked : List Bool) (rest : List ℕ) (floor : ℕ) (left : ℕ → Option ℕ) → IsMarked marked k
     → IsGrown cells ps A but marked (rest ++ k ∷ []) floor left → IsGrown cells ps A but marked rest floor left
 cut_skip cells ps A but k marked rest floor left is h =
@@ -197,7 +196,7 @@ in_mark marked rest k j below (inr among) = elim (Contains-push_cases rest k j a
   | inr e ↦ inl (subst (IsMarked (set marked k true)) e (set_here marked k true below))
 ]
 
--- it is marked now, and the steps to it are still to come
+-- a record leaves the stack and is marked, and the steps to it are still to come
 pub cut_mark : (cells : ℕ → List CellEntry) (ps : List Played) (A : Played → Type 0) (k : ℕ) (marked : List Bool) (rest : List ℕ) (floor : ℕ) (left next : ℕ → Option ℕ) → AreLeft ps (set marked k true) next
     → IsGrown cells ps A (length ps) marked (rest ++ k ∷ []) floor left → IsGrown cells ps A k (set marked k true) rest floor next
 cut_mark cells ps A k marked rest floor left next has h =
@@ -227,7 +226,7 @@ cut_mark cells ps A k marked rest floor left next has h =
 abbrev IsClosedAt : (ℕ → List CellEntry) → List Played → List Bool → ℕ → Type 0
 IsClosedAt cells ps marked i = (j : ℕ) → IsNear cells ps j i → IsMarked marked j
 
--- so do those to the records of its thread before it
+-- the earlier records of a marked record's thread are marked, if the nearest steps to it come from marked ones
 thread_look : (n : ℕ) (cells : ℕ → List CellEntry) (ps : List Played) (marked : List Bool) (i j : ℕ) (x y : Played) (o : Option ℕ) → i < suc n → ((p : ℕ) (z : Played) → p < n → IsRecord ps p z → IsMarked marked p → x.thread ≡ z.thread → j < p → IsMarked marked j)
     → IsLastOf ps y.thread i o → IsClosedAt cells ps marked i → IsRecord ps j x → IsRecord ps i y → x.thread ≡ y.thread → j < i → IsMarked marked j
 thread_look n cells ps marked i j x y None below again none closed at here same less = absurd (none j x less at same)

@@ -1,8 +1,8 @@
 -- What a read may give by the registers of the walk is what the rules allow.
 use Rattle.std.proofs.Common.{◌≡◌, ℕ, suc, ◌+◌, ◌<◌, ◌⊎◌, List, [], ◌∷◌, ◌++◌, take, drop, get_or, length, Some, refl, sym, ◌∙◌, ap, subst, inl, inr}
 use Rattle.std.specs.Prelude.{slice_get}
-use Rattle.pa_machine.specs.declared.word.SlotName.{SlotName}
-use Rattle.pa_machine.specs.Count.{number_of}
+use Rattle.pa_slot.specs.declared.word.SlotName.{SlotName}
+use Rattle.pa_slot.specs.Count.{number_of}
 use Rattle.pa_record.specs.declared.entry.Seen.{Seen}
 use Rattle.pa_record.specs.declared.entry.Answer.{Answer}
 use Rattle.pa_record.specs.declared.entry.Answer.TheVariants as answers
@@ -14,12 +14,13 @@ use Rattle.pa_rules.specs.Contents.{IsContent, HasRegs, IsReadAllowed}
 use Rattle.pa_rules.specs.RecordDemands.{IsRecord, RegistersDemand, ContentsDemand}
 use Rattle.pa_rules.specs.Registers.{Reg, Regs, AllRegs, RowsTo, no_regs}
 use Rattle.pa_rules.specs.Sizes.{usable_of}
-use Rattle.pa_lists.proofs.Indexed.{cut_at, slice_get_at}
+use Rattle.pa_lists.proofs.Indexed.{cut_at, slice_get_at, here_is}
 use Rattle.pa_rules.specs.Rising.{RiseByLine}
+use Rattle.pa_rules.proofs.Leading.{rows_one}
 use Rattle.pa_audit_records.specs.Rows.{MayAnswer}
 use Rattle.pa_audit_records.specs.Tables.{regs_in, regs_next, AreRegsOf, facts_by}
 use Rattle.pa_audit_records.proofs.Rowing.{row_may}
-use Rattle.pa_audit_records.proofs.Walking.{RegsSoFar, here_is, regs_more, rows_one}
+use Rattle.pa_audit_records.proofs.Walking.{RegsSoFar, regs_more}
 use Rattle.pa_audit_order.specs.Given.{MayFindPoison, MayGive}
 use Rattle.pa_audit_order.proofs.Stamping.{one_place}
 
@@ -43,7 +44,7 @@ front_of [] [] = refl
 front_of [] (y ∷ ys) = refl
 front_of (z ∷ zs) ys = ap (λ t. z ∷ t) (front_of zs ys)
 
--- and no others are
+-- the registers before a record are those of the list, and no others
 walk_only : (cells : ℕ → List CellEntry) (ps : List Played) (list : List Reg) (i : ℕ) (x : Played) (regs : Regs) → RiseByLine ps → IsRecord ps i x → RegsSoFar cells ps list i → HasRegs usable_of cells ps x regs
     → regs ≡ regs_in list x.thread
 walk_only cells ps list i x regs rising at h (before, after, all, parts, rows, is) =

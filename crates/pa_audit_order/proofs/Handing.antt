@@ -1,5 +1,5 @@
 -- The record before each one of its thread, and the one that handed over what an exchange found.
-use Rattle.std.proofs.Common.{◌≡◌, ℕ, zero, suc, ◌+◌, ◌<◌, ◌⊎◌, List, [], ◌∷◌, ◌++◌, get_or, length, Option, Some, None, refl, sym, ◌∙◌, ap, subst, arith, inl, inr}
+use Rattle.std.proofs.Common.{◌≡◌, ℕ, ◌+◌, ◌<◌, List, [], ◌∷◌, ◌++◌, get_or, length, Option, Some, None, refl, sym, ◌∙◌, ap, subst, arith, inl, inr}
 use Rattle.std.specs.Prelude.{slice_get, Contains, IfSome, IfNone}
 use Rattle.std.proofs.lemmas.Bool.{cases_lt, cases_eq}
 use Rattle.std.proofs.lemmas.List.{length_push}
@@ -12,11 +12,10 @@ use Rattle.pa_rules.specs.declared.verdict.Place.TheVariants as places
 use Rattle.pa_rules.specs.Cells.{IsExchange}
 use Rattle.pa_rules.specs.RecordDemands.{IsRecord, CellsDemand}
 use Rattle.pa_rules.specs.Seen.{HandsTo}
-use Rattle.pa_lists.proofs.Indexed.{in_at, one_at}
+use Rattle.pa_lists.proofs.Indexed.{in_at, one_at, push_at, here_is}
 use Rattle.pa_audit_records.specs.Seeking.{IsOnLine, NoneOnLine}
 use Rattle.pa_rules.specs.Rising.{RiseByLine}
 use Rattle.pa_audit_records.specs.Tables.{Puts}
-use Rattle.pa_audit_records.proofs.Walking.{here_is}
 use Rattle.pa_audit_order.specs.Steps.{AreGivers, ArePrevious, IsGiverOf, IsGiving, IsLastOf}
 use Rattle.pa_audit_order.proofs.Stamping.{one_place}
 
@@ -54,15 +53,6 @@ last_more ps f g k v d below same puts h t = elim (cases_eq t (get_or ps k d).th
       let is : g t ≡ Some k = ap g mine ∙ puts.here ∙ ap Some same in
       subst (IsLastOf ps t (k + 1)) (sym is) (get_or ps k d, here_is ps k d below, omega arith, sym mine, λ j y after less at of. omega (arith, after, less))
   | inr other ↦ subst (IsLastOf ps t (k + 1)) (sym (puts.other t other)) (last_kept ps t k d (f t) below (λ e. other (sym e)) (h t))
-]
-
-push_at : {A : Type 0} (xs : List A) (x y : A) (i : ℕ) → slice_get (xs ++ x ∷ []) i ≡ Some y → (slice_get xs i ≡ Some y) ⊎ ((i ≡ length xs) × (x ≡ y))
-push_at [] x y zero at = inr (refl, of_some x y at)
-push_at [] x y (suc i) at = absurd (not_some y at)
-push_at (z ∷ zs) x y zero at = inl at
-push_at (z ∷ zs) x y (suc i) at = elim (push_at zs x y i at) [
-  | inl early ↦ inl early
-  | inr (last, same) ↦ inr (ap suc last, same)
 ]
 
 pub previous_more : (ps : List Played) (table : List (Option ℕ)) (f : ℕ → Option ℕ) (k : ℕ) (d : Played) (o : Option ℕ) → k < length ps → o ≡ f (get_or ps k d).thread → AreLast ps f k → ArePrevious ps table k

@@ -3,14 +3,14 @@ use Rattle.std.proofs.Common.{◌≡◌, ℕ, ◌<◌, ◌≤◌, Bool, true, Li
 use Rattle.std.specs.Prelude.{slice_get}
 use Rattle.std.proofs.lemmas.Bool.{cases_eq}
 use Rattle.std.specs.Option.{option_map}
-use Rattle.pa_machine.specs.declared.word.SlotName.{SlotName}
-use Rattle.pa_machine.specs.Run.{Mark}
+use Rattle.pa_slot.specs.declared.word.SlotName.{SlotName}
+use Rattle.pa_slot.specs.Run.{Mark}
 use Rattle.pa_lists.proofs.Members.{of_some, not_some}
+use Rattle.pa_lists.proofs.Indexed.{here_is}
 use Rattle.pa_rules.specs.declared.played.Played.{Played}
 use Rattle.pa_rules.specs.Played.{mark_of}
 use Rattle.pa_rules.specs.Seen.{left_number}
 use Rattle.pa_audit_records.specs.Keys.{word_key}
-use Rattle.pa_audit_records.proofs.Walking.{here_is}
 use Rattle.pa_audit_order.specs.declared.looks.Look.{Look}
 use Rattle.pa_audit_order.specs.Looks.{look_by, Raises, AreLeft}
 use Rattle.pa_audit_order.proofs.Cutting.{set_here, still_marked, was_marked}

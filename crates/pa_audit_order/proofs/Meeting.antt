@@ -3,8 +3,8 @@ use Rattle.std.proofs.Common.{◌≡◌, ℕ, ◌+◌, ◌<◌, ◌≤◌, Bool,
 use Rattle.std.specs.Prelude.{All, Contains, slice_get}
 use Rattle.std.proofs.lemmas.Bool.{cases_lt}
 use Rattle.std.proofs.lemmas.Option.{slice_get_within}
-use Rattle.pa_machine.specs.Count.{number_of}
-use Rattle.pa_machine.specs.Run.{Mark}
+use Rattle.pa_slot.specs.Count.{number_of}
+use Rattle.pa_slot.specs.Run.{Mark}
 use Rattle.pa_record.specs.declared.history.CellEntry.{CellEntry}
 use Rattle.pa_lists.proofs.Members.{of_some, not_in_none}
 use Rattle.pa_rules.specs.declared.played.Played.{Played}
@@ -13,13 +13,12 @@ use Rattle.pa_rules.specs.Played.{mark_of}
 use Rattle.pa_rules.specs.RecordDemands.{IsRecord, SeenDemand}
 use Rattle.pa_rules.specs.Seen.{IsBefore, Standing, Handing, Between, left_number}
 use Rattle.pa_rules.specs.Tells.{TellsFirst}
-use Rattle.pa_lists.proofs.Indexed.{at_in, in_at, one_at}
+use Rattle.pa_lists.proofs.Indexed.{at_in, in_at, one_at, here_is}
 use Rattle.pa_audit_records.specs.Keys.{word_key}
 use Rattle.pa_rules.specs.Rising.{RiseByLine}
 use Rattle.pa_audit_records.specs.Rows.{IsPlayedWithin}
 use Rattle.pa_audit_records.proofs.Putting.{same_key}
 use Rattle.pa_rules.proofs.Rising.{rises}
-use Rattle.pa_audit_records.proofs.Walking.{here_is}
 use Rattle.pa_audit_order.specs.Looks.{IsMarked, FindsEnough}
 use Rattle.pa_audit_order.specs.Steps.{IsStepTo, ArePrevious}
 use Rattle.pa_audit_order.specs.Cuts.{IsAhead, IsAheadAt, IsNear, IsTakenUp, IsGrown, IsOrderly, TellsOf, TellsBelow, earlier_of}
@@ -43,7 +42,7 @@ step_ahead cells ps k x y rising here step w at j z from there of =
     before (inl stands) = Standing stands
     before (inr hands) = Handing hands
 
--- and what steps to what is ahead
+-- a record with a step to one that is ahead is ahead too
 pub step_behind : (cells : ℕ → List CellEntry) (ps : List Played) (k i : ℕ) (x y : Played) → IsRecord ps i y → IsStepTo cells x y → IsAheadAt cells ps k y → IsAheadAt cells ps k x
 step_behind cells ps k i x y here step ahead w at j z from there of = Between y (at_in ps i y here) (before step) (ahead w at j z from there of)
   where

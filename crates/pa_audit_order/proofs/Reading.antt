@@ -2,8 +2,8 @@
 use Rattle.std.proofs.Common.{◌≡◌, ℕ, ◌+◌, ◌<◌, ◌≤◌, ◌⊎◌, List, get_or, length, Option, Some, refl, sym, ◌∙◌, ap, subst, arith, inl, inr}
 use Rattle.std.specs.Prelude.{slice_get}
 use Rattle.std.proofs.lemmas.Bool.{cases_lt}
-use Rattle.pa_machine.specs.declared.word.SlotName.{SlotName}
-use Rattle.pa_machine.specs.Count.{number_of}
+use Rattle.pa_slot.specs.declared.word.SlotName.{SlotName}
+use Rattle.pa_slot.specs.Count.{number_of}
 use Rattle.pa_trace.specs.declared.script.Op.{Op}
 use Rattle.pa_trace.specs.declared.script.Op.TheVariants as ops
 use Rattle.pa_record.specs.declared.entry.Seen.{Seen}
@@ -13,10 +13,9 @@ use Rattle.pa_lists.proofs.Members.{of_some, not_some}
 use Rattle.pa_rules.specs.declared.played.Played.{Played}
 use Rattle.pa_rules.specs.Contents.{IsMadeAt, IsWrittenAt, IsContent, IsFreedBy, IsNextFree}
 use Rattle.pa_rules.specs.RecordDemands.{IsRecord}
-use Rattle.pa_lists.proofs.Indexed.{at_in, in_at, none_past}
+use Rattle.pa_lists.proofs.Indexed.{at_in, in_at, none_past, here_is}
 use Rattle.pa_audit_records.specs.Keys.{name_key, word_key}
 use Rattle.pa_audit_records.proofs.Putting.{same_key}
-use Rattle.pa_audit_records.proofs.Walking.{here_is}
 use Rattle.pa_audit_order.specs.declared.numbers.Kind.{Kind}
 use Rattle.pa_audit_order.specs.declared.numbers.Kind.TheVariants.{Fill, Free}
 use Rattle.pa_audit_order.specs.Keyed.{HasNoKey, IsGreatest, IsLeast}

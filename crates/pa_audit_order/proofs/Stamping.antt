@@ -5,17 +5,18 @@ use Rattle.std.specs.Ordering.{nat_cmp, is_eq}
 use Rattle.std.specs.Cmp.{nat_cmp_is}
 use Rattle.std.specs.declared.cmp.Ordering.TheVariants.{Less, Greater}
 use Rattle.std.proofs.lemmas.Bool.{cases_lt, cases_eq}
-use Rattle.pa_machine.specs.declared.word.SlotName.{SlotName}
-use Rattle.pa_machine.specs.declared.word.Step.{Step}
-use Rattle.pa_machine.specs.declared.word.Step.TheVariants as steps
-use Rattle.pa_machine.specs.Count.{number_of}
-use Rattle.pa_machine.specs.Run.{Mark, IsFirstAt, IsRunFrom}
+use Rattle.pa_slot.specs.declared.word.SlotName.{SlotName}
+use Rattle.pa_slot.specs.declared.word.Step.{Step}
+use Rattle.pa_slot.specs.declared.word.Step.TheVariants as steps
+use Rattle.pa_slot.specs.Count.{number_of}
+use Rattle.pa_slot.specs.Run.{Mark, IsFirstAt, IsRunFrom}
 use Rattle.pa_trace.specs.declared.script.Op.{Op}
 use Rattle.pa_trace.specs.declared.script.Op.TheVariants as ops
 use Rattle.pa_record.specs.declared.entry.Seen.{Seen}
 use Rattle.pa_record.specs.declared.entry.Answer.{Answer}
 use Rattle.pa_record.specs.declared.entry.Answer.TheVariants.{Made, Done}
 use Rattle.pa_lists.proofs.Members.{of_some, not_some}
+use Rattle.pa_lists.proofs.Indexed.{here_is}
 use Rattle.pa_rules.specs.declared.played.Played.{Played}
 use Rattle.pa_rules.specs.declared.verdict.Place.TheVariants as places
 use Rattle.pa_rules.specs.Played.{mark_of_answer, mark_at, marks_of}
@@ -29,7 +30,6 @@ use Rattle.pa_rules.specs.Rising.{RiseByLine}
 use Rattle.pa_audit_records.specs.Tables.{Puts}
 use Rattle.pa_audit_records.proofs.Stepping.{same_place, records_differ}
 use Rattle.pa_rules.proofs.Rising.{rises}
-use Rattle.pa_audit_records.proofs.Walking.{here_is}
 use Rattle.pa_audit_order.specs.declared.numbers.Kind.{Kind}
 use Rattle.pa_audit_order.specs.declared.numbers.Kind.TheVariants.{Fill, Issue, Free}
 use Rattle.pa_audit_order.specs.Numbers.{seen_by, DoesAt, IsOneAt, AreByNumber}

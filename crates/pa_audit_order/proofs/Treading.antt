@@ -3,15 +3,15 @@ use Rattle.std.proofs.Common.{◌≡◌, ℕ, ◌+◌, ◌<◌, ◌≤◌, Bool,
 use Rattle.std.specs.Prelude.{slice_get}
 use Rattle.std.proofs.lemmas.Bool.{cases_lt}
 use Rattle.std.proofs.lemmas.Option.{slice_get_within}
-use Rattle.pa_machine.specs.Run.{Mark}
+use Rattle.pa_slot.specs.Run.{Mark}
 use Rattle.pa_record.specs.declared.history.CellEntry.{CellEntry}
 use Rattle.pa_lists.proofs.Members.{of_some}
+use Rattle.pa_lists.proofs.Indexed.{here_is}
 use Rattle.pa_rules.specs.declared.played.Played.{Played}
 use Rattle.pa_rules.specs.declared.verdict.Place.TheVariants as places
 use Rattle.pa_rules.specs.Played.{mark_of}
 use Rattle.pa_rules.specs.RecordDemands.{IsRecord, SeenDemand}
 use Rattle.pa_rules.specs.Rising.{RiseByLine}
-use Rattle.pa_audit_records.proofs.Walking.{here_is}
 use Rattle.pa_audit_order.specs.Looks.{IsMarked}
 use Rattle.pa_audit_order.specs.Steps.{ArePrevious}
 use Rattle.pa_audit_order.specs.Cuts.{IsAhead, IsAheadAt, IsNear, IsGrown, IsOrderly, TellsOf}
@@ -49,7 +49,7 @@ walked_cut cells ps t k at d marked stack floor left same below of h =
     subst (λ z. IsGrown cells ps (IsAheadAt cells ps z) (length ps) marked stack floor left) (sym same)
     (cut_weaker cells ps (IsAhead cells ps t k) (IsAheadAt cells ps k) (length ps) marked stack floor left (λ x ahead. ahead_at cells ps t k (get_or ps k d) x (here_is ps k d below) of ahead) h.cut)
 
--- it meets what is asked
+-- the walk goes on if the record at its place is orderly
 pub walked_on : (cells : ℕ → List CellEntry) (ps : List Played) (table : List (Option ℕ)) (t k at : ℕ) (d : Played) (before marked : List Bool) (old stack : List ℕ) (low floor : ℕ) (earlier left : ℕ → Option ℕ) → at ≡ k → k < length ps
     → (get_or ps k d).thread ≡ t → RiseByLine ps → ArePrevious ps table (length ps) → IsWalked cells ps t k before old low earlier → IsGrown cells ps (IsAheadAt cells ps at) (length ps) marked [] floor left → stack ≡ []
     → ((j : ℕ) → IsNear cells ps j at → IsMarked marked j) → IsOrderly marked at left (mark_of (get_or ps k d)) → IsWalked cells ps t (k + 1) marked stack floor left
@@ -71,7 +71,7 @@ walked_on cells ps table t k at d before marked old stack low floor earlier left
       empty = empty;
     }
 
--- it doesn't
+-- if the record at its place isn't orderly, it is the first of its thread that doesn't meet what is asked
 pub walked_not : (cells : ℕ → List CellEntry) (ps : List Played) (t k at : ℕ) (d : Played) (before marked : List Bool) (old : List ℕ) (low floor : ℕ) (earlier left : ℕ → Option ℕ) → at ≡ k → k < length ps
     → IsWalked cells ps t k before old low earlier → IsGrown cells ps (IsAheadAt cells ps at) (length ps) marked [] floor left
     → ((m : Mark) → mark_of (get_or ps k d) ≡ Some m → m.slot.start < 4294967296) → (IsOrderly marked at left (mark_of (get_or ps k d)) → ⊥)
@@ -83,7 +83,7 @@ walked_not cells ps t k at d before marked old low floor earlier left same below
       λ j x less there of. h.met j x (omega (arith, less, same)) there of,
     )
 
--- there are no more
+-- once there are no more records, each of the thread meets what is asked
 pub walked_all : (cells : ℕ → List CellEntry) (ps : List Played) (t k : ℕ) (marked : List Bool) (stack : List ℕ) (floor : ℕ) (left : ℕ → Option ℕ) → length ps ≤ k → IsWalked cells ps t k marked stack floor left
     → TellsOf ps t (λ i. SeenDemand cells ps (places.Record i)) None
 walked_all cells ps t k marked stack floor left end h = λ i x at of. h.met i x (let below = slice_get_within ps i x at in omega (arith, end, below)) at of

@@ -1,6 +1,6 @@
 -- What a walk along the records of a thread knows: the records that are before those from some index on.
 use Rattle.std.specs.Prelude.{◌≡◌, ℕ, ◌<◌, ◌≤◌, ◌⊎◌, if◌then◌else◌, Bool, List, Option, Some, None, Contains, length, min, sum_by}
-use Rattle.pa_machine.specs.Run.{Mark}
+use Rattle.pa_slot.specs.Run.{Mark}
 use Rattle.pa_record.specs.declared.history.CellEntry.{CellEntry}
 use Rattle.pa_rules.specs.declared.played.Played.{Played}
 use Rattle.pa_rules.specs.RecordDemands.{IsRecord}
@@ -51,7 +51,7 @@ pub record IsPrepared (cells : ℕ → List CellEntry) (ps : List Played) (previ
   pub threads : ArePrevious ps previous (length ps)
   pub hands : AreGivers cells ps givers (length ps)
 
--- what is found of the records of one thread, as TellsFirst says it of all
+-- each record of thread t meets what is required, or record i doesn't and each of that thread before it does
 abbrev pub TellsOf : List Played → ℕ → (ℕ → Type 0) → Option ℕ → Type 0
 TellsOf ps t Meets None = (i : ℕ) (x : Played) → IsRecord ps i x → x.thread ≡ t → Meets i
 TellsOf ps t Meets (Some i) = (Meets i → ⊥) × ((j : ℕ) (x : Played) → j < i → IsRecord ps j x → x.thread ≡ t → Meets j)
@@ -60,12 +60,12 @@ TellsOf ps t Meets (Some i) = (Meets i → ⊥) × ((j : ℕ) (x : Played) → j
 abbrev pub IsOrderly : List Bool → ℕ → (ℕ → Option ℕ) → Option Mark → Type 0
 IsOrderly marked k left mark = (IsMarked marked k → ⊥) × FindsEnough left mark
 
--- the same of the records of the threads below t
+-- each record of the threads below t meets what is required, or record i doesn't and each of those threads before it does
 abbrev pub TellsBelow : List Played → ℕ → (ℕ → Type 0) → Option ℕ → Type 0
 TellsBelow ps t Meets None = (i : ℕ) (x : Played) → IsRecord ps i x → x.thread < t → Meets i
 TellsBelow ps t Meets (Some i) = (Meets i → ⊥) × ((j : ℕ) (x : Played) → j < i → IsRecord ps j x → x.thread < t → Meets j)
 
--- the lesser of two indices, if there are two
+-- the lesser of two indices, or the only one
 abbrev pub earlier_of : Option ℕ → Option ℕ → Option ℕ
 earlier_of None told = told
 earlier_of (Some a) None = Some a

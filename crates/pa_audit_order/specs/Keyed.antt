@@ -12,7 +12,7 @@ pub record IsGreatest (at : ℕ → Option ℕ) (low high q v : ℕ) : Type 0 wh
   pub here : at q ≡ Some v
   pub last : HasNoKey at (q + 1) high
 
--- q is the least one
+-- q is the least key that is there between the bounds, and v is its value
 pub record IsLeast (at : ℕ → Option ℕ) (low high q v : ℕ) : Type 0 where
   pub from : low ≤ q
   pub below : q < high

@@ -1,7 +1,7 @@
 -- What a record reports of a slot, by step numbers alone.
 use Rattle.std.specs.Prelude.{◌≡◌, ℕ, ◌<◌, ◌≤◌, ◌⊎◌, Bool, true, List, Option, Some, None, slice_get}
-use Rattle.pa_machine.specs.Count.{number_of}
-use Rattle.pa_machine.specs.Run.{Mark}
+use Rattle.pa_slot.specs.Count.{number_of}
+use Rattle.pa_slot.specs.Run.{Mark}
 use Rattle.pa_rules.specs.declared.played.Played.{Played}
 use Rattle.pa_rules.specs.Played.{mark_of}
 use Rattle.pa_rules.specs.RecordDemands.{IsRecord}
@@ -17,7 +17,7 @@ look_by m = record { slot = m.slot; found = number_of m.found; left = left_numbe
 abbrev pub IsMarked : List Bool → ℕ → Type 0
 IsMarked marked i = slice_get marked i ≡ Some true
 
--- the value at k is v or the greater number that was there, the other keys have what they had
+-- the value at k is v or the greater number that was there, and the other keys have what they had
 pub record Raises (f g : ℕ → Option ℕ) (k v : ℕ) : Type 0 where
   pub number : ℕ
   pub here : g k ≡ Some number

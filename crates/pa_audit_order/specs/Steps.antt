@@ -8,7 +8,7 @@ use Rattle.pa_rules.specs.Order.{StandsBefore}
 use Rattle.pa_rules.specs.RecordDemands.{IsRecord}
 use Rattle.pa_rules.specs.Seen.{HandsTo}
 
--- x is before y, with no record between them
+-- x comes before y in the order of threads and phases, or handed a handle over to y
 abbrev pub IsStepTo : (ℕ → List CellEntry) → Played → Played → Type 0
 IsStepTo cells x y = StandsBefore x y ⊎ HandsTo cells x y
 
@@ -42,8 +42,7 @@ abbrev pub as_list : Option ℕ → List ℕ
 as_list None = []
 as_list (Some i) = i ∷ []
 
--- Added to the list are the indices from `low` to before `high`, whose records are of an earlier phase; record `high` is of
--- this phase or a later one.
+-- The indices from `low` to before `high`, with records that are all of an earlier phase, are added to the list.
 pub record Adds (ps : List Played) (phase : ℕ) (old : List ℕ) (low : ℕ) (new : List ℕ) (high : ℕ) : Type 0 where
   pub from : low ≤ high
   pub within : high ≤ length ps
@@ -53,12 +52,13 @@ pub record Adds (ps : List Played) (phase : ℕ) (old : List ℕ) (low : ℕ) (n
   pub only : (j : ℕ) → Contains new j → Contains old j ⊎ ((low ≤ j) × (j < high))
   pub few : length new + low ≡ length old + high
 
--- the same, up to the first record that is of this phase or a later one, or to the end of the records
+-- The indices from `low` on are added to the list, up to the first record that is of this phase or a later one, or to the end of the
+-- records.
 pub record AddsAll (ps : List Played) (phase : ℕ) (old : List ℕ) (low : ℕ) (new : List ℕ) (high : ℕ) : Type 0 where
   pub adds : Adds ps phase old low new high
   pub stop : (x : Played) → IsRecord ps high x → phase ≤ x.phase
 
--- The records from which the nearest steps lead to record i are added to the list; those of earlier phases are below the floor.
+-- The records from which the nearest steps lead to record i are added to the list. Those of earlier phases are below the floor.
 pub record AddsSteps (cells : ℕ → List CellEntry) (ps : List Played) (i : ℕ) (old : List ℕ) (low : ℕ) (new : List ℕ)
     (high : ℕ) : Type 0 where
   pub previous : (j : ℕ) (y : Played) → IsRecord ps i y → IsLastOf ps y.thread i (Some j) → Contains new j

@@ -18,15 +18,15 @@ ghost use Rattle.pa_audit_order.specs.Given.{ReadsRaw, IsOther, IsFreedMeanwhile
 use crate::keys::{greatest, key, least};
 use crate::numbers::{Kind, by_number};
 use pa_audit_records::Registers;
-use pa_machine::{OutOfMemory, POISON, SlotName, number};
 use pa_record::{Answer, History};
 use pa_rules::{Played, Register};
+use pa_slot::{OutOfMemory, POISON, SlotName, number};
 use pa_trace::Op;
 use std::alloc::Global;
 use std::collections::BTreeMap;
 
-/// The index of the first record that read a value which it may not report: neither the content of its slot at the number
-/// that it found nor poison, or poison when no other thread's free was under way; none if no record did.
+/// The index of the first record that read a value which it may not report: neither the content of its slot at the number that it found
+/// nor poison, or poison when no other thread's free was under way. None if no record did.
 pub fn contents_meet(
     alloc: Global,
     records: &[Played],
@@ -100,7 +100,7 @@ fn content(fills: &BTreeMap<u128, u32>, records: &[Played], slot: SlotName, numb
     }
 }
 
-// Whether that is the value.
+// Whether the value is the content of the slot at the number.
 fn gives_content(
     fills: &BTreeMap<u128, u32>,
     records: &[Played],

@@ -1,6 +1,6 @@
 ghost use Rattle.std.specs.Prelude.{◌≡◌, ◌↔◌, ℕ, ◌+◌, ◌<◌, ◌≤◌, ◌^◌, List, [], ◌++◌, Bool, true, false, Contains, IfOk, IsTrue, None, Some, OnErr, OnOk, length, replicate, set};
 ghost use Rattle.pa_audit_records.specs.ByKeys.{value_at};
-ghost use Rattle.pa_machine.specs.Run.{Mark};
+ghost use Rattle.pa_slot.specs.Run.{Mark};
 ghost use Rattle.pa_rules.specs.Cells.{history_at};
 ghost use Rattle.pa_rules.specs.Played.{mark_of};
 ghost use Rattle.pa_audit_order.specs.Looks.{IsMarked, AreLeft, FindsEnough};
@@ -10,13 +10,13 @@ ghost use Rattle.pa_audit_order.specs.Cuts.{IsAheadAt, IsNear, IsGrown, IsPrepar
 use crate::keys::{key, raise};
 use crate::looks::look_of;
 use pa_audit_records::{ByKey, Salt};
-use pa_machine::OutOfMemory;
 use pa_record::History;
 use pa_rules::Played;
+use pa_slot::OutOfMemory;
 use std::alloc::Global;
 
-// The records that are before those to come: which are marked, those that are still to be, up to which index all are in, and
-// for each slot the greatest number that a marked record left.
+// The records that are before those to come: which are marked, which are still to be marked, the index below which all are among these,
+// and for each slot the greatest number that a marked record left.
 #[derive(Drop)]
 pub(crate) struct Cut {
     pub marked: Vec<bool>,
@@ -25,7 +25,7 @@ pub(crate) struct Cut {
     pub left: ByKey<u64>,
 }
 
-// None of that many records.
+// The cut of that many records before any is marked.
 pub(crate) fn no_cut(alloc: Global, salt: Salt, length: usize) -> Result<Cut, OutOfMemory>
     ensures marked { IfOk result (λ c. c.marked.items ≡ replicate length false) }
     ensures stack { IfOk result (λ c. c.stack.items ≡ []) }

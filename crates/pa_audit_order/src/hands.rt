@@ -11,13 +11,13 @@ ghost use Rattle.pa_rules.specs.Rising.{RiseByLine};
 ghost use Rattle.pa_audit_order.specs.Steps.{AreGivers, ArePrevious, IsGiving};
 
 use pa_audit_records::{ByKey, Salt, exchange, record_on};
-use pa_machine::OutOfMemory;
 use pa_record::{Answer, Held, History};
 use pa_rules::Played;
+use pa_slot::OutOfMemory;
 use pa_trace::Op;
 use std::alloc::Global;
 
-// The record before each one of its thread.
+// For each record the one before it of its thread.
 pub(crate) fn previous_of(
     alloc: Global,
     salt: Salt,
@@ -70,7 +70,7 @@ fn given_to(cells: &[History], told: Played) -> Option<u32>
     }
 }
 
-// That record.
+// The index of the record whose exchange gave the handle that this one's found.
 fn giver(records: &[Played], cells: &[History], told: Played) -> Option<u32>
     requires few { length records.now < 2 ^ 32 }
     requires rising { RiseByLine records.now }

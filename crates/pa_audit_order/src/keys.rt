@@ -8,7 +8,7 @@ ghost use Rattle.pa_audit_order.specs.Keyed.{HasNoKey, IsGreatest, IsLeast};
 ghost use Rattle.pa_audit_order.specs.Looks.{Raises};
 
 use pa_audit_records::ByKey;
-use pa_machine::{OutOfMemory, SlotName};
+use pa_slot::{OutOfMemory, SlotName};
 use std::collections::BTreeMap;
 
 /// The key of a slot at a number, its step number: slots by `born` and `start`, and those of one slot by their numbers.

@@ -1,12 +1,12 @@
 ghost use Rattle.std.specs.Prelude.{◌≡◌, ◌+◌, ◌^◌, ◌<◌, if◌then◌else◌};
 ghost use Rattle.std.specs.Option.{is_some, option_map};
-ghost use Rattle.pa_machine.specs.Count.{number_of};
+ghost use Rattle.pa_slot.specs.Count.{number_of};
 ghost use Rattle.pa_rules.specs.Played.{mark_of, step_of};
 ghost use Rattle.pa_audit_order.specs.Looks.{look_by};
 
-use pa_machine::{SlotName, number};
 use pa_record::{Answer, Seen};
 use pa_rules::Played;
+use pa_slot::{SlotName, number};
 use pa_trace::Op;
 
 // What a record reports of a slot: the number that it found there, and the one that it left.

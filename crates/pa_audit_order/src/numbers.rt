@@ -4,9 +4,9 @@ ghost use Rattle.std.specs.BTreeMap.{get};
 ghost use Rattle.pa_audit_order.specs.Numbers.{seen_by, IsOneAt, AreByNumber};
 
 use crate::keys::key;
-use pa_machine::{OutOfMemory, number};
 use pa_record::{Answer, Seen};
 use pa_rules::Played;
+use pa_slot::{OutOfMemory, number};
 use pa_trace::Op;
 use std::alloc::Global;
 use std::collections::BTreeMap;
@@ -22,7 +22,7 @@ pub enum Kind {
     Free,
 }
 
-// What a record saw of the slot with which it did so.
+// What a record saw of the slot that it filled, made or freed, as the kind says.
 fn seen_of(kind: Kind, op: Op, answer: Answer) -> Option<Seen>
     ensures { result ≡ seen_by kind op answer }
 {
@@ -49,7 +49,8 @@ fn seen_of(kind: Kind, op: Op, answer: Answer) -> Option<Seen>
     }
 }
 
-/// The indices of the records that did so, by the key of the slot and its number. An error means out of memory.
+/// The indices of the records that filled, made or freed a slot, as the kind says, by the key of the slot and its number. An error means
+/// out of memory.
 pub fn by_number(
     alloc: Global,
     records: &[Played],

@@ -4,9 +4,9 @@ ghost use Rattle.pa_audit_order.specs.Looks.{NumbersRise};
 use crate::keys::key;
 use crate::looks::look_of;
 use pa_audit_records::{ByKey, Salt};
-use pa_machine::OutOfMemory;
 use pa_record::History;
 use pa_rules::Played;
+use pa_slot::OutOfMemory;
 use std::alloc::Global;
 
 // Whether no cell has an exchange.

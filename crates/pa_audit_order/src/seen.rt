@@ -1,6 +1,6 @@
 ghost use Rattle.std.specs.Prelude.{◌≡◌, ◌↔◌, ℕ, ◌<◌, ◌^◌, All, IfOk, IsTrue, Some, length};
 ghost use Rattle.pa_audit_records.specs.ByKeys.{value_at};
-ghost use Rattle.pa_machine.specs.Run.{Mark};
+ghost use Rattle.pa_slot.specs.Run.{Mark};
 ghost use Rattle.pa_rules.specs.declared.verdict.Place.TheVariants as places;
 ghost use Rattle.pa_rules.specs.Cells.{history_at};
 ghost use Rattle.pa_rules.specs.Played.{mark_of};
@@ -15,14 +15,14 @@ use crate::cuts::{Cut, finds_enough, no_cut, reach};
 use crate::hands::{givers_of, previous_of};
 use crate::rises::{has_no_exchange, numbers_rise};
 use pa_audit_records::Salt;
-use pa_machine::OutOfMemory;
 use pa_record::History;
 use pa_rules::Played;
+use pa_slot::OutOfMemory;
 use pa_trace::MOST_THREADS;
 use std::alloc::Global;
 
-/// The index of the first record that is before itself, by its thread, by phases and by handles that were handed over, or
-/// finds a lower number of its slot than a record that is before it left; none if no record does.
+/// The index of the first record that is before itself, by its thread, by phases and by handles that were handed over, or finds a lower
+/// number of its slot than a record that is before it left. None if no record does.
 pub fn seen_meets(
     alloc: Global,
     salt: Salt,
@@ -50,7 +50,7 @@ pub fn seen_meets(
     Ok(first)
 }
 
-// The lesser of two indices, if there are two.
+// The lesser of two indices, or the only one.
 fn earlier(first: Option<u32>, told: Option<u32>) -> Option<u32>
     ensures { result ≡ earlier_of first told }
 {

@@ -5,6 +5,6 @@ use Rattle.pa_record.specs.declared.entry.Entry.{Entry}
 use Rattle.pa_rules.specs.declared.played.Played.{Played}
 use Rattle.pa_rules.specs.Played.{op_lines, beside, played}
 
--- these records, and those of the rest of the lines from line n of this phase on beside the rest of the entries
+-- these records, and after them the rest of the lines, from line n of this phase on, beside the rest of the entries, are all records
 abbrev pub BesideSoFar : List Line → List Entry → List Line → ℕ → ℕ → List Played → Type 0
 BesideSoFar ls es rest n phase xs = xs ++ map beside (zip (op_lines n phase rest) (drop (length xs) es)) ≡ played ls es

@@ -17,7 +17,7 @@ use Rattle.pa_lists.proofs.Elements.{length_map}
 abbrev pub due : ℕ → ℕ → List Line → List (ℕ × ℕ)
 due n phase ls = map key_of_line (op_lines n phase ls)
 
--- So many records are those due; the rest of the lines, from line n on, ask for the rest.
+-- The first `at` records are those due, and the rest of the lines, from line n on, ask for the others.
 pub record DueSoFar (ls : List Line) (es : List Entry) (rest : List Line) (n at : ℕ) : Type 0 where
   pub phase : ℕ
   pub met : (j : ℕ) → j < at → LinesDemand ls es (places.Record j)

@@ -16,12 +16,11 @@ use Rattle.pa_rules.specs.Cells.{IsExchange, history_at}
 use Rattle.pa_rules.specs.Order.{StandsBefore}
 use Rattle.pa_rules.specs.RecordDemands.{IsAbove, WasGiven, ExchangeFits, CellsDemand}
 use Rattle.pa_rules.proofs.ByLines.{same_record}
-use Rattle.pa_lists.proofs.Indexed.{map_at, at_map, one_at, none_past}
+use Rattle.pa_lists.proofs.Indexed.{map_at, at_map, one_at, none_past, here_is}
 use Rattle.pa_audit_records.specs.Exchanges.{NamesExchange, SwapFits, IsSwapOf, TellsPair, AreLinesKnown, IsEarlier, HasLatest, IsRecordOfSwap, FitsNow}
 use Rattle.pa_rules.specs.Rising.{RiseByLine}
 use Rattle.pa_rules.specs.Tells.{TellsFirst}
 use Rattle.pa_audit_records.specs.Tables.{Puts}
-use Rattle.pa_audit_records.proofs.Walking.{here_is}
 use Rattle.pa_audit_records.specs.Seeking.{IsOnLine}
 use Rattle.pa_audit_records.proofs.Seeking.{line_is}
 use Rattle.pa_audit_records.proofs.Stepping.{records_differ}
@@ -48,6 +47,7 @@ swap_fits cells ps i d below asks =
 
 -- ---- one exchange
 
+-- records of one line are one
 pub one_line : (ps : List Played) (x y : Played) → RiseByLine ps → Contains ps x → Contains ps y → x.line ≡ y.line → x ≡ y
 one_line ps x y rising among among' same = same_record ps x y (records_differ ps rising) among among' same
 

@@ -2,10 +2,10 @@
 use Rattle.std.proofs.Common.{◌≡◌, ℕ, ◌+◌, ◌<◌, ◌≤◌, List, ◌∷◌, get_or, length, Option, Some, None, IsSome, refl, sym, ◌∙◌, ap, subst, arith, inl, inr}
 use Rattle.std.specs.Prelude.{slice_get, Contains}
 use Rattle.std.proofs.lemmas.Bool.{cases_lt, false≢true}
-use Rattle.pa_machine.specs.declared.word.SlotName.{SlotName}
-use Rattle.pa_machine.specs.declared.word.Step.{Step}
-use Rattle.pa_machine.specs.Count.{CanStep}
-use Rattle.pa_machine.specs.Run.{Mark, IsFirstAt}
+use Rattle.pa_slot.specs.declared.word.SlotName.{SlotName}
+use Rattle.pa_slot.specs.declared.word.Step.{Step}
+use Rattle.pa_slot.specs.Count.{CanStep}
+use Rattle.pa_slot.specs.Run.{Mark, IsFirstAt}
 use Rattle.pa_lists.proofs.Members.{of_some, not_some}
 use Rattle.pa_rules.specs.declared.played.Played.{Played}
 use Rattle.pa_rules.specs.Played.{mark_of, marks_of}
@@ -15,13 +15,12 @@ use Rattle.pa_rules.proofs.Phases.{mark_in}
 use Rattle.pa_rules.proofs.Marking.{mark_line}
 use Rattle.pa_rules.specs.declared.verdict.Place.TheVariants as places
 use Rattle.pa_rules.specs.RecordDemands.{SlotsDemand}
-use Rattle.pa_lists.proofs.Indexed.{at_in, none_past}
+use Rattle.pa_lists.proofs.Indexed.{at_in, none_past, here_is}
 use Rattle.pa_verdict.proofs.Runs.{same_run}
 use Rattle.pa_audit_records.specs.Keys.{word_key}
 use Rattle.pa_audit_records.specs.Marks.{IsSized}
 use Rattle.pa_rules.specs.Rising.{RiseByLine}
 use Rattle.pa_audit_records.specs.Steps.{AreFirsts, AreReached, HasAllSlots, StepFits, MarkFits}
-use Rattle.pa_audit_records.proofs.Walking.{here_is}
 use Rattle.pa_audit_records.proofs.Stepping.{same_place, records_differ, first_is, first_none}
 use Rattle.pa_rules.proofs.Rising.{rises}
 

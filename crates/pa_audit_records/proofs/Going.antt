@@ -6,11 +6,11 @@ use Rattle.std.specs.Option.{unwrap_or}
 use Rattle.std.proofs.lemmas.Bool.{cases_lt, cond_below, cond_above}
 use Rattle.std.proofs.lemmas.List.{take_all, take_more}
 use Rattle.std.proofs.lemmas.List.Elements.{filter_map-append}
-use Rattle.pa_machine.specs.declared.word.SlotName.{SlotName}
-use Rattle.pa_machine.specs.declared.word.Step.{Step}
-use Rattle.pa_machine.specs.Run.{Mark, Slots}
-use Rattle.pa_machine.specs.Runs.{HasRuns}
-use Rattle.pa_machine.proofs.Runs.{runs_none, runs_same, runs_look, runs_step, slots_of_runs}
+use Rattle.pa_slot.specs.declared.word.SlotName.{SlotName}
+use Rattle.pa_slot.specs.declared.word.Step.{Step}
+use Rattle.pa_slot.specs.Run.{Mark, Slots}
+use Rattle.pa_slot.specs.Runs.{HasRuns}
+use Rattle.pa_slot.proofs.Runs.{runs_none, runs_same, runs_look, runs_step, slots_of_runs}
 use Rattle.pa_lists.proofs.Members.{not_some}
 use Rattle.pa_rules.specs.declared.played.Played.{Played}
 use Rattle.pa_rules.specs.declared.verdict.Place.TheVariants as places
@@ -21,10 +21,9 @@ use Rattle.pa_rules.proofs.Running.{mark_from}
 use Rattle.pa_rules.proofs.Phases.{mark_in}
 use Rattle.pa_rules.proofs.Marking.{mark_line}
 use Rattle.pa_rules.proofs.Rising.{rises}
-use Rattle.pa_lists.proofs.Indexed.{at_in, in_at}
+use Rattle.pa_lists.proofs.Indexed.{at_in, in_at, here_is}
 use Rattle.pa_audit_records.specs.Along.{word_by, LeadsOn}
 use Rattle.pa_audit_records.specs.Keys.{name_key}
-use Rattle.pa_audit_records.proofs.Walking.{here_is}
 
 -- ---- the word of a slot in a table
 
@@ -87,6 +86,7 @@ along_quiet ps word i d below is h = subst (λ ms. HasRuns ms word) (sym (marks_
 pub along_end : (ps : List Played) (word : SlotName → ℕ) (i : ℕ) → length ps ≤ i → RunsTo ps i word → Slots (marks_of ps)
 along_end ps word i end h = slots_of_runs (marks_of ps) word (subst (λ qs. HasRuns (marks_of qs) word) (take_all i ps end) h)
 
+-- what the clause of the slots asks of each record
 pub slots_met : (ps : List Played) → Slots (marks_of ps) → (i : ℕ) → SlotsDemand ps (places.Record i)
 slots_met ps slots i x m at is =
     let among = mark_in ps x m (at_in ps i x at) is in

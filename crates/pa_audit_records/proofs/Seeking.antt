@@ -8,9 +8,8 @@ use Rattle.std.proofs.lemmas.Option.{slice_get_within, get_or_from_slice_get}
 use Rattle.pa_rules.specs.declared.played.Played.{Played}
 use Rattle.pa_rules.specs.Rising.{RiseByLine}
 use Rattle.pa_rules.proofs.Rising.{rises}
-use Rattle.pa_lists.proofs.Indexed.{at_in, in_at}
+use Rattle.pa_lists.proofs.Indexed.{at_in, in_at, here_is}
 use Rattle.pa_audit_records.specs.Seeking.{IsOnLine, NoneOnLine}
-use Rattle.pa_audit_records.proofs.Walking.{here_is}
 
 in_order : (ps : List Played) → RiseByLine ps → IsNonDecreasingBy (λ x. x.line) ps
 in_order ps rising i j d order below = elim (cases_lt i j) [
@@ -18,7 +17,7 @@ in_order ps rising i j d order below = elim (cases_lt i j) [
   | inr most ↦ let same : i ≡ j = omega (arith, order, most) in omega (arith, ap (λ k. (get_or ps k d).line) same)
 ]
 
--- so those before a line come before the others
+-- the records of lower lines come before the others
 pub lines_parted : (ps : List Played) (line : ℕ) → RiseByLine ps → IsPartitionedBy (λ x. ltb x.line line) ps
 lines_parted ps line rising = IsPartitionedBy-ltb (λ x. x.line) ps line (in_order ps rising)
 

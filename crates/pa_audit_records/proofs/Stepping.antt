@@ -2,14 +2,14 @@
 use Rattle.std.proofs.Common.{◌≡◌, ℕ, zero, suc, ◌+◌, ◌<◌, ◌≤◌, List, [], ◌∷◌, ◌++◌, get_or, length, Option, Some, None, IsSome, refl, sym, ◌∙◌, ap, subst, arith, inl, inr}
 use Rattle.std.specs.Prelude.{slice_get, Contains, AllPairs, IfSome, IfNone}
 use Rattle.std.proofs.lemmas.Bool.{cases_lt, cases_eq, false≢true}
-use Rattle.pa_machine.specs.declared.word.SlotName.{SlotName}
-use Rattle.pa_machine.specs.declared.word.Step.{Step}
-use Rattle.pa_machine.specs.declared.word.Word.{Word}
-use Rattle.pa_machine.specs.Count.{CanStep, stepped}
-use Rattle.pa_machine.specs.Run.{Mark, IsFirstAt}
-use Rattle.pa_machine.proofs.Runs.{same_slot_cases, path_push, run_of_path}
+use Rattle.pa_slot.specs.declared.word.SlotName.{SlotName}
+use Rattle.pa_slot.specs.declared.word.Step.{Step}
+use Rattle.pa_slot.specs.declared.word.Word.{Word}
+use Rattle.pa_slot.specs.Count.{CanStep, stepped}
+use Rattle.pa_slot.specs.Run.{Mark, IsFirstAt}
+use Rattle.pa_slot.proofs.Runs.{same_slot_cases, path_push, run_of_path}
 use Rattle.std.proofs.lemmas.List.Elements.{Contains-append_left, Contains-push, Contains-push_cases}
-use Rattle.pa_machine.specs.Runs.{IsPath}
+use Rattle.pa_slot.specs.Runs.{IsPath}
 use Rattle.pa_lists.proofs.Members.{of_some, not_some, first_in, in_cases, not_in_none}
 use Rattle.pa_rules.specs.declared.played.Played.{Played}
 use Rattle.pa_rules.specs.Played.{mark_of, marks_of}
@@ -17,7 +17,7 @@ use Rattle.pa_rules.specs.RecordDemands.{IsRecord}
 use Rattle.pa_rules.proofs.Running.{OtherRecord, one_mark, mark_from, marks_differ}
 use Rattle.pa_rules.proofs.Phases.{mark_in}
 use Rattle.pa_rules.proofs.Marking.{mark_line}
-use Rattle.pa_lists.proofs.Indexed.{at_in, in_at}
+use Rattle.pa_lists.proofs.Indexed.{at_in, in_at, here_is}
 use Rattle.pa_audit_records.specs.Keys.{name_key, word_key}
 use Rattle.pa_audit_records.specs.Marks.{IsSized}
 use Rattle.pa_rules.specs.Rising.{RiseByLine}
@@ -25,7 +25,6 @@ use Rattle.pa_rules.proofs.Rising.{rises}
 use Rattle.pa_audit_records.specs.Steps.{IsStepOf, IsStepAt, IsSizedMark, AreFirstsFrom, AreFirsts, IsNextWord, IsLastWord, HasRunOf, AreReached}
 use Rattle.pa_audit_records.specs.Tables.{Puts}
 use Rattle.pa_audit_records.proofs.Putting.{same_key}
-use Rattle.pa_audit_records.proofs.Walking.{here_is}
 
 pub same_place : (s t : SlotName) (v w : ℕ) → IsSized s v → IsSized t w → word_key s v ≡ word_key t w → (s ≡ t) × (v ≡ w)
 same_place s t v w h k same =
@@ -112,14 +111,15 @@ get_at [] i d x at = absurd (not_some x at)
 get_at (y ∷ ys) zero d x at = (omega arith, of_some y x at)
 get_at (y ∷ ys) (suc i) d x at = let (below, is) = get_at ys i d x at in (omega (arith, below), is)
 
--- so the lines differ
+-- the records at two places have different lines
 pub records_differ : (ps : List Played) → RiseByLine ps → AllPairs OtherRecord ps
 records_differ ps rising i j d less below = λ same. let more : (get_or ps i d).line < (get_or ps j d).line = rising i j d less below in omega (arith, more, same)
 
+-- a record that the table has is one of the list
 pub firsts_within : (ps : List Played) (f : ℕ → Option ℕ) (q i : ℕ) → AreFirsts ps f → f q ≡ Some i → i < length ps
 firsts_within ps f q i h at = let (from, (x, is, step), least) = h.hit q i at in (get_at ps i x x is).0
 
--- the record that the table has tells a step
+-- the record that the table has at a number made a step there
 pub firsts_step : (ps : List Played) (f : ℕ → Option ℕ) (q i : ℕ) (d : Played) → AreFirsts ps f → f q ≡ Some i → IsStepOf (get_or ps i d) q
 firsts_step ps f q i d h at = let (from, (x, is, step), least) = h.hit q i at in subst (λ z. IsStepOf z q) (sym (get_at ps i d x is).1) step
 

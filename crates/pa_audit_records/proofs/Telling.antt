@@ -7,7 +7,7 @@ use Rattle.pa_rules.specs.Tells.{TellsFirst}
 pub tells_at : (P : ℕ → Type 0) (i at : ℕ) → at ≡ i → (P i → ⊥) → ((j : ℕ) → j < i → P j) → TellsFirst P (Some at)
 tells_at P i at same unmet met = subst (λ k. TellsFirst P (Some k)) (sym same) (unmet, met)
 
--- and that there is none, if nothing is asked past the end
+-- no place fails if each so far meets its demand and nothing is asked past the end
 pub tells_none : (P : ℕ → Type 0) (n i : ℕ) → n ≤ i → ((j : ℕ) → j < i → P j) → ((j : ℕ) → n ≤ j → P j) → TellsFirst P None
 tells_none P n i end met past j = elim (cases_lt j i) [
   | inl less ↦ met j less

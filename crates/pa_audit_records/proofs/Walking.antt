@@ -1,20 +1,20 @@
 -- The walk of the registers along the records.
-use Rattle.std.proofs.Common.{◌≡◌, ℕ, zero, suc, ◌+◌, ◌<◌, ◌≤◌, List, [], ◌∷◌, ◌++◌, take, get_or, length, Some, None, refl, sym, ◌∙◌, subst, arith, inl, inr}
-use Rattle.std.specs.Prelude.{slice_get, Contains}
+use Rattle.std.proofs.Common.{◌≡◌, ℕ, ◌+◌, ◌<◌, ◌≤◌, List, [], ◌∷◌, ◌++◌, take, get_or, length, Some, None, sym, ◌∙◌, subst, arith, inl, inr}
+use Rattle.std.specs.Prelude.{Contains}
 use Rattle.pa_record.specs.declared.history.CellEntry.{CellEntry}
 use Rattle.pa_rules.specs.declared.played.Played.{Played}
-use Rattle.pa_rules.specs.Registers.{Reg, Facts, Regs, AllRegs, Row, RowsTo, with_thread, no_regs}
+use Rattle.pa_rules.specs.Registers.{Reg, Regs, AllRegs, Row, RowsTo, with_thread, no_regs}
 use Rattle.std.proofs.lemmas.List.{take_more}
 use Rattle.std.proofs.lemmas.Bool.{cases_lt}
 use Rattle.pa_lists.proofs.Members.{of_some}
 use Rattle.pa_rules.specs.declared.verdict.Place.TheVariants as places
 use Rattle.pa_rules.specs.RecordDemands.{RegistersDemand}
 use Rattle.pa_rules.specs.Sizes.{usable_of}
-use Rattle.pa_lists.proofs.Indexed.{at_in, none_past}
+use Rattle.pa_lists.proofs.Indexed.{at_in, none_past, here_is}
 use Rattle.pa_verdict.proofs.Walks.{rows_end}
 use Rattle.pa_rules.specs.Tells.{TellsFirst}
 use Rattle.pa_rules.specs.Changes.{change_of, changed}
-use Rattle.pa_rules.proofs.Leading.{row_leads}
+use Rattle.pa_rules.proofs.Leading.{rows_one}
 use Rattle.pa_audit_records.specs.Rows.{MayAnswer}
 use Rattle.pa_audit_records.specs.Tables.{regs_in, regs_next, AreRegsOf, facts_by}
 use Rattle.pa_audit_records.proofs.Rowing.{row_may, may_row}
@@ -27,23 +27,8 @@ pub record RegsSoFar (cells : ℕ → List CellEntry) (ps : List Played) (list :
 same_regs : (list : List Reg) (all : AllRegs) → AreRegsOf list all → regs_in list ≡ all
 same_regs list all h = λ i t r. (h t r) i
 
--- the registers that a list of records leads to are one
-pub rows_one : (facts : Facts) (all after other : AllRegs) (ps : List Played) → RowsTo facts all ps after → RowsTo facts all ps other → after ≡ other
-rows_one facts all after other [] h k = h ∙ sym k
-rows_one facts all after other (p ∷ ps) (next, row, more) (next', row', more') =
-    let one = (row_leads facts p.op (all p.thread) p.answer next row).registers in
-    let two = (row_leads facts p.op (all p.thread) p.answer next' row').registers in
-    let same : next' ≡ next = λ i r. (two r ∙ sym (one r)) i in
-    rows_one facts (with_thread all p.thread next) after other ps more (subst (λ (z : Regs). RowsTo facts (with_thread all p.thread z) ps other) same more')
-
 pub regs_start : (cells : ℕ → List CellEntry) (ps : List Played) (list : List Reg) → AreRegsOf list no_regs → RegsSoFar cells ps list 0
 regs_start cells ps list h = record { met = λ j below. absurd (omega (arith, below)); rows = same_regs list no_regs h }
-
--- the record at a place
-pub here_is : {A : Type 0} (xs : List A) (i : ℕ) (d : A) → i < length xs → slice_get xs i ≡ Some (get_or xs i d)
-here_is [] i d below = absurd (omega (arith, below))
-here_is (x ∷ xs) zero d below = refl
-here_is (x ∷ xs) (suc i) d below = here_is xs i d (omega (arith, below))
 
 pub record_among : (ps : List Played) (i : ℕ) (d : Played) → i < length ps → Contains ps (get_or ps i d)
 record_among ps i d below = at_in ps i (get_or ps i d) (here_is ps i d below)

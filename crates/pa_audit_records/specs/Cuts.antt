@@ -11,16 +11,16 @@ pub record IsLow (phases : List ℕ) (phase end : ℕ) : Type 0 where
   pub within : end ≤ length phases
   pub low : (k n : ℕ) → slice_get phases k ≡ Some n → k < end → n ≤ phase
 
--- and the others are of later ones
+-- the first `end` are of this phase or of earlier ones, and the others are of later ones
 pub record IsCut (phases : List ℕ) (phase end : ℕ) : Type 0 where
   pub front : IsLow phases phase end
   pub high : (k n : ℕ) → slice_get phases k ≡ Some n → end ≤ k → phase < n
 
--- the indices at which phase 1 ends, phase 2, and so on
+-- these are the indices at which phase 1 ends, phase 2, and so on
 abbrev pub AreCuts : List ℕ → List ℕ → Type 0
 AreCuts phases ends = HasEach (λ i end. IsCut phases (i + 1) end) ends
 
--- those of records
+-- these are the indices at which phase 1 of the records ends, phase 2, and so on
 abbrev pub AreRecordCuts : List Played → List ℕ → Type 0
 AreRecordCuts ps ends = AreCuts (map (λ (x : Played). x.phase) ps) ends
 

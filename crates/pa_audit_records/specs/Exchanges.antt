@@ -30,7 +30,7 @@ SwapFits cells ops.Purge answer line = Unit {0}
 abbrev pub IsSwapOf : ℕ → Op → Type 0
 IsSwapOf k op = (reg : ℕ) × (op ≡ ops.Swap k reg)
 
--- nothing: each exchange meets what is required of it; one of them: it doesn't, and each above it does
+-- Nothing is found if each exchange meets what is required of it, and else the first one that doesn't.
 abbrev pub TellsPair : (ℕ → ℕ → Type 0) → Option (ℕ × ℕ) → Type 0
 TellsPair Meets None = (k j : ℕ) → Meets k j
 TellsPair Meets (Some p) = (Meets p.0 p.1 → ⊥) × ((l i : ℕ) → IsAbove l i p.0 p.1 → Meets l i)

@@ -1,7 +1,7 @@
 -- What a record reports of a slot, as the checkers have it.
 use Rattle.std.specs.Prelude.{ℕ, ◌<◌}
-use Rattle.pa_machine.specs.declared.word.SlotName.{SlotName}
-use Rattle.pa_machine.specs.Run.{Mark}
+use Rattle.pa_slot.specs.declared.word.SlotName.{SlotName}
+use Rattle.pa_slot.specs.Run.{Mark}
 use Rattle.pa_audit_records.specs.declared.marks.Marked.{Marked}
 
 -- the mark on a line

@@ -1,7 +1,7 @@
 -- What answer an op may have by what the registers hold, without the registers after it.
 use Rattle.std.specs.Prelude.{◌≡◌, ℕ, ◌*◌, ◌<◌, ◌≤◌, ◌⊎◌, List, Some, Result, Ok, Err, slice_get}
-use Rattle.pa_machine.specs.declared.word.SlotName.{SlotName}
-use Rattle.pa_machine.specs.Count.{refs_of}
+use Rattle.pa_slot.specs.declared.word.SlotName.{SlotName}
+use Rattle.pa_slot.specs.Count.{refs_of}
 use Rattle.pa_direct.specs.Shapes.{greatest_size}
 use Rattle.pa_trace.specs.declared.script.Op.{Op}
 use Rattle.pa_trace.specs.declared.script.Op.TheVariants as ops
@@ -17,18 +17,18 @@ use Rattle.pa_rules.specs.declared.played.Played.{Played}
 use Rattle.pa_rules.specs.Registers.{Reg, Facts, Regs, handle_of}
 use Rattle.pa_rules.specs.Nexts.{copy_next, reset_next, free_next, write_next, read_next, looked_free, looked_write, looked_read}
 
--- the answer is a step of the slot that was done
+-- the answer says that a step on the slot was done
 abbrev pub IsDoneAt : SlotName → Answer → Type 0
 IsDoneAt s answer = (seen : Seen) × (seen.slot ≡ s) × (answer ≡ Done seen)
 
--- a request for that many bytes, whose slot has this usable number
+-- the answer of a request for that many bytes: too large, a slot with this usable number, or no room
 abbrev pub AnswersRequest : ℕ → ℕ → Answer → Type 0
 AnswersRequest usable size answer =
     ((greatest_size < size) × (answer ≡ TooLarge))
     ⊎ ((size ≤ greatest_size) × (seen : Seen) × (answer ≡ Made seen usable))
     ⊎ ((size ≤ greatest_size) × (entry : ℕ) × (answer ≡ Full entry))
 
--- an allocation, by what its register holds
+-- the answer of an allocation, by what its register holds
 abbrev pub AnswersAlloc : Reg → ℕ → ℕ → Answer → Type 0
 AnswersAlloc Empty usable size answer = AnswersRequest usable size answer
 AnswersAlloc (Own s) usable size answer = answer ≡ Filled
@@ -36,7 +36,7 @@ AnswersAlloc (Ref s) usable size answer = answer ≡ Filled
 AnswersAlloc Freed usable size answer = AnswersRequest usable size answer
 AnswersAlloc Cleared usable size answer = AnswersRequest usable size answer
 
--- a copy of a handle to slot s, by what the second register holds
+-- the answer of a copy of a handle to slot s, by what the second register holds
 abbrev pub AnswersCopyTo : Reg → SlotName → Answer → Type 0
 AnswersCopyTo Empty s answer = IsDoneAt s answer
 AnswersCopyTo (Own t) s answer = answer ≡ Filled
@@ -44,22 +44,23 @@ AnswersCopyTo (Ref t) s answer = answer ≡ Filled
 AnswersCopyTo Freed s answer = IsDoneAt s answer
 AnswersCopyTo Cleared s answer = IsDoneAt s answer
 
--- an op that its register alone refuses has that answer; else its step on the slot, or its look at it, has this answer
+-- An op that its register refuses has the refusal as its answer. Any other goes to a slot, and its answer is one that it may have there.
 abbrev pub AnswersOne : (SlotName → Answer → Type 0) → Result SlotName Answer → Answer → Type 0
 AnswersOne goes (Ok s) answer = goes s answer
 AnswersOne goes (Err refusal) answer = answer ≡ refusal
 
--- an op that its register refuses has that answer; else its step on the slot, or its look at it, says which it may have
+-- An op that its register refuses has the refusal as its answer. Any other makes a step on a slot or looks at it, which have answers of
+-- their own.
 abbrev pub AnswersNext : (steps looks : SlotName → Answer → Type 0) → Next SlotName → Answer → Type 0
 AnswersNext steps looks (Refused refusal) answer = answer ≡ refusal
 AnswersNext steps looks (Step s) answer = steps s answer
 AnswersNext steps looks (Look s) answer = looks s answer
 
--- a copy, by what both registers hold
+-- the answer of a copy, by what both registers hold
 abbrev pub AnswersCopy : Reg → Reg → Answer → Type 0
 AnswersCopy holds into answer = AnswersOne (λ s a. AnswersCopyTo into s a) (copy_next holds) answer
 
--- a reset, a free, a write, by what the register holds
+-- the answer of a reset, by what its register holds
 abbrev pub AnswersReset : Reg → Answer → Type 0
 AnswersReset holds answer = AnswersOne IsDoneAt (reset_next holds) answer
 
@@ -67,31 +68,31 @@ AnswersReset holds answer = AnswersOne IsDoneAt (reset_next holds) answer
 abbrev pub IsLookedAt : (Seen → Answer) → SlotName → Answer → Type 0
 IsLookedAt looked s answer = (seen : Seen) × (seen.slot ≡ s) × (answer ≡ looked seen)
 
--- a free, by what its register holds; through a raw_ptr it only looks
+-- the answer of a free, by what its register holds, which only looks if that is a raw_ptr
 abbrev pub AnswersFree : Reg → Answer → Type 0
 AnswersFree holds answer = AnswersNext IsDoneAt (IsLookedAt looked_free) (free_next holds) answer
 
--- the owner's step, or the answer that raw_ptrs point to the slot
+-- the answer of a write to slot s by its owner: a step, or that raw_ptrs point to the slot
 abbrev pub AnswersOwnWrite : SlotName → Answer → Type 0
 AnswersOwnWrite s answer =
     (seen : Seen) × (seen.slot ≡ s)
     × (((0 < refs_of seen.found.0) × (answer ≡ Shared seen)) ⊎ ((refs_of seen.found.0 ≡ 0) × (answer ≡ Done seen)))
 
--- a write, by what its register holds; through a raw_ptr it only looks
+-- the answer of a write, by what its register holds, which only looks if that is a raw_ptr
 abbrev pub AnswersWrite : Reg → Answer → Type 0
 AnswersWrite holds answer = AnswersNext AnswersOwnWrite (IsLookedAt looked_write) (write_next holds) answer
 
--- a read of a word of slot s, if that many of its bytes are usable
+-- the answer of a read of a word of slot s, which has that many usable bytes
 abbrev pub AnswersReadFrom : SlotName → ℕ → ℕ → Answer → Type 0
 AnswersReadFrom s usable place answer =
     ((usable ≤ 8 * place) × (answer ≡ OutOfRange))
     ⊎ ((8 * place < usable) × (value : ℕ) × IsLookedAt (λ seen. looked_read seen value) s answer)
 
--- a read, by what the register holds; the usable number is that of its slot
+-- the answer of a read, by what its register holds and by the usable number of each slot
 abbrev pub AnswersRead : Reg → (SlotName → ℕ) → ℕ → Answer → Type 0
 AnswersRead holds usable_at place answer = AnswersOne (λ s a. AnswersReadFrom s (usable_at s) place a) (read_next holds) answer
 
--- an exchange with a cell of this history: it gave what the register held
+-- the answer of an exchange with a cell of this history: an entry that gave what the register held
 abbrev pub AnswersSwap : List CellEntry → Reg → Answer → Type 0
 AnswersSwap history holds answer =
     (entry : ℕ) × (e : CellEntry) × (answer ≡ Swapped entry) × (slice_get history entry ≡ Some e) × (e.gave ≡ handle_of holds)

@@ -7,6 +7,6 @@ use Rattle.pa_rules.specs.RecordDemands.{IsRecord}
 abbrev pub IsOnLine : List Played → ℕ → ℕ → Type 0
 IsOnLine ps line i = (x : Played) × IsRecord ps i x × (x.line ≡ line)
 
--- none is
+-- no record of the list is on this line
 abbrev pub NoneOnLine : List Played → ℕ → Type 0
 NoneOnLine ps line = (i : ℕ) → IsOnLine ps line i → ⊥

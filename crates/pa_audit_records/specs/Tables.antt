@@ -1,7 +1,7 @@
 -- The tables that the checkers keep.
 use Rattle.std.specs.Prelude.{◌≡◌, ℕ, ◌+◌, ◌*◌, ◌<◌, if◌then◌else◌, nat_lt, List, Option, Some, Contains, slice_index_or}
 use Rattle.std.specs.Option.{unwrap_or}
-use Rattle.pa_machine.specs.declared.word.SlotName.{SlotName}
+use Rattle.pa_slot.specs.declared.word.SlotName.{SlotName}
 use Rattle.pa_trace.specs.declared.script.Op.{Op}
 use Rattle.pa_trace.specs.declared.script.Op.TheVariants.{Read}
 use Rattle.pa_trace.specs.Limits.{register_count}
@@ -13,12 +13,12 @@ use Rattle.pa_rules.specs.Registers.{Reg, AllRegs, Facts, usable_in, with, with_
 use Rattle.pa_rules.specs.Changes.{change_of, changed}
 use Rattle.pa_audit_records.specs.Keys.{name_key}
 
--- key k has v now, the others what they had
+-- key k has v now, and the other keys have what they had
 pub record Puts {V : Type 0} (f g : ℕ → Option V) (k : ℕ) (v : V) : Type 0 where
   pub here : g k ≡ Some v
   pub other : (q : ℕ) → (q ≡ k → ⊥) → g q ≡ f q
 
--- the usable number of a slot in a table by the slots' numbers: 0 if none is there
+-- the usable number of a slot in a table by the slots' numbers, and 0 if none is there
 abbrev pub usable_by : (ℕ → Option ℕ) → SlotName → ℕ
 usable_by at s = unwrap_or (at (name_key s)) 0
 
@@ -30,15 +30,15 @@ AreUsables ps at = (s : SlotName) → s.start < 4294967296 → usable_by at s �
 abbrev pub ReadsSlot : Op → Type 0
 ReadsSlot op = (reg : ℕ) × (place : ℕ) × (op ≡ Read reg place)
 
--- it has if one of the records reads a slot
+-- the table has the usable number of each slot if one of the records reads a slot
 abbrev pub SuitsReads : List Played → (ℕ → Option ℕ) → Type 0
 SuitsReads ps at = (x : Played) → Contains ps x → ReadsSlot x.op → AreUsables ps at
 
--- the registers of all threads in a list, 64 of each thread; one that isn't there is empty
+-- the registers of all threads in a list, 64 of each thread, and an empty one past the end
 abbrev pub regs_in : List Reg → AllRegs
 regs_in list t r = if nat_lt r register_count then slice_index_or list (register_count * t + r) Empty else Empty
 
--- they are the same
+-- the list has the registers of all threads
 abbrev pub AreRegsOf : List Reg → AllRegs → Type 0
 AreRegsOf list all = (t r : ℕ) → regs_in list t r ≡ all t r
 

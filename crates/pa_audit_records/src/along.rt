@@ -1,6 +1,6 @@
 ghost use Rattle.std.specs.Prelude.{◌≡◌, ◌↔◌, IfOk, IsTrue};
 ghost use Rattle.std.specs.Option.{unwrap_or};
-ghost use Rattle.pa_machine.specs.Run.{Slots};
+ghost use Rattle.pa_slot.specs.Run.{Slots};
 ghost use Rattle.pa_rules.specs.Played.{marks_of};
 ghost use Rattle.pa_rules.specs.Rising.{RiseByLine};
 ghost use Rattle.pa_audit_records.specs.ByKeys.{value_at};
@@ -10,8 +10,8 @@ use crate::by_key::ByKey;
 use crate::keys::key;
 use crate::marks::{Marked, told_mark};
 use crate::salt::Salt;
-use pa_machine::{OutOfMemory, Word, apply};
 use pa_rules::Played;
+use pa_slot::{OutOfMemory, Word, apply};
 use std::alloc::Global;
 
 // Whether a word is the one in a table, or 0 if the table has none.

@@ -3,7 +3,7 @@ ghost use Rattle.pa_audit_records.specs.ByKeys.{value_at};
 ghost use Rattle.pa_audit_records.specs.Tables.{Puts};
 
 use crate::salt::Salt;
-use pa_machine::OutOfMemory;
+use pa_slot::OutOfMemory;
 use std::alloc::Global;
 use std::collections::HashMap;
 
@@ -26,20 +26,22 @@ impl<V: Copy> ByKey<V> {
         }
     }
 
-    /// Sets the value at a key. If memory runs out, the table is as it was.
+    /// Sets the value at a key. If memory runs out, the key wasn't there, and the table is as it was.
     pub fn put(&mut self, key: u128, value: V) -> Result<(), OutOfMemory>
         ensures puts { OnOk result (Puts (value_at self.old) (value_at self.new) key value) }
         ensures same { OnErr result ((q : ℕ) → value_at self.new q ≡ value_at self.old q) }
+        ensures asks { OnErr result (value_at self.old key ≡ None) }
     {
         self.replace(key, value)?;
         Ok(())
     }
 
-    /// Sets the value at a key, and returns the one that was there. If memory runs out, the table is as it was.
+    /// Sets the value at a key, and returns the one that was there. If memory runs out, none was there, and the table is as it was.
     pub fn replace(&mut self, key: u128, value: V) -> Result<Option<V>, OutOfMemory>
         ensures old { IfOk result (λ old. old ≡ value_at self.old key) }
         ensures puts { OnOk result (Puts (value_at self.old) (value_at self.new) key value) }
         ensures same { OnErr result ((q : ℕ) → value_at self.new q ≡ value_at self.old q) }
+        ensures asks { OnErr result (value_at self.old key ≡ None) }
     {
         let old = self.values.insert(key ^ self.salt, value)?;
         Ok(old)

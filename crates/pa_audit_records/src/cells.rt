@@ -12,13 +12,13 @@ use crate::by_key::ByKey;
 use crate::records::record_on;
 use crate::rows::exchange;
 use crate::salt::Salt;
-use pa_machine::OutOfMemory;
 use pa_record::{Answer, CellEntry, Held, History};
 use pa_rules::Played;
+use pa_slot::OutOfMemory;
 use pa_trace::Op;
 use std::alloc::Global;
 
-/// The index of the first record of an exchange that doesn't name one of its cell with its line; none if each does.
+/// The index of the first record of an exchange that doesn't name one of its cell with its line, and none if each does.
 pub fn swaps_meet(records: &[Played], cells: &[History]) -> Option<u32>
     requires few { length records.now < 2 ^ 32 }
     ensures { TellsFirst (λ i. CellsDemand (history_at cells.now) records.now (places.Record i)) result }
@@ -167,8 +167,8 @@ fn cell_meets(
     Ok(None)
 }
 
-/// The first exchange, cell by cell, that found what the one before didn't give, has no line of its cell's, or one that an
-/// exchange above it has, or comes after one whose record comes later; none if none does.
+/// The first exchange, cell by cell, that found what the one before didn't give, that has no line of its cell's or one that an exchange
+/// above it has, or that comes after one with a record that comes later. None if there is no such exchange.
 pub fn exchanges_meet(
     alloc: Global,
     salt: Salt,

@@ -6,9 +6,9 @@ ghost use Rattle.pa_audit_records.specs.Tables.{AreRegsOf, regs_in, regs_next};
 
 use crate::registers::Registers;
 use crate::rows::{exchange, register};
-use pa_machine::SlotName;
 use pa_record::{Answer, Held, History};
 use pa_rules::{Played, Register};
+use pa_slot::SlotName;
 use pa_trace::Op;
 
 // What the exchange of this index with the cell found, and nothing if there is none.
@@ -51,7 +51,7 @@ fn change_by(cells: &[History], op: Op, answer: Answer) -> Option<(u32, Register
 }
 
 impl Registers {
-    /// Changes them as a record's answer does. The record's thread is below 16, and it names registers below 64.
+    /// Changes the registers as a record's answer does. The record's thread is below 16, and it names registers below 64.
     pub fn change(&mut self, cells: &[History], told: &Played)
         requires within { IsPlayedWithin told.now }
         ensures { AreRegsOf self.new (regs_next (history_at cells.now) (regs_in self.old) told.now) }

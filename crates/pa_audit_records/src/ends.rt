@@ -1,10 +1,10 @@
 ghost use Rattle.std.specs.Prelude.{◌≡◌, ◌<◌, ◌≤◌, AllPairs, IfOk, length};
 ghost use Rattle.pa_audit_records.specs.Cuts.{AreCuts, IsCut, IsLow};
 
-use pa_machine::OutOfMemory;
+use pa_slot::OutOfMemory;
 use std::alloc::Global;
 
-/// For each of the phases 1 to `last`, how many of these are of it or of earlier ones.
+/// For each of the phases 1 to `last`, how many members of the list are of it or of earlier ones.
 pub fn ends_of(alloc: Global, phases: &[u32], last: u32) -> Result<Vec<usize>, OutOfMemory>
     requires rising { AllPairs ◌≤◌ phases.now }
     requires last { last < 4294967295 }
@@ -20,7 +20,7 @@ pub fn ends_of(alloc: Global, phases: &[u32], last: u32) -> Result<Vec<usize>, O
     Ok(ends)
 }
 
-// The index at which those of this phase or of earlier ones end. The first `from` are of them.
+// The index at which the members of this phase or of earlier ones end, of which the first `from` are some.
 fn end_of(phases: &[u32], from: usize, phase: u32) -> usize
     requires rising { AllPairs ◌≤◌ phases.now }
     requires low { IsLow phases.now phase from }

@@ -2,7 +2,7 @@ ghost use Rattle.std.specs.Prelude.{◌≡◌, ◌+◌, ◌*◌, ◌<◌};
 ghost use Rattle.pa_audit_records.specs.Keys.{name_key, word_key};
 ghost use Rattle.pa_audit_records.specs.Marks.{IsSized};
 
-use pa_machine::{SlotName, Word};
+use pa_slot::{SlotName, Word};
 
 // The number of a slot.
 pub(crate) fn key(slot: SlotName) -> u128

@@ -5,9 +5,9 @@ ghost use Rattle.pa_audit_records.specs.Marks.{mark_with, IsSized};
 ghost use Rattle.pa_audit_records.specs.Steps.{IsStepOf, IsSizedMark};
 
 use crate::keys::key_word;
-use pa_machine::{SlotName, Step, Word};
 use pa_record::{Answer, Seen};
 use pa_rules::Played;
+use pa_slot::{SlotName, Step, Word};
 use pa_trace::Op;
 
 // What a record reports of a slot: the word that it found there, and the step that it made.

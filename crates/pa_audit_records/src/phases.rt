@@ -4,8 +4,8 @@ ghost use Rattle.pa_rules.specs.Legal.{is_phase, phases_in};
 ghost use Rattle.pa_audit_records.specs.Cuts.{AreRecordCuts, RiseByPhase};
 
 use crate::ends::ends_of;
-use pa_machine::OutOfMemory;
 use pa_rules::Played;
+use pa_slot::OutOfMemory;
 use pa_trace::Line;
 use std::alloc::Global;
 

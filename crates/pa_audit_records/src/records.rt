@@ -5,13 +5,13 @@ ghost use Rattle.pa_audit_records.specs.Limits.{RecordsAreWithin};
 ghost use Rattle.pa_audit_records.specs.Seeking.{IsOnLine, NoneOnLine};
 ghost use Rattle.pa_rules.specs.Rising.{RiseByLine};
 
-use pa_machine::OutOfMemory;
 use pa_record::Entry;
 use pa_rules::Played;
+use pa_slot::OutOfMemory;
 use pa_trace::Line;
 use std::alloc::Global;
 
-/// The records paired with the ops of the trace's lines; if one list is longer, the rest of it is left out.
+/// The records paired with the ops of the trace's lines. If one list is longer, the rest of it is left out.
 pub fn records_of(
     alloc: Global,
     lines: &[Line],
@@ -74,7 +74,7 @@ pub fn record_on(records: &[Played], line: u32) -> Option<u32>
     record_near(records, line, line.saturating_sub(2))
 }
 
-/// The same, but it is looked for at this index first.
+/// The index of the record on a line, if there is one. It is looked for at the index `place` first.
 pub fn record_near(records: &[Played], line: u32, place: u32) -> Option<u32>
     requires few { length records.now < 2 ^ 32 }
     requires rising { RiseByLine records.now }

@@ -3,8 +3,8 @@ ghost use Rattle.pa_trace.specs.Limits.{register_count, most_threads};
 ghost use Rattle.pa_rules.specs.Registers.{no_regs};
 ghost use Rattle.pa_audit_records.specs.Tables.{regs_in, AreRegsOf, with_register};
 
-use pa_machine::{OutOfMemory, SlotName};
 use pa_rules::Register;
+use pa_slot::{OutOfMemory, SlotName};
 use pa_trace::{MOST_THREADS, REGISTERS};
 use std::alloc::Global;
 use std::marker::Model;
@@ -30,7 +30,7 @@ impl Model for Registers {
 }
 
 impl Registers {
-    /// All empty.
+    /// Registers that are all empty.
     pub fn new(alloc: Global) -> Result<Registers, OutOfMemory>
         ensures { IfOk result (λ r. AreRegsOf r no_regs) }
     {

@@ -7,9 +7,9 @@ ghost use Rattle.pa_audit_records.specs.Rows.{IsDoneAt, AnswersRequest, AnswersA
 
 use crate::usable::usable_for;
 use pa_direct::GREATEST_SIZE;
-use pa_machine::{SlotName, refs};
 use pa_record::{Answer, CellEntry, Held, History};
 use pa_rules::{Next, Register, looked_free, looked_read, looked_write};
+use pa_slot::{SlotName, refs};
 
 // Whether the answer is a step of the slot that was done.
 fn is_done(slot: SlotName, answer: Answer) -> bool

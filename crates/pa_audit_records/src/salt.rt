@@ -1,8 +1,8 @@
 use crate::marks::told_mark;
 use pa_dense::{Act, DenseJournal};
-use pa_machine::SlotName;
 use pa_record::Numbered;
 use pa_rules::Played;
+use pa_slot::SlotName;
 use std::hash::{DefaultHasher, Hasher};
 
 /// What tables hash their keys together with. It is made of all slots and words of a run, from which the tables' keys come:

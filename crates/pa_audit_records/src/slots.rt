@@ -14,12 +14,12 @@ use crate::keys::key_word;
 use crate::marks::{Marked, told_mark};
 use crate::salt::Salt;
 use crate::steps::{firsts, reach};
-use pa_machine::{OutOfMemory, Word, apply};
 use pa_rules::Played;
+use pa_slot::{OutOfMemory, Word, apply};
 use std::alloc::Global;
 
-/// The index of the first record that found a word which isn't one of its slot's run, or made a step which isn't the one
-/// that the run used there; none if no record did.
+/// The index of the first record that found a word which isn't one of its slot's run, or made a step which isn't the one that the run
+/// used there. None if no record did.
 pub fn slots_meet(alloc: Global, salt: Salt, records: &[Played]) -> Result<Option<u32>, OutOfMemory>
     requires few { length records.now < 2 ^ 32 }
     requires rising { RiseByLine records.now }
@@ -63,7 +63,7 @@ fn runs(
     Ok(reached)
 }
 
-// Whether a step is the first at its word, by the record of this index, and enabled there; a look has no step.
+// Whether the step that a record of this index made, if it made one, is the first at its word and enabled there.
 fn step_fits(firsts: &ByKey<u32>, at: u32, line: u32, mark: Marked) -> bool
     ensures { IsTrue result ↔ StepFits (value_at firsts.now) at (mark_with line mark) mark.step }
 {

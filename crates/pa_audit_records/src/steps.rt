@@ -1,8 +1,8 @@
 ghost use Rattle.std.specs.Prelude.{◌≡◌, ◌<◌, ◌^◌, AllPairs, IfOk, IfSome, IfNone, OnOk, IsSome, None, length};
 ghost use Rattle.pa_audit_records.specs.ByKeys.{value_at};
-ghost use Rattle.pa_machine.specs.declared.word.SlotName.{SlotName};
-ghost use Rattle.pa_machine.specs.declared.word.Step.{Step};
-ghost use Rattle.pa_machine.specs.Run.{Mark, IsFirstAt};
+ghost use Rattle.pa_slot.specs.declared.word.SlotName.{SlotName};
+ghost use Rattle.pa_slot.specs.declared.word.Step.{Step};
+ghost use Rattle.pa_slot.specs.Run.{Mark, IsFirstAt};
 ghost use Rattle.pa_rules.specs.Played.{marks_of};
 ghost use Rattle.pa_audit_records.specs.Keys.{word_key};
 ghost use Rattle.pa_audit_records.specs.Marks.{IsSized};
@@ -13,8 +13,8 @@ use crate::by_key::ByKey;
 use crate::keys::key_word;
 use crate::marks::{step_key, told_mark};
 use crate::salt::Salt;
-use pa_machine::{OutOfMemory, SlotName, Step, Word, apply};
 use pa_rules::Played;
+use pa_slot::{OutOfMemory, SlotName, Step, Word, apply};
 use std::alloc::Global;
 
 // The first record that made a step of each slot at each word. The last record is looked at first.

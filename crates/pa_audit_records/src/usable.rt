@@ -9,9 +9,9 @@ use crate::keys::key;
 use crate::salt::Salt;
 use pa_buckets::{class_of, raw_of, slot_size};
 use pa_direct::shape;
-use pa_machine::OutOfMemory;
 use pa_record::Answer;
 use pa_rules::Played;
+use pa_slot::OutOfMemory;
 use std::alloc::Global;
 
 // Bytes of a count word.
@@ -31,8 +31,8 @@ pub(crate) fn usable_for(size: u32) -> u32
     }
 }
 
-// For each slot that a record made, by its number, the usable number that the first such record says: the last record
-// is looked at first.
+// For each slot that a record made, by its number, the usable number that the first such record reports. The last record is looked at
+// first.
 pub(crate) fn usables(
     alloc: Global,
     salt: Salt,

@@ -16,13 +16,13 @@ use crate::registers::Registers;
 use crate::rows::{may_alloc, may_copy, may_free, may_read_from, may_reset, may_swap, may_write};
 use crate::salt::Salt;
 use crate::usable::usables;
-use pa_machine::{OutOfMemory, SlotName};
 use pa_record::{Answer, History};
 use pa_rules::{Played, Register};
+use pa_slot::{OutOfMemory, SlotName};
 use pa_trace::Op;
 use std::alloc::Global;
 
-/// The index of the first record whose answer isn't the one that its thread's registers require; none if each is.
+/// The index of the first record with another answer than its thread's registers require. None if there is no such record.
 pub fn registers_meet(
     alloc: Global,
     salt: Salt,
@@ -53,7 +53,7 @@ fn is_read(op: Op) -> bool
     matches!(op, Op::Read { .. })
 }
 
-// Whether a record's op does.
+// Whether one of the records has an op that reads a slot.
 fn reads(records: &[Played]) -> bool
     ensures { IsTrue result ↔ Any (λ x. ReadsSlot x.op) records.now }
 {

@@ -3,41 +3,25 @@ use Rattle.std.proofs.Common.{◌≡◌, ◌≢◌, ℕ, ◌+◌, ◌<◌, Bool,
 use Rattle.std.specs.Prelude.{if◌then◌else◌, slice_get, IfSome}
 use Rattle.std.proofs.lemmas.Bool.{eq-eqb, ne_eqb}
 use Rattle.std.proofs.lemmas.List.{length-append}
-use Rattle.std.proofs.lemmas.List.Sums.{sum_by-cons}
-use Rattle.pa_machine.specs.declared.word.SlotName.{SlotName}
-use Rattle.pa_machine.specs.declared.word.Step.{Step}
-use Rattle.pa_machine.specs.declared.word.Step.TheVariants.{Issue}
-use Rattle.pa_machine.specs.Run.{Mark}
+use Rattle.pa_slot.specs.declared.word.SlotName.{SlotName}
+use Rattle.pa_slot.specs.declared.word.Step.{Step}
+use Rattle.pa_slot.specs.declared.word.Step.TheVariants.{Issue}
+use Rattle.pa_slot.specs.Run.{Mark}
 use Rattle.pa_record.specs.declared.entry.Seen.{Seen}
 use Rattle.pa_record.specs.declared.entry.Answer.TheVariants.{Made, Done}
 use Rattle.pa_record.specs.declared.report.Tally.{Tally}
 use Rattle.pa_rules.specs.declared.played.Played.{Played}
 use Rattle.pa_rules.specs.Flow.{at_step}
 use Rattle.pa_rules.specs.Played.{mark_at, mark_of, mark_of_answer, marks_of, step_of}
-use Rattle.pa_machine.specs.Kinds.{issues, frees, enters, leaves}
+use Rattle.pa_slot.specs.Kinds.{issues, frees, enters, leaves}
 use Rattle.pa_legal.specs.Tallies.{weight_of, one_of, bytes_of}
+use Rattle.pa_legal.proofs.tallies.Sums.{one_weight, weight_first}
 use Rattle.pa_audit_heap.proofs.Listed.{front_more}
 use Rattle.pa_audit_holders.specs.declared.homes.Home.{Home}
 use Rattle.pa_audit_report.specs.declared.counts.Count.{Count}
 use Rattle.pa_audit_report.specs.declared.counts.Stepped.{Stepped}
 use Rattle.pa_audit_report.specs.Counts.{HasCounted, HasRoom, HasRoomFor, IsBytesOf, IsDoneOf, IsStepOf, IsTotal, MovesNothing, mark_passes, passes, raised_by, tally_more}
 use Rattle.pa_audit_report.specs.Sized.{home_in, size_in}
-
--- what one record's step weighs
-abbrev pub one_weight : (Step → ℕ → Bool) → (SlotName → ℕ) → Option Mark → ℕ
-one_weight test weight None = 0
-one_weight test weight (Some m) = if at_step test m.found m.step then weight m.slot else 0
-
-pub weight_first : (test : Step → ℕ → Bool) (weight : SlotName → ℕ) (x : Played) (xs : List Played) →
-    weight_of test weight (marks_of (x ∷ xs)) ≡ one_weight test weight (mark_of x) + weight_of test weight (marks_of xs)
-weight_first test weight x xs = go (mark_of x) refl
-  where
-    plain : (n : ℕ) → n ≡ 0 + n
-    plain n = omega arith
-
-    go : (o : Option Mark) → mark_of x ≡ o → weight_of test weight (marks_of (x ∷ xs)) ≡ one_weight test weight o + weight_of test weight (marks_of xs)
-    go None e = rw e (plain (weight_of test weight (marks_of xs)))
-    go (Some m) e = rw e (sum_by-cons (λ (n : Mark). if at_step test n.found n.step then weight n.slot else 0) m (marks_of xs))
 
 pub weight_push : (test : Step → ℕ → Bool) (weight : SlotName → ℕ) (xs : List Played) (x : Played) →
     weight_of test weight (marks_of (xs ++ x ∷ [])) ≡ weight_of test weight (marks_of xs) + one_weight test weight (mark_of x)
@@ -48,7 +32,7 @@ weight_push test weight (y ∷ xs) x =
     let again = weight_push test weight xs x in
     omega arith
 
--- a step that doesn't pass weighs nothing; one that does, what its slot weighs
+-- a step that doesn't pass weighs nothing, and one that does weighs what its slot weighs
 none_weighs : (test : Step → ℕ → Bool) (weight : SlotName → ℕ) (o : Option Mark) → mark_passes test o ≡ false → one_weight test weight o ≡ 0
 none_weighs test weight None e = refl
 none_weighs test weight (Some m) e = rw e refl

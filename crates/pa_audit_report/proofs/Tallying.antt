@@ -3,9 +3,9 @@ use Rattle.std.proofs.Common.{◌≡◌, ◌≢◌, ℕ, ◌+◌, ◌-◌, ◌<�
 use Rattle.std.specs.Prelude.{◌↔◌, Contains, if◌then◌else◌, is_some}
 use Rattle.std.proofs.lemmas.Bool.{false≢true, ne_eqb}
 use Rattle.std.proofs.lemmas.List.Kept.{AllPairs-filter}
-use Rattle.pa_machine.specs.declared.word.SlotName.{SlotName}
-use Rattle.pa_machine.specs.declared.word.Step.{Step}
-use Rattle.pa_machine.specs.Run.{Mark, IsFirstAt, IsLive, IsOneRun, IsQuarantined, IsRunFrom, Slots}
+use Rattle.pa_slot.specs.declared.word.SlotName.{SlotName}
+use Rattle.pa_slot.specs.declared.word.Step.{Step}
+use Rattle.pa_slot.specs.Run.{Mark, IsFirstAt, IsLive, IsOneRun, IsQuarantined, IsRunFrom, Slots}
 use Rattle.pa_record.specs.declared.pool.PoolEntry.{PoolEntry}
 use Rattle.pa_record.specs.declared.report.Tally.{Tally}
 use Rattle.pa_lists.proofs.Joined.{filter_cases, filter_in}
@@ -16,25 +16,27 @@ use Rattle.pa_rules.specs.Report.{HasSize, HasWord, IsTally}
 use Rattle.pa_rules.specs.Roots.{Journals}
 use Rattle.pa_rules.proofs.Phases.{mark_in}
 use Rattle.pa_rules.proofs.Running.{mark_from}
-use Rattle.pa_machine.specs.Kinds.{enters, frees, issues, leaves}
+use Rattle.pa_slot.specs.Kinds.{enters, frees, issues, leaves}
 use Rattle.pa_legal.specs.Tallies.{AreHomes, IsLeft, IsTallied, WentIn, bytes_of, one_of, weight_of}
 use Rattle.pa_legal.proofs.tallies.Adding.{tallies_follow}
+use Rattle.pa_legal.proofs.tallies.Sums.{one_weight, weight_first}
 use Rattle.pa_audit_holders.specs.declared.homes.Home.{Home}
 use Rattle.pa_audit_report.specs.declared.counts.InUse.{InUse}
 use Rattle.pa_audit_report.specs.Counts.{IsTotal, IsUse, less_of}
 use Rattle.pa_audit_holders.specs.Homes.{KnowsHomes, home_at}
 use Rattle.pa_audit_report.specs.Sized.{home_in, partition_by, bytes_by, size_in}
-use Rattle.pa_audit_report.proofs.Counting.{one_weight, weight_first}
 use Rattle.pa_audit_report.proofs.Sizing.{size_known, sized_there}
 
--- the journals handed the slot out, by the table; a record that reports another slot is left out
+-- the table has a home for the slot
 abbrev homed : (ℕ → Option Home) → SlotName → Bool
 homed at s = is_some (home_at at s)
 
+-- the table has a home for the slot of a mark, if there is a mark
 abbrev mark_homed : (ℕ → Option Home) → Option Mark → Bool
 mark_homed at None = true
 mark_homed at (Some m) = homed at m.slot
 
+-- the table has a home for the slot that a record reports, if it reports one
 abbrev keeps : (ℕ → Option Home) → Played → Bool
 keeps at x = mark_homed at (mark_of x)
 

@@ -1,8 +1,8 @@
 -- The steps that count for the slots in use, record by record.
 use Rattle.std.specs.Prelude.{◌≡◌, ◌≢◌, ℕ, ◌+◌, ◌-◌, ◌*◌, ◌<◌, ◌≤◌, Bool, true, false, List, length, Option, Some, None}
-use Rattle.pa_machine.specs.declared.word.SlotName.{SlotName}
-use Rattle.pa_machine.specs.declared.word.Step.{Step}
-use Rattle.pa_machine.specs.Run.{Mark}
+use Rattle.pa_slot.specs.declared.word.SlotName.{SlotName}
+use Rattle.pa_slot.specs.declared.word.Step.{Step}
+use Rattle.pa_slot.specs.Run.{Mark}
 use Rattle.pa_trace.specs.declared.script.Op.{Op}
 use Rattle.pa_record.specs.declared.entry.Seen.{Seen}
 use Rattle.pa_record.specs.declared.report.Tally.{Tally}
@@ -10,7 +10,7 @@ use Rattle.pa_rules.specs.declared.played.Played.{Played}
 use Rattle.pa_rules.specs.Flow.{at_step}
 use Rattle.pa_rules.specs.Played.{mark_of, marks_of, step_of}
 use Rattle.pa_rules.specs.Report.{until}
-use Rattle.pa_machine.specs.Kinds.{issues, frees, enters, leaves}
+use Rattle.pa_slot.specs.Kinds.{issues, frees, enters, leaves}
 use Rattle.pa_legal.specs.Tallies.{weight_of, one_of, bytes_of}
 use Rattle.pa_audit_holders.specs.declared.homes.Home.{Home}
 use Rattle.pa_audit_report.specs.declared.counts.Count.{Count}
@@ -42,7 +42,7 @@ mark_passes test (Some m) = at_step test m.found m.step
 abbrev pub passes : (Step → ℕ → Bool) → Played → Bool
 passes test x = mark_passes test (mark_of x)
 
--- in which counts a record goes, and on which slot
+-- the step of a record: the slot on which it was made, and the counts in which it goes
 pub record IsStepOf (x : Played) (z : Stepped) : Type 0 where
   pub mark : Mark
   pub is : mark_of x ≡ Some mark
@@ -52,14 +52,14 @@ pub record IsStepOf (x : Played) (z : Stepped) : Type 0 where
   pub enters_is : z.enters ≡ passes enters x
   pub leaves_is : z.leaves ≡ passes leaves x
 
--- it goes in none
+-- the record goes in none of the counts
 pub record MovesNothing (x : Played) : Type 0 where
   pub issues_not : passes issues x ≡ false
   pub frees_not : passes frees x ≡ false
   pub enters_not : passes enters x ≡ false
   pub leaves_not : passes leaves x ≡ false
 
--- the same of an op that is done
+-- the op is done on this slot, and its step goes in these counts
 pub record IsDoneOf (op : Op) (seen : Seen) (z : Stepped) : Type 0 where
   pub slot : seen.slot ≡ z.slot
   pub issues_is : z.issues ≡ at_step issues seen.found.0 (step_of op)
@@ -74,7 +74,7 @@ pub record DoesNothing (op : Op) : Type 0 where
   pub enters_not : (w : ℕ) → at_step enters w (step_of op) ≡ false
   pub leaves_not : (w : ℕ) → at_step leaves w (step_of op) ≡ false
 
--- the slot is of partition p and has that many bytes; or it isn't of that partition
+-- by the table the slot is of partition p and has that many bytes
 pub record IsBytesOf (at : ℕ → Option Home) (p : ℕ) (s : SlotName) (bytes : ℕ) : Type 0 where
   pub home : home_in at s ≡ p
   pub size : size_in at s ≡ bytes
@@ -119,6 +119,6 @@ pub record IsUse (at : ℕ → Option Home) (p : ℕ) (xs : List Played) (u : In
   pub live : u.live ≡ less_of count.issued count.freed
   pub quarantined : u.quarantined ≡ less_of count.entered count.left
 
--- those at the end of each phase
+-- the slots in use of partition p at the end of each phase
 abbrev pub HaveUses : (ℕ → Option Home) → ℕ → List Played → List InUse → Type 0
 HaveUses at p ps uses = HasEach (λ i u. IsUse at p (until (i + 1) ps) u) uses

@@ -38,7 +38,7 @@ pub record IsDueAt (partitions threads : ℕ) (ps : List Played) (pools : List P
 abbrev pub IsColumn : ℕ → ℕ → List Played → List PoolEntry → Journals → ℕ → List ReportLine → Type 0
 IsColumn partitions threads ps pools roots p lines = HasEach (λ i l. IsDueAt partitions threads ps pools roots (i + 1) p l) lines
 
--- those of all partitions
+-- the lines of each of the first `n` partitions, from phase 1 on
 pub record AreColumns (phases partitions threads : ℕ) (ps : List Played) (pools : List PoolEntry) (roots : Journals)
     (n : ℕ) (columns : List (List ReportLine)) : Type 0 where
   pub many : length columns ≡ n
@@ -54,7 +54,7 @@ pub record IsReportTo (partitions threads : ℕ) (ps : List Played) (pools : Lis
   pub places : map (λ (l : ReportLine). (l.phase, l.partition)) lines ≡ phases_to partitions i p
   pub right : All (IsReportLine partitions threads ps pools roots) lines
 
--- the lines so far, by columns of whatever run
+-- whatever run has these columns, the lines are its report up to partition p of the phase after the first i
 abbrev pub GathersTo : ℕ → ℕ → List (List ReportLine) → ℕ → ℕ → List ReportLine → Type 0
 GathersTo phases partitions columns i p lines =
     (threads : ℕ) (ps : List Played) (pools : List PoolEntry) (roots : Journals) →

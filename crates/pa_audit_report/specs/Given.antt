@@ -1,6 +1,6 @@
 -- What the checker of the report is given: the clauses before it, in the words in which they are used.
 use Rattle.std.specs.Prelude.{◌≡◌, ℕ, ◌<◌, List, All}
-use Rattle.pa_machine.specs.Run.{Slots}
+use Rattle.pa_slot.specs.Run.{Slots}
 use Rattle.pa_trace.specs.declared.script.Trace.{Trace}
 use Rattle.pa_record.specs.declared.pool.PoolEntry.{PoolEntry}
 use Rattle.pa_record.specs.declared.root.RootEntry.{RootEntry}
@@ -28,10 +28,11 @@ HoldBefore t r = (d : Clause) → turn d < turn clauses.Report → Holds d t r
 abbrev pub AreRecordsOf : Trace → Run → List Played → Type 0
 AreRecordsOf t r ps = ps ≡ records_of t (told_by r)
 
--- What they say of the records, the pool's entries and the journals.
+-- What the clauses before the report say of the records, the pool's entries and the journals.
 --   rising, phased: lines and phases of the records rise
 --   within: they are of at most 16 threads and four partitions
---   slots: each slot's steps are one run; ordered: in the order of the phases
+--   slots: each slot's steps are one run
+--   ordered: no record finds a lower number of a slot than one of an earlier phase left there
 --   pool, journals, caches: three clauses of a legal run
 --   fit, entries: each entry of the pool fits the pool, and each of a journal its root
 pub record IsGiven (supers partitions : ℕ) (ps : List Played) (pools : List PoolEntry) (roots : Journals) : Type 0 where

@@ -12,22 +12,22 @@ use Rattle.pa_audit_holders.specs.Cached.{HaveCached}
 use Rattle.pa_audit_holders.specs.Homes.{KnowsHomes}
 use Rattle.pa_audit_report.specs.declared.known.Known.{Known}
 
--- the records of each phase end there
+-- the known ends of the phases are those of the records
 pub record KnowsEnds (t : Trace) (ps : List Played) (k : Known) : Type 0 where
   pub ends : AreRecordCuts ps k.ends.items
   pub phases : length k.ends.items ≡ phases_in t.lines
 
--- what the roots have, by the journals
+-- the known censuses are those of the roots at the end of each phase, by the journals
 abbrev pub KnowsCensuses : Trace → Run → List Played → Known → Type 0
 KnowsCensuses t r ps k = HaveAllCensuses t.partitions (phases_in t.lines) ps r.pool.items (journal_at r.roots.items) k.censuses.items
 
--- what the threads' lists have, and which home each slot has
+-- the known homes are those of the slots, and the known tallies those of the threads' lists at the end of each phase
 pub record KnowsLists (t : Trace) (r : Run) (ps : List Played) (k : Known) : Type 0 where
   pub homes : KnowsHomes (journal_at r.roots.items) (value_at k.homes)
   pub cached : HaveCached t.partitions t.threads (journal_at r.roots.items) ps k.cached.items
   pub listed : length k.cached.items ≡ phases_in t.lines
 
--- all of it
+-- the ends of the phases, the censuses, the homes and the tallies are known
 pub record KnowsHeap (t : Trace) (r : Run) (ps : List Played) (k : Known) : Type 0 where
   pub ends : KnowsEnds t ps k
   pub censuses : KnowsCensuses t r ps k

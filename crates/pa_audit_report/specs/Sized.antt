@@ -1,10 +1,10 @@
 -- The partition and the bytes of each slot, by the table of the slots' homes.
 use Rattle.std.specs.Prelude.{ℕ, Option, Some, None}
-use Rattle.pa_machine.specs.declared.word.SlotName.{SlotName}
+use Rattle.pa_slot.specs.declared.word.SlotName.{SlotName}
 use Rattle.pa_audit_holders.specs.declared.homes.Home.{Home}
 use Rattle.pa_audit_holders.specs.Homes.{home_at}
 
--- by the table a slot is of this partition, or of none, which is partition 4; and has that many bytes
+-- the partition of a slot of this home, and 4 if it has none
 abbrev pub partition_by : Option Home → ℕ
 partition_by None = 4
 partition_by (Some h) = h.partition

@@ -1,17 +1,17 @@
 ghost use Rattle.std.specs.Prelude.{◌≡◌, ℕ, ◌+◌, ◌<◌, ◌≤◌, ◌^◌, [], IfOk, IfSome, IfNone, Option, length, take};
 ghost use Rattle.pa_trace.specs.Limits.{most_partitions};
 ghost use Rattle.pa_audit_records.specs.ByKeys.{value_at};
-ghost use Rattle.pa_machine.specs.declared.word.Step.TheVariants as steps;
-ghost use Rattle.pa_machine.specs.Kinds.{leaves};
+ghost use Rattle.pa_slot.specs.declared.word.Step.TheVariants as steps;
+ghost use Rattle.pa_slot.specs.Kinds.{leaves};
 ghost use Rattle.pa_audit_holders.specs.declared.homes.Home.{Home as SlotHome};
 ghost use Rattle.pa_audit_records.specs.Cuts.{AreRecordCuts};
 ghost use Rattle.pa_audit_report.specs.Counts.{DoesNothing, HasCounted, HasRoom, HaveUses, IsBytesOf, IsDoneOf, IsOfOther, IsStepOf, MovesNothing, less_of, raised_by, tally_more};
 
 use pa_audit_holders::{Home, found_home};
 use pa_audit_records::ByKey;
-use pa_machine::{OutOfMemory, SlotName, Step, Word, refs, returns};
 use pa_record::{Answer, Seen, Tally};
 use pa_rules::Played;
+use pa_slot::{OutOfMemory, SlotName, Step, Word, refs, returns};
 use pa_trace::Op;
 use std::alloc::Global;
 
@@ -203,7 +203,7 @@ fn more(tally: Tally, counts: bool, bytes: u32) -> Tally
     }
 }
 
-// No steps.
+// The count of no steps.
 fn no_count() -> Count
     ensures { (homes : ℕ → Option SlotHome) (p : ℕ) → HasCounted homes p [] result }
 {
@@ -216,7 +216,7 @@ fn no_count() -> Count
     }
 }
 
-// What was added less what was removed. No more is removed than was added.
+// The slots in use by this count: what was added less what was removed. No more is removed than was added.
 fn in_use(count: Count) -> InUse
     ensures live { result.live ≡ less_of count.issued count.freed }
     ensures quarantined { result.quarantined ≡ less_of count.entered count.left }

@@ -11,14 +11,14 @@ ghost use Rattle.pa_audit_report.specs.Known.{KnowsHeap};
 use crate::due::due_report;
 use crate::known::Known;
 use pa_dense::DenseRun;
-use pa_machine::OutOfMemory;
 use pa_record::ReportLine;
 use pa_rules::Played;
+use pa_slot::OutOfMemory;
 use pa_trace::Trace;
 use std::alloc::Global;
 
-/// The place of the first line of the report that isn't the one that is due; the one after the last line if one is
-/// missing. None if each is.
+/// The place of the first line of the report that isn't the one that is due, and the one after the last line if one is missing. None if
+/// each is.
 pub fn report_meets(
     alloc: Global,
     trace: &Trace,

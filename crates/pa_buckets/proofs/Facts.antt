@@ -50,11 +50,12 @@ slot_of-in_order c d order real =
       | inr other ↦ omega (arith, slot_of-rises c d (omega arith) real)
     ]
 
--- the greatest slot that a span has several of, and the next
+-- the greatest slot size that the rule counts as small
 pub slot_of-35 : slot_of 35 ≡ 16384
 unfolding rows row_of slot_of
 slot_of-35 = refl
 
+-- the least slot size that the rule doesn't count as small
 pub slot_of-36 : slot_of 36 ≡ 20480
 unfolding rows row_of slot_of
 slot_of-36 = refl

@@ -34,11 +34,11 @@ in_order : IsNonDecreasingBy (λ r. r.slot) ROWS
 in_order i j d order real =
     omega (arith, table_slot i d (omega arith), table_slot j d real, slot_of-in_order i j order real)
 
--- so those below a raw size come before the others
+-- the rows whose slots are below a raw size come before the others
 pub table_parted : (raw : ℕ) → IsPartitionedBy (λ r. ltb r.slot raw) ROWS
 table_parted raw = IsPartitionedBy-ltb (λ r. r.slot) ROWS raw in_order
 
--- the class of the raw size is where they end
+-- the class of the raw size is the first one whose slots aren't below it
 pub class_at : (raw i : ℕ) → IsPartitionPoint (λ r. ltb r.slot raw ≡ true) (λ r. ltb r.slot raw ≡ false) ROWS i → i < 59 → IsClassOf raw i
 class_at raw i point real = record {
   real = real;

@@ -91,7 +91,7 @@ first_tight-true s n c passes =
           passed-true s n c m d (each_pair (λ m d. passed s n c m d ≡ true) p1 p2 p3 p4 p5 p6 p7 p8 m d t) earlier;
     }
 
--- the classes whose spans have several slots have the first pair that leaves at most 64 bytes over
+-- the classes with slots of at most 16,384 bytes have the first pair that leaves at most 64 bytes over
 small_rows : (c : ℕ) → c < 36 → IsFirstTight (slot_of c) (pages_of c) (system_of c)
 unfolding rows row_of slot_of pages_of system_of
 small_rows c below =

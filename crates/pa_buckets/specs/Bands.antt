@@ -13,7 +13,7 @@ pub record Band : Type 0 where
 abbrev pub band : ℕ → ℕ → ℕ → ℕ → Band
 band first last limit fill = record { first = first; last = last; limit = limit; fill = fill }
 
--- all classes
+-- the bands of all classes
 abbrev pub bands : List Band
 bands =
     band 0 7 64 8
@@ -22,14 +22,14 @@ bands =
     ∷ band 40 58 0 1
     ∷ []
 
--- whether the class is one of these
+-- the test whether the class is one of the band's
 abbrev pub has_class : ℕ → Band → Bool
 has_class c b = nat_le b.first c && nat_le c b.last
 
--- a class's cache limit and its fill count
+-- the cache limit of a class, or 0 for a number above 58
 unfoldable pub limit_of : ℕ → ℕ
 limit_of c = option_map_or (λ b. b.limit) (find (has_class c) bands) 0
 
--- how many slots of a class a fill asks for; 0 for a number above 58
+-- how many slots of a class a fill asks for, or 0 for a number above 58
 unfoldable pub fill_of : ℕ → ℕ
 fill_of c = option_map_or (λ b. b.fill) (find (has_class c) bands) 0

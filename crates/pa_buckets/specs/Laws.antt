@@ -6,8 +6,8 @@ use Rattle.pa_buckets.specs.Table.{slot_of, pages_of, system_of, slots_of, waste
 use Rattle.pa_buckets.specs.Bands.{limit_of, fill_of}
 use Rattle.pa_buckets.specs.Rule.{IsFirstTight, FollowsRule}
 
--- each class's spans follow the rule; for slots of at most 16,384 bytes some pair leaves at most 64 bytes over, so no
--- class needs the least waste
+-- Each class's spans follow the rule. For slots of at most 16,384 bytes some pair leaves at most 64 bytes over, so no such
+-- class needs the least waste.
 pub record RowsFollowTheRule : Type 0 where
   pub follows : (c : ℕ) → c < class_count → FollowsRule (slot_of c) (span_shape_of c)
   pub tight : (c : ℕ) → c < class_count → slot_of c ≤ 16384 → IsFirstTight (slot_of c) (pages_of c) (system_of c)

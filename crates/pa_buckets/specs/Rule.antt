@@ -24,7 +24,7 @@ pub record IsFirstTight (s n c : ℕ) : Type 0 where
   pub tight : left_over s c ≤ 64
   pub first : (m d : ℕ) → IsTried m d → IsBefore m d n c → 64 < left_over s d
 
--- c system pages leave less of themselves over than d do, or just as much: the quotients by cross products
+-- c system pages leave a smaller part of themselves over than d do, by cross products
 abbrev pub WastesLess : ℕ → ℕ → ℕ → Type 0
 WastesLess s c d = left_over s c * (4096 * d) < left_over s d * (4096 * c)
 

@@ -18,7 +18,7 @@ abbrev pub class_row : ℕ → ℕ → ℕ → ℕ → ℕ → ℕ → Row
 class_row class slot pages system slots waste =
     record { class = class; slot = slot; pages = pages; system = system; slots = slots; waste = waste }
 
--- class, slot size, pages, system pages, slots, waste
+-- the 59 classes, each by its number, slot size, pages, system pages, slots and waste
 unfoldable pub rows : List Row
 rows =
     class_row 0 16 1 4 1024 0
@@ -82,27 +82,27 @@ rows =
     ∷ class_row 58 917504 56 224 1 0
     ∷ []
 
--- the row of a class; there is none for a number above 58
+-- the row of a class, or none for a number above 58
 unfoldable pub row_of : ℕ → Option Row
 row_of c = find (λ r. r.class == c) rows
 
--- a class's slot size, and the pages, system pages, slots and waste of its spans
+-- the slot size of a class in bytes, or 0 for a number above 58
 unfoldable pub slot_of : ℕ → ℕ
 slot_of c = option_map_or (λ r. r.slot) (row_of c) 0
 
--- the partition pages of a class's span; 0 for a number above 58
+-- the partition pages of a class's span, or 0 for a number above 58
 unfoldable pub pages_of : ℕ → ℕ
 pages_of c = option_map_or (λ r. r.pages) (row_of c) 0
 
--- the system pages of 4,096 bytes that the slots of a class's span use; 0 for a number above 58
+-- the system pages of 4,096 bytes that the slots of a class's span use, or 0 for a number above 58
 unfoldable pub system_of : ℕ → ℕ
 system_of c = option_map_or (λ r. r.system) (row_of c) 0
 
--- the slots of a class's span; 0 for a number above 58
+-- the slots of a class's span, or 0 for a number above 58
 unfoldable pub slots_of : ℕ → ℕ
 slots_of c = option_map_or (λ r. r.slots) (row_of c) 0
 
--- the bytes that the slots of a class's span leave over in its system pages; 0 for a number above 58
+-- the bytes that the slots of a class's span leave over in its system pages, or 0 for a number above 58
 unfoldable pub waste_of : ℕ → ℕ
 waste_of c = option_map_or (λ r. r.waste) (row_of c) 0
 

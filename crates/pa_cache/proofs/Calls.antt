@@ -7,7 +7,7 @@ use Rattle.std.proofs.lemmas.List.Elements.{All-nil, All-take, All-drop, Contain
 use Rattle.std.proofs.Math.Seq.{drop-cons}
 use Rattle.pa_lists.proofs.Pairs.{pairs_none, pairs_head}
 use Rattle.pa_lists.proofs.Members.{first_in}
-use Rattle.pa_machine.specs.declared.title.Title.{Title}
+use Rattle.pa_slot.specs.declared.title.Title.{Title}
 use Rattle.pa_buckets.specs.Limits.{class_count}
 use Rattle.pa_buckets.specs.Table.{slot_of}
 use Rattle.pa_buckets.specs.Bands.{limit_of}
@@ -36,7 +36,7 @@ chain_none v c head len = record {
   links = tt;
 }
 
--- the bounds of a cache whose chain isn't too long
+-- a cache with a chain that isn't too long keeps the bounds
 kept : (c d : CacheParts) → KeepsBounds c → d.class ≡ c.class → d.chain.slot_len ≡ c.chain.slot_len → d.chain.len ≤ limit_of c.class + 8 →
     KeepsBounds d
 kept c d bounds class size few = record {

@@ -4,7 +4,7 @@ use Rattle.std.specs.Prelude.{All, IfSome, ◌↔◌}
 use Rattle.std.specs.Option.{option_to_list}
 use Rattle.std.proofs.lemmas.List.{length-take, length-drop, drop_all}
 use Rattle.std.proofs.lemmas.List.Elements.{All-head, All-same}
-use Rattle.pa_machine.specs.declared.title.Title.{Title}
+use Rattle.pa_slot.specs.declared.title.Title.{Title}
 use Rattle.pa_region.specs.declared.view.View.{View}
 use Rattle.pa_region.specs.Views.{free_of}
 use Rattle.pa_region.specs.Aware.{IsAware}

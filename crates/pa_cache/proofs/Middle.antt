@@ -11,7 +11,7 @@ abbrev pub outside : {X : Type 0} → ℕ → ℕ → List X → List X
 outside k m xs = take k xs ++ drop m xs
 
 module _ {X : Type 0} where
-  -- its first k are those of the list, and those after them the list's from m on
+  -- the first k members outside are those of the list
   pub first_stay : (k m : ℕ) (xs : List X) → k ≤ m → take k (outside k m xs) ≡ take k xs
   first_stay zero m xs le = refl
   first_stay (suc k) zero xs le = absurd (omega arith)
@@ -43,7 +43,7 @@ module _ {X : Type 0} where
   pairs_drop R (suc n) [] all = all
   pairs_drop R (suc n) (x ∷ xs) all = pairs_drop R n xs (pairs_tail R x xs all)
 
-  -- and it isn't longer
+  -- what is outside isn't longer than the list
   pub outside_short : (k m : ℕ) (xs : List X) → k ≤ m → length (outside k m xs) ≤ length xs
   outside_short zero m xs le = omega (arith, length-drop m xs)
   outside_short (suc k) zero xs le = absurd (omega arith)

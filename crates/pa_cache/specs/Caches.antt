@@ -1,8 +1,8 @@
 -- A thread's cache of one class, as contracts see it, and what a seat has of its titles.
 use Rattle.std.specs.Prelude.{◌≡◌, ◌≢◌, ℕ, ◌+◌, ◌<◌, ◌≤◌, List, ◌++◌, length, take, drop, All, AllPairs}
-use Rattle.pa_machine.specs.declared.title.Title.{Title}
-use Rattle.pa_machine.specs.Count.{number_of}
-use Rattle.pa_machine.specs.Titles.{count_word}
+use Rattle.pa_slot.specs.declared.title.Title.{Title}
+use Rattle.pa_slot.specs.Count.{number_of}
+use Rattle.pa_slot.specs.Titles.{count_word}
 use Rattle.pa_buckets.specs.Limits.{class_count}
 use Rattle.pa_buckets.specs.Table.{slot_of}
 use Rattle.pa_buckets.specs.Bands.{limit_of}
@@ -14,7 +14,7 @@ pub record CacheList : Type 0 where
   pub class : ℕ
   pub titles : List Title
 
--- What the type keeps: the class is one of the 59, each title has its slot size, no title is there twice, and there are at
+-- What the type of a cache keeps: the class is one of the 59, each title has its slot size, no title is there twice, and there are at
 -- most 8 more than the limit.
 pub record IsCache (c : CacheList) : Type 0 where
   pub class : c.class < class_count
@@ -31,10 +31,10 @@ pub record IsFreeAtItsNumber (v : View) (t : Title) : Type 0 where
   pub once : free_of v t ≡ 1
   pub number : number_of (count_word v.words t) ≡ seen_of v t
 
--- the titles after the first `keep`, at most 16; and what is left when they are taken out
+-- the titles after the first `keep`, at most 16
 abbrev pub batch_after : ℕ → List Title → List Title
 batch_after keep ts = take 16 (drop keep ts)
 
--- what is left without that batch: the first `keep` titles, and those after the 16 next ones
+-- the titles without the batch after the first `keep`: the first `keep`, and those after the next 16
 abbrev pub rest_after : ℕ → List Title → List Title
 rest_after keep ts = take keep ts ++ drop (keep + 16) ts

@@ -1,8 +1,8 @@
 -- A thread's cache of one class over a chain, as contracts see it: which list it has in a view, and what calls leave of lists.
 use Rattle.std.specs.Prelude.{◌≡◌, ℕ, ◌+◌, ◌<◌, ◌≤◌, List, length, map, All, Contains, slice_index_or, slice_set}
-use Rattle.pa_machine.specs.declared.title.Title.{Title}
-use Rattle.pa_machine.specs.Titles.{IsWellFormed}
-use Rattle.pa_machine.specs.Links.{first_word}
+use Rattle.pa_slot.specs.declared.title.Title.{Title}
+use Rattle.pa_slot.specs.Titles.{IsWellFormed}
+use Rattle.pa_slot.specs.Links.{first_word}
 use Rattle.pa_buckets.specs.Limits.{class_count}
 use Rattle.pa_buckets.specs.Table.{slot_of}
 use Rattle.pa_buckets.specs.Bands.{limit_of}
@@ -19,18 +19,18 @@ pub record CacheParts : Type 0 where
   pub class : ℕ
   pub chain : ChainParts
 
--- its list in a view: the titles along the links in the words
+-- the list of a cache in a view: the titles along the links in the words
 abbrev pub list_in : View → CacheParts → CacheList
 list_in v c = record { class = c.class; titles = titles_along v.words c.chain }
 
--- What the type keeps: the class is one of the 59, the chain is one of slots of its size, and there are at most 8 more than
--- the limit.
+-- What the type of a chained cache keeps: the class is one of the 59, the chain is one of slots of its size, and there are at most 8
+-- more than the limit.
 pub record KeepsBounds (c : CacheParts) : Type 0 where
   pub class : c.class < class_count
   pub size : c.chain.slot_len ≡ slot_of c.class
   pub few : c.chain.len ≤ limit_of c.class + 8
 
--- A seat with this view has the cache's list: that is one of a cache, and the cache's chain.
+-- A seat with this view has the list of the cache: the list is as a cache's must be, and the chain is one of its titles.
 pub record HoldsList (v : View) (c : CacheParts) : Type 0 where
   pub is : IsCache (list_in v c)
   pub chain : IsChain v c.chain (list_in v c).titles

@@ -1,6 +1,6 @@
 ghost use Rattle.std.specs.Prelude.{◌≡◌, ◌≢◌, ◌↔◌, ℕ, ◌+◌, ◌<◌, ◌≤◌, List, [], ◌∷◌, ◌++◌, length, take, drop, All, AllPairs, Contains, IfSome, IsNone, IsTrue};
 ghost use Rattle.std.specs.Option.{option_to_list};
-ghost use Rattle.pa_machine.specs.declared.title.Title.{Title};
+ghost use Rattle.pa_slot.specs.declared.title.Title.{Title};
 ghost use Rattle.pa_buckets.specs.Table.{slot_of};
 ghost use Rattle.pa_buckets.specs.Bands.{limit_of};
 ghost use Rattle.pa_region.specs.declared.view.View.{View};
@@ -12,11 +12,11 @@ ghost use Rattle.pa_cache.specs.Chained.{HoldsList, list_in};
 use arrayvec::ArrayVec;
 use pa_buckets::{Class, cache_limit, rows_have_bounds, slot_size};
 use pa_link::Chain;
-use pa_machine::Title;
 use pa_region::{Region, Seat};
+use pa_slot::Title;
 use std::marker::Model;
 
-/// A thread's cache of one class. Contracts see it as its class and the parts of its chain; which list it has, a view says
+/// A thread's cache of one class. Contracts see it as its class and the parts of its chain. Which list it has, a view says
 /// (`list_in`). The seat of its thread, which is given to its calls, holds the titles free.
 #[derive(Drop)]
 pub struct Cache {

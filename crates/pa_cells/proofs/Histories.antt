@@ -33,7 +33,7 @@ each_set {A} P xs c k y d within here there = subst P (sym (set_at xs c k y d wi
     go true = here
     go false = there
 
--- the same of two lists, in which members at one place are set
+-- what holds of the members of two lists at each place holds after the members at one place are set
 pub both_set : {A B : Type 0} (P : A → B → Type 0) (xs : List A) (ys : List B) (c k : ℕ) (x d : A) (y e : B) → c < length xs → c < length ys → P x y → P (slice_index_or xs k d) (slice_index_or ys k e) → P (slice_index_or (slice_set xs c x) k d) (slice_index_or (slice_set ys c y) k e)
 both_set {A} {B} P xs ys c k x d y e within inside here there =
     subst (λ (a : A). P a (slice_index_or (slice_set ys c y) k e)) (sym (set_at xs c k x d within))

@@ -20,7 +20,7 @@ pub record Exchange : Type 0 where
   pub cell : ℕ
   pub entry : CellEntry
 
--- its numbers in the list: its line, the cell's, and what was given and found
+-- the numbers of an exchange in the list: its line, its cell, and what was given and found
 abbrev pub exchange_numbers : Exchange → List ℕ
 exchange_numbers x = x.entry.line ∷ x.cell ∷ held_numbers x.entry.gave ++ held_numbers x.entry.found
 
@@ -36,7 +36,7 @@ entries_with k xs = map (λ (x : Exchange). x.entry) (filter (is_with_cell k) xs
 abbrev pub names_cell : ℕ → Made → Bool
 names_cell k m = slice_index m.numbers 1 == k
 
--- those of the list, in order
+-- the entries of the list that are exchanges with cell k, in order
 abbrev pub made_with_cell : ℕ → List Made → List Made
 made_with_cell k list = filter (names_cell k) list
 
@@ -46,7 +46,7 @@ pub record CellsHeld : Type 0 where
   pub histories : List (List CellEntry)
   pub parked : List (Option ParkedHandle)
 
--- the history of cell k, and what it holds; a cell that isn't there has no history and holds nothing
+-- the history of cell k, empty if the cell isn't there
 abbrev pub cell_history : List (List CellEntry) → ℕ → List CellEntry
 cell_history histories k = slice_index_or histories k []
 
@@ -96,9 +96,8 @@ empty_cells v = record { view = v; histories = replicate cell_count []; parked =
 abbrev pub exchange_entry : (line : ℕ) → (given found : Option ParkedHandle) → CellEntry
 exchange_entry line given found = record { line = line; gave = held_as given; found = held_as found }
 
--- One exchange was made on this line with this cell, with the least stake of the lender: the cell holds what was given; its
--- history has the entry at its end, and so have the list, which both seats have seen whole then, and the stake's log. All
--- else stays.
+-- One exchange was made on this line with this cell, with the least stake of the lender. The cell holds what was given. Its history
+-- has the entry at its end, and so have the list, which both seats have seen whole then, and the stake's log. All else stays.
 pub record MakesExchange (line cell : ℕ) (given : Option ParkedHandle) (lender lender_now : View) (old new : CellsHeld) : Type 0 where
   pub parked : new.parked ≡ slice_set old.parked cell given
   pub histories : new.histories ≡ pushed_at cell (exchange_entry line given (cell_holds old.parked cell)) old.histories

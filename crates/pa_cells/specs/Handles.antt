@@ -1,11 +1,11 @@
 -- Handles that are handed from one thread to another: what the note of one holds, and how its slot was made.
 use Rattle.std.specs.Prelude.{◌≡◌, ℕ, ◌+◌, ◌<◌, Bool, not, ◌&&◌, if◌then◌else◌, List, [], ◌∷◌, Option, Some, None, Contains}
 use Rattle.atomic_table.specs.Seated.{TableId}
-use Rattle.pa_machine.specs.declared.title.Title.{Title}
+use Rattle.pa_slot.specs.declared.title.Title.{Title}
 use Rattle.pa_machine.specs.declared.event.Item.{Item}
 use Rattle.pa_machine.specs.declared.event.Item.TheVariants as item
-use Rattle.pa_machine.specs.Titles.{same_title}
-use Rattle.pa_machine.specs.Holdings.{one}
+use Rattle.pa_slot.specs.Titles.{same_title}
+use Rattle.pa_slot.specs.Holdings.{one}
 use Rattle.pa_buckets.specs.Table.{slot_of}
 use Rattle.pa_record.specs.declared.numbered.Numbered.{Numbered}
 use Rattle.pa_record.specs.declared.root.RootEntry.{RootEntry}
@@ -35,8 +35,8 @@ pub record ParkedHandle : Type 0 where
   pub own : Bool
   pub note : Share
 
--- The act gave the slot of this title out: with a class, as one slot of a fill of that class, which has the title's length
--- as slot size; without one, as a direct map of that length.
+-- The act gave the slot of this title out. With a class, it is one slot of a fill of that class, which has the title's length as slot
+-- size. Without one, it is a direct map of that length.
 abbrev pub HandsOut : Option ℕ → Title → RootAct → Type 0
 HandsOut (Some class) t act =
     (pool : Option ℕ) × (slots : List Numbered) × (act ≡ Fill class pool slots) × Contains (names slots) (name_of t)
@@ -49,8 +49,8 @@ pub record HasSeenMade (h : Handle) (v : View) : Type 0 where
   pub entry : (m : Made) × (e : RootEntry) × Contains (list_of h.partition v) m × (m.numbers ≡ root_numbers e)
       × HandsOut h.class h.title e.act
 
--- The note of a handle on its way holds the title's Own, which is clean, or one Ref of it, and no other handle, no free
--- title and no stake; and it has seen how the slot was made.
+-- The note of a handle on its way holds the title's Own, which is clean, or one Ref of it, and no other handle, no free title and no
+-- stake. It has seen how the slot was made.
 pub record IsParked (p : ParkedHandle) : Type 0 where
   pub owns : (t : Title) → own_of p.note.view t ≡ one (p.own && same_title p.handle.title t)
   pub refs : (t : Title) → ref_of p.note.view t ≡ one (not p.own && same_title p.handle.title t)
@@ -93,8 +93,8 @@ GiversLackHandles =
     (own : Bool) (t : Title) (budget : ℕ) (v : View) → HoldsGiven (handle_item own t) v →
     LacksHandle own t v (left_after (parcel_of (handle_item own t ∷ []) budget []) v)
 
--- What a seat with the view v has after it took the note in: the handle besides, as many free titles and stakes as before,
--- and it can lend its stake again; and it has seen how the slot was made.
+-- What a seat with the view v has after it took the note in: the handle besides, and as many free titles and stakes as before. It can
+-- lend its stake again if it could, and has seen how the slot was made.
 pub record TakesHandle (p : ParkedHandle) (v after : View) : Type 0 where
   pub owns : (t : Title) → own_of after t ≡ own_of v t + one (p.own && same_title p.handle.title t)
   pub refs : (t : Title) → ref_of after t ≡ ref_of v t + one (not p.own && same_title p.handle.title t)

@@ -8,9 +8,9 @@ ghost use Rattle.pa_cells.specs.Cells.{IsCells, AreOf, MakesExchange, cell_histo
 
 use crate::handle::{Parked, held_name};
 use crate::numbers::exchange_numbers;
-use pa_machine::OutOfMemory;
 use pa_record::{CellEntry, History};
 use pa_region::{Name, Note, Region, Seat, enter_with};
+use pa_slot::OutOfMemory;
 use std::alloc::Global;
 use std::marker::{Model, PhantomData};
 use std::mem;
@@ -153,8 +153,8 @@ fn nothing_parked(alloc: Global) -> Result<Vec<Option<Parked>>, OutOfMemory>
     Ok(parked)
 }
 
-// Puts the entry after the others of the cell's history, and returns its place there. `None` if there is no memory, or
-// no room in the history; it is unchanged then.
+// Puts the entry after the others of the cell's history, and returns its place there. `None` if there is no memory, or no room
+// in the history. The history is unchanged then.
 fn append(histories: &mut Vec<History>, cell: usize, entry: CellEntry) -> Option<u32>
     requires { cell < length histories.old.items }
     ensures index { IfSome result (λ j. j ≡ length (cell_history histories.old.items cell)) }

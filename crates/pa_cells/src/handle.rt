@@ -2,9 +2,9 @@ ghost use Rattle.std.specs.Prelude.{◌≡◌};
 ghost use Rattle.pa_cells.specs.Handles.{IsParked, held_as};
 
 use pa_buckets::Class;
-use pa_machine::{SlotName, Title};
 use pa_record::Held;
 use pa_region::Note;
+use pa_slot::{SlotName, Title};
 use std::marker::Model;
 
 /// Which slot a handle is of: its title, its partition, 0 to 3, and its class, or `None` for a direct map.

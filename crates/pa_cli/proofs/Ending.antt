@@ -6,14 +6,14 @@ use Rattle.pa_trace.specs.declared.fault.TraceFault.{TraceFault}
 use Rattle.pa_trace.specs.declared.fault.TraceFault.TheVariants as faults
 use Rattle.pa_trace.specs.Limits.{IsInput}
 use Rattle.pa_trace.proofs.Firsts.{one_fault, no_fault_of_input}
-use Rattle.pa_record.specs.declared.run.Run.{Run}
 use Rattle.pa_script.specs.Limits.{IsScriptInput}
 use Rattle.pa_rules.specs.declared.verdict.Clause.{Clause}
 use Rattle.pa_rules.specs.declared.verdict.Verdict.{Verdict}
 use Rattle.pa_rules.specs.declared.verdict.Verdict.TheVariants.{Legal, Broken}
 use Rattle.pa_audit_input.specs.Input.{IsAudited}
-use Rattle.pa_audit_input.specs.Judged.{IsLegalInput, IsLegalOf, IsRefutedInput, IsVerdictOn}
+use Rattle.pa_audit_input.specs.Judged.{IsLegalInput, IsRefutedInput, IsVerdictOn}
 use Rattle.pa_audit_input.proofs.Parting.{no_audit_fault, one_audit_fault}
+use Rattle.pa_audit_input.proofs.Together.{legal_input}
 use Rattle.pa_cli.specs.declared.command.Command.{Command}
 use Rattle.pa_cli.specs.declared.command.Command.TheVariants.{Replay, Model, Audit, Dangling, Layout, Gen, Help, Version, Resize, Verdicts}
 use Rattle.pa_cli.specs.declared.command.Command.TheVariants as commands
@@ -174,10 +174,6 @@ verdict_input : (bytes : List ℕ) (verdict : Verdict) → IsVerdictOn verdict b
 verdict_input bytes Legal h = (h.trace, h.run, h.lines, h.input)
 verdict_input bytes (Broken clause n) h = (h.trace, h.run, h.lines, h.input)
 
--- a legal run of a trace is a legal input
-legal_of : (t : Trace) (r : Run) (bytes : List ℕ) → IsLegalOf t r bytes → IsLegalInput bytes
-legal_of t r bytes h = record { trace = t; run = r; lines = h.lines; input = h.input; legal = h.legal }
-
 -- what a command printed that reads a run is of a legal one
 output_legal : (command : Command) (bytes : List ℕ) (before after : Stream) (out : Output) → (needs_of command).reads ≡ ReadsRun → before.told ≡ Some bytes
     → IsOutputOf command before after out → IsLegalInput bytes
@@ -185,7 +181,7 @@ output_legal Replay bytes before after out reads told h = absurd cc
 output_legal Model bytes before after out reads told h = absurd cc
 output_legal Audit bytes before after out reads told h = subst IsLegalInput (read_these before.told bytes h.0.bytes told h.0.read.all) h.0.legal
 output_legal Dangling bytes before after out reads told h =
-    subst IsLegalInput (read_these before.told bytes h.0.bytes told h.0.read.all) (legal_of h.0.trace h.0.run h.0.bytes h.0.legal)
+    subst IsLegalInput (read_these before.told bytes h.0.bytes told h.0.read.all) (legal_input h.0.trace h.0.run h.0.bytes h.0.legal)
 output_legal Resize bytes before after out reads told h = absurd cc
 output_legal Verdicts bytes before after out reads told h = absurd cc
 output_legal (Layout size) bytes before after out reads told h = absurd cc

@@ -155,7 +155,7 @@ module _ (bytes : List ℕ) (t u : Trace) (a b : Run) (m n : ℕ) (h : IsAudited
   one_input_lines : m ≡ n
   one_input_lines = h.count ∙ ap (λ (front : List ℕ). length (lines_of front)) parts.0 ∙ sym k.count
 
--- so they have one verdict
+-- the same bytes have only one verdict
 pub one_judgement : (bytes : List ℕ) (v w : Verdict) → IsVerdictOn v bytes → IsVerdictOn w bytes → v ≡ w
 one_judgement bytes v w h k =
     let a = judged bytes v h in

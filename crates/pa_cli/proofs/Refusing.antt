@@ -74,10 +74,11 @@ trace_refused threads (Limit n) bytes before after read first =
     (tt, has_fault ReadsTrace (Limit n) bytes before after read first (λ past more. fault_early (Limit n) bytes more past first))
 trace_refused threads OutOfMemory bytes before after read first = (refl, read_stopped most_bytes bytes before after read)
 
--- the same of a script
+-- a call that stops after it read a script whole had no fault of the source
 pub script_stopped : (s : Script) (before after : Stream) → IsScriptRead s before after → IsStopped most_bytes before after
 script_stopped s before after h = read_stopped most_bytes h.bytes before after (inl h.read)
 
+-- an input is refused with the status of its first fault as a script
 pub script_refused : (fault : TraceFault) (bytes : List ℕ) (before after : Stream) → IsRead most_bytes before after bytes
     → IsScriptFault fault bytes → IsRefusal (status_of_trace fault) (needing ReadsScript false true) before after
 script_refused (BadLine n) bytes before after read first =

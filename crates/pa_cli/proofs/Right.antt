@@ -34,7 +34,7 @@ right_call status c cause reads none = record {
   run = caused_tells status c cause none;
 }
 
--- the same of a call that returns that status, and has no run and no region
+-- a call that returns the same status, with no run and no region, is right too
 pub alone_right : (status other : Status) (words : List (List ℕ)) (source source_after sink sink_after : Stream) (run : Option Run) (region : Option (List ℕ))
     → IsRightCall status (call_of words source source_after sink sink_after None None) → other ≡ status → HasNoRun run region
     → IsRightCall other (call_of words source source_after sink sink_after run region)

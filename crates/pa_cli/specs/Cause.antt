@@ -58,7 +58,8 @@ pub record IsRefuted (clause : Clause) (n : ℕ) (before after : Stream) : Type 
   pub read : IsReadWhole most_audited before after bytes
   pub refuted : IsRefutedInput clause n bytes
 
--- why a command that needs this has no output, by what the source exposes before it and after it; the other statuses are no reason
+-- Why a command with these needs has no output, by what the source exposes before it and after it. Done, BadCommand and WriteFault are no
+-- reason.
 abbrev pub IsRefusal : Status → Needs → Stream → Stream → Type 0
 IsRefusal Done of before after = ⊥
 IsRefusal BadCommand of before after = ⊥
@@ -113,7 +114,7 @@ IsInputFor ReadsRun bytes = (trace : Trace) × (run : Run) × (lines : ℕ) × I
 abbrev pub RefutesBy : Reading → Status → Type 0
 RefutesBy reads status = (reads ≡ ReadsRun) × (clause : Clause) × (n : ℕ) × (status ≡ NotLegal clause n)
 
--- an input for a command that reads, without a fault of source or sink, leads to Done, or of a trace and a run to NotLegal, unless
+-- an input for a command that reads, without a fault of source or sink, leads to Done, or to NotLegal for a trace and a run, unless
 -- memory has run out
 abbrev pub Completes : Status → Call → Type 0
 Completes status c =

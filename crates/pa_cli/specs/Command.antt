@@ -6,7 +6,7 @@ use Rattle.pa_audit_input.specs.Input.{most_audited}
 use Rattle.pa_cli.specs.declared.command.Command.{Command}
 use Rattle.pa_cli.specs.declared.command.Command.TheVariants.{Replay, Model, Audit, Dangling, Layout, Trace, Gen, Help, Version, Resize, Verdicts}
 
--- the one word `replay`, and the one word `model`
+-- the one word `replay`
 abbrev pub IsReplay : List (List ℕ) → Type 0
 IsReplay words = words ≡ codes "replay" ∷ []
 
@@ -14,7 +14,7 @@ IsReplay words = words ≡ codes "replay" ∷ []
 abbrev pub IsModel : List (List ℕ) → Type 0
 IsModel words = words ≡ codes "model" ∷ []
 
--- the one word `audit`, and the one word `dangling`
+-- the one word `audit`
 abbrev pub IsAudit : List (List ℕ) → Type 0
 IsAudit words = words ≡ codes "audit" ∷ []
 
@@ -22,7 +22,7 @@ IsAudit words = words ≡ codes "audit" ∷ []
 abbrev pub IsDangling : List (List ℕ) → Type 0
 IsDangling words = words ≡ codes "dangling" ∷ []
 
--- the one word `resize`, and the one word `verdicts`
+-- the one word `resize`
 abbrev pub IsResize : List (List ℕ) → Type 0
 IsResize words = words ≡ codes "resize" ∷ []
 
@@ -49,7 +49,7 @@ IsTrace rounds key words = IsDrawn (codes "trace") rounds key words
 abbrev pub IsGen : ℕ → ℕ → List (List ℕ) → Type 0
 IsGen rounds key words = IsDrawn (codes "gen") rounds key words
 
--- the one word `--help`, and the one word `--version`
+-- the one word `--help`
 abbrev pub IsHelp : List (List ℕ) → Type 0
 IsHelp words = words ≡ codes "--help" ∷ []
 
@@ -86,7 +86,7 @@ pub data Reading : Type 0 where
   ReadsScript : Reading
   ReadsRun : Reading
 
--- it reads something
+-- the command reads an input
 abbrev pub ReadsSome : Reading → Type 0
 ReadsSome ReadsNothing = ⊥
 ReadsSome ReadsTrace = Unit {0}
@@ -113,7 +113,7 @@ pub record Needs : Type 0 where
 abbrev pub needing : Reading → Bool → Bool → Needs
 needing reads threads memory = record { reads = reads; threads = threads; memory = memory }
 
--- the table of all commands
+-- the needs of each command
 abbrev pub needs_of : Command → Needs
 needs_of Replay = needing ReadsTrace true true
 needs_of Model = needing ReadsTrace false true

@@ -6,7 +6,7 @@ use Rattle.std.specs.List.{flat_map}
 abbrev pub ended : List (List ℕ) → List ℕ
 ended lines = flat_map (λ line. line ++ 10 ∷ []) lines
 
--- the commands, an example, and what each status means
+-- what `--help` prints: the commands, an example, and what each status means
 abbrev pub help_text : List ℕ
 help_text =
     ended (codes "usage: partalloc COMMAND [< FILE]"
@@ -42,6 +42,6 @@ help_text =
     ∷ codes "The texts are described in docs/FORMATS.md, which also says why a file is refused that looks right."
     ∷ [])
 
--- the name and the version
+-- what `--version` prints: the name and the version
 abbrev pub version_text : List ℕ
 version_text = codes "partalloc 0.1.0" ++ 10 ∷ []

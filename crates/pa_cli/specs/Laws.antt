@@ -26,7 +26,7 @@ OneThreadPrintsAsModel =
 abbrev pub ResizedIsLegalInput : Type 0
 ResizedIsLegalInput = (s : Script) (text : List ℕ) → IsResizeText s text → length text ≤ most_audited → IsLegalInput text
 
--- and so is a trace with what `model` or `replay` prints of it, if that isn't too long for one
+-- a trace with what `model` prints of it is an input that `audit` calls legal, if it isn't too long for one
 abbrev pub ModelledIsLegalInput : Type 0
 ModelledIsLegalInput =
     (t : Trace) (front text : List ℕ) → IsInput t front → IsModelText t text → length (front ++ text) ≤ most_audited

@@ -17,8 +17,8 @@ class_line c =
 abbrev pub direct_line : Shape → List ℕ
 direct_line shape = codes "direct slot " ++ decimal shape.slot ++ codes " super " ++ decimal shape.supers ++ 10 ∷ []
 
--- A request goes to the size class of its raw size, which is 8 bytes more than was asked, and at least 9. If that is too large
--- for every class, it is a direct map; or it is too large for that too.
+-- A request goes to the size class of its raw size, which is 8 bytes more than was asked, and at least 9. If that is too large for every
+-- class, it is a direct map, or too large for that too.
 abbrev pub IsLayoutText : ℕ → List ℕ → Type 0
 IsLayoutText size text =
     ((c : ℕ) × IsClassOf (max size 1 + 8) c × (text ≡ class_line c))

@@ -40,7 +40,7 @@ pub record Output : Type 0 where
   pub run : Option Run
   pub region : Option (List ℕ)
 
--- this text, with this run and these words of a region, if there are any
+-- an output with this text, and with this run and these words of a region, if there are any
 abbrev pub output_with : List ℕ → Option Run → Option (List ℕ) → Output
 output_with text run region = record { text = text; run = run; region = region }
 
@@ -154,7 +154,7 @@ pub record IsVerdictsText (script : Script) (text : List ℕ) : Type 0 where
   pub core : HasCoreRun trace run
   pub printed : text ≡ verdicts_text verdicts
 
--- the output of `resize`, and that of `verdicts`: the text is that of the script that was read
+-- the output of `resize`: the text is that of the script that was read
 pub record IsResizeOutput (before after : Stream) (text : List ℕ) : Type 0 where
   pub script : Script
   pub read : IsScriptRead script before after

@@ -38,7 +38,7 @@ status_number WriteFault = 5
 status_number OutOfMemory = 6
 status_number (NotLegal clause n) = 7
 
--- the text on standard error; Done has none
+-- the text on standard error, which is empty for Done
 abbrev pub status_text : Status → List ℕ
 status_text Done = []
 status_text BadCommand = codes "bad command"
@@ -54,7 +54,7 @@ abbrev pub status_of_verdict : Verdict → Status
 status_of_verdict Legal = Done
 status_of_verdict (Broken clause n) = NotLegal clause n
 
--- the status of an input that wasn't read, and of one with a faulty line
+-- the status of an input that wasn't read
 abbrev pub status_of_input : InputFault → Status
 status_of_input inputs.ReadFault = ReadFault
 status_of_input inputs.OutOfMemory = OutOfMemory

@@ -18,6 +18,6 @@ resize_word Moved = codes "moved"
 abbrev pub verdict_line : ℕ × Verdict → List ℕ
 verdict_line found = codes "v " ++ decimal found.0 ++ codes " " ++ resize_word found.1 ++ 10 ∷ []
 
--- a line for each of them, and `end` and an LF
+-- a line for each resize, and then `end` and an LF
 abbrev pub verdicts_text : List (ℕ × Verdict) → List ℕ
 verdicts_text found = flat_map verdict_line found ++ codes "end\n"

@@ -19,19 +19,19 @@ use pa_audit_input::{Judgement, MOST_AUDITED, judge, judged};
 use pa_dangle::{found_text, pairs_dense};
 use pa_dense::DenseRun;
 use pa_io::{Failed, Sink, Source};
-use pa_machine::OutOfMemory;
 use pa_model::play_input;
 use pa_rules::Verdict;
+use pa_slot::OutOfMemory;
 use pa_summary::ends_of;
 use pa_trace::{MOST_BYTES, Trace};
 use std::alloc::Global;
 
 /// Does what the words ask for, if they ask for no threads. It waits for nobody, so a call returns. `model` reads a trace, plays all
-/// lines in their order and writes the text of that run; `audit` reads a trace and after it a run, and writes `legal` if that is a
-/// legal run of the trace; `dangling` reads the same, and writes each use in such a run of what was freed while `raw_ptr`s pointed to
-/// it; `resize` reads a script and writes the trace that it comes to and that trace's run, and `verdicts` what each resize came to;
-/// `layout SIZE` writes where a request of SIZE bytes is placed, `trace ROUNDS KEY` a generated trace, `--help` and `--version` their
-/// texts. The input is read to its end, or to one byte past the most that it may have.
+/// lines in their order and writes the text of that run. `audit` reads a trace and after it a run, and writes `legal` if that is a legal
+/// run of the trace. `dangling` reads the same, and writes each use in such a run of what was freed while `raw_ptr`s pointed to it.
+/// `resize` reads a script and writes the trace that it comes to and that trace's run, and `verdicts` what each resize came to. `layout
+/// SIZE` writes where a request of SIZE bytes is placed, `trace ROUNDS KEY` a generated trace, and `--help` and `--version` their texts.
+/// The input is read to its end, or to one byte past the most that it may have.
 pub fn run_alone<S: Source, K: Sink>(
     alloc: Global,
     words: &[String],
@@ -51,7 +51,7 @@ pub fn run_alone<S: Source, K: Sink>(
     answer(alloc, words, source, sink)
 }
 
-// The same, by its cause.
+// Does what the words ask for, if they ask for no threads. The status has its cause.
 fn answer<S: Source, K: Sink>(
     alloc: Global,
     words: &[String],

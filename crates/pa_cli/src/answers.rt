@@ -7,7 +7,7 @@ ghost use Rattle.pa_cli.specs.HelpText.{help_text};
 use arrayvec::ArrayVec;
 use pa_buckets::{Class, class_of, raw_of, slot_size, span_of};
 use pa_direct::{GREATEST_SIZE, Shape, shape};
-use pa_machine::OutOfMemory;
+use pa_slot::OutOfMemory;
 use pa_trace::{generate, write_trace};
 use std::alloc::Global;
 

@@ -9,6 +9,6 @@ pub enum Printed {
     Line(ArrayVec<u8, 128>),
     // Bytes that took memory.
     Made(Vec<u8>),
-    // The same in two parts, which are written one after the other.
+    // Bytes that took memory in two parts, which are written one after the other.
     Parts(Vec<u8>, Vec<u8>),
 }

@@ -3,8 +3,8 @@ ghost use Rattle.pa_cli.specs.StatusText.{clause_name, status_number, status_of_
 ghost use Rattle.pa_cli.specs.declared.status.Status.TheVariants as statuses;
 
 use crate::input::InputFault;
-use pa_machine::OutOfMemory;
 use pa_rules::Clause;
+use pa_slot::OutOfMemory;
 use pa_trace::TraceFault;
 use std::fmt;
 

@@ -12,10 +12,10 @@ use crate::outcome::{Outcome, Output};
 use crate::output::write_output;
 use crate::status::Status;
 use pa_io::{Failed, Sink, Source};
-use pa_machine::OutOfMemory;
 use pa_one_run::one_thread_in_file_order;
 use pa_record::write_run;
 use pa_runner::{Gate, run_trace};
+use pa_slot::OutOfMemory;
 use pa_summary::write_summary;
 use pa_trace::{MOST_BYTES, Trace, generate, read_trace};
 use std::alloc::Global;
@@ -38,14 +38,14 @@ pub fn run<R: Threads + Wait + Sync, S: Source, K: Sink, G: Gate>(
     // Only the words decide whether there is a command.
     ensures command { result.status ≡ Status.BadCommand ↔ ¬ IsCommand (map string_bytes words.now) }
 
-    // The status has its cause, and leaves source and sink as that cause says. Of `replay` it says that the run whose text is written
-    // is a legal run of the trace, and that the closed region holds it; of `gen` the same of the generated trace and the run whose
-    // summary is written; of `resize` and `verdicts` that what is written is what the script comes to; of `model` that what is
-    // written is the text of the trace's run in the order of its lines, which is legal and
-    // has a run of the core; of `audit` that the run that was read is a legal one of the trace before it, or by which clause and at
-    // which line it isn't; of `dangling` the same, and that what is written are the pairs of that run. Only `replay`, `model`, `audit`,
-    // `dangling`, `resize` and `verdicts` read. A good input is played or judged, and a faulty one refused; the other commands answer. A
-    // run and a region are returned exactly if threads played and the output was written.
+    // The status has its cause, and leaves source and sink as that cause says. Of `replay` it says that the run whose text is written is
+    // a legal run of the trace, and that the closed region holds it. Of `gen` it says the same of the generated trace and the run whose
+    // summary is written. Of `resize` and `verdicts` it says that what is written is what the script comes to. Of `model` it says that
+    // what is written is the text of the trace's run in the order of its lines, which is legal and has a run of the core. Of `audit` it
+    // says that the run that was read is a legal one of the trace before it, or by which clause and at which line it isn't. Of `dangling`
+    // it says the same, and that what is written are the pairs of that run. Only `replay`, `model`, `audit`, `dangling`, `resize` and
+    // `verdicts` read. A good input is played or judged, and a faulty one refused. The other commands answer. A run and a region are
+    // returned exactly if threads played and the output was written.
     ensures call { IsRightCall result.status (call_of (map string_bytes words.now)
         (stream_of (S.left source.old) (S.faults source.old)) (stream_of (S.left source.new) (S.faults source.new))
         (stream_of (K.written sink.old) (K.faults sink.old)) (stream_of (K.written sink.new) (K.faults sink.new))
@@ -57,7 +57,7 @@ pub fn run<R: Threads + Wait + Sync, S: Source, K: Sink, G: Gate>(
     Outcome::without_run(run_alone(alloc, words, source, sink))
 }
 
-// The same, by its cause, for words that play threads.
+// Does what the words ask for, if they ask for threads. The status has its cause.
 #[tactic(auto, using(crate::proofs::Commands::threads_asked))]
 fn answer<R: Threads + Wait + Sync, S: Source, K: Sink, G: Gate>(
     rt: &R,

@@ -1,13 +1,13 @@
 -- A record is played: without a slot, by a look, and by a counted step.
 use Rattle.std.proofs.Common.{◌≡◌, ℕ, ◌+◌, ◌*◌, List, [], ◌∷◌, ◌++◌, Option, Some, None, refl, sym, ◌∙◌, ap, subst, arith, ◌⊎◌, inl, inr}
-use Rattle.pa_machine.specs.declared.word.Step.{Step}
-use Rattle.pa_machine.specs.declared.title.Title.{Title}
-use Rattle.pa_machine.specs.declared.title.OwnState.TheVariants.{Clean}
+use Rattle.pa_slot.specs.declared.word.Step.{Step}
+use Rattle.pa_slot.specs.declared.title.Title.{Title}
+use Rattle.pa_slot.specs.declared.title.OwnState.TheVariants.{Clean}
 use Rattle.pa_machine.specs.declared.event.Event.{Event}
 use Rattle.pa_machine.specs.declared.event.Event.TheVariants.{Count, Load}
-use Rattle.pa_machine.specs.Run.{Mark}
-use Rattle.pa_machine.specs.Titles.{Covers, content_place, count_place, count_word}
-use Rattle.pa_machine.specs.Holdings.{Piece, OwnAs, RefOf, IsTitleHeld}
+use Rattle.pa_slot.specs.Run.{Mark}
+use Rattle.pa_slot.specs.Titles.{Covers, content_place, count_place, count_word}
+use Rattle.pa_slot.specs.Holdings.{Piece, OwnAs, RefOf, IsTitleHeld}
 use Rattle.pa_machine.specs.Events.{State, HasActor, Holds, total_of, IsEnabled}
 use Rattle.pa_machine.specs.Trail.{IsGoodState, IsRunTo}
 use Rattle.pa_machine.proofs.Lasting.{run_start}

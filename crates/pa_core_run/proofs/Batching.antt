@@ -2,12 +2,12 @@
 use Rattle.std.proofs.Common.{◌≡◌, ℕ, ◌+◌, ◌<◌, ◌≤◌, List, [], ◌∷◌, refl, sym, ◌∙◌, ap, subst, arith, ◌⊎◌, inl, inr, ◌==◌, if◌then◌else◌}
 use Rattle.std.specs.Prelude.{Contains}
 use Rattle.std.proofs.lemmas.Bool.{cases_eq, eq-eqb, ne_eqb}
-use Rattle.pa_machine.proofs.Runs.{same_slot_yes}
-use Rattle.pa_machine.specs.declared.word.SlotName.{SlotName}
-use Rattle.pa_machine.specs.declared.title.Title.{Title}
+use Rattle.pa_slot.proofs.Runs.{same_slot_yes}
+use Rattle.pa_slot.specs.declared.word.SlotName.{SlotName}
+use Rattle.pa_slot.specs.declared.title.Title.{Title}
 use Rattle.pa_machine.specs.declared.event.Item.TheVariants.{Free as FreeItem}
 use Rattle.pa_machine.specs.declared.event.Event.TheVariants.{Hand}
-use Rattle.pa_machine.specs.Holdings.{FreePiece, Thing, FreeTitle, OwnOf, RefOf, held_in}
+use Rattle.pa_slot.specs.Holdings.{FreePiece, Thing, FreeTitle, OwnOf, RefOf, held_in}
 use Rattle.pa_machine.specs.Events.{State, Holds, of_actor}
 use Rattle.pa_machine.proofs.Amounts.{free_self}
 use Rattle.pa_machine.proofs.Lasting.{run_start}

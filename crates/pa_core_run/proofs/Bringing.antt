@@ -2,8 +2,8 @@
 -- back by one.
 use Rattle.std.proofs.Common.{◌≡◌, ℕ, zero, suc, ◌+◌, ◌*◌, ◌≤◌, List, [], ◌∷◌, ◌++◌, map, refl, sym, ◌∙◌, ap, arith, ◌⊎◌}
 use Rattle.std.specs.Prelude.{Contains}
-use Rattle.pa_machine.specs.declared.word.SlotName.{SlotName}
-use Rattle.pa_machine.specs.declared.title.Title.{Title}
+use Rattle.pa_slot.specs.declared.word.SlotName.{SlotName}
+use Rattle.pa_slot.specs.declared.title.Title.{Title}
 use Rattle.pa_machine.specs.Events.{State}
 use Rattle.pa_record.specs.Spans.{name_of}
 use Rattle.pa_record.specs.Laws.{times}

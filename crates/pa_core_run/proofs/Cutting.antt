@@ -2,13 +2,13 @@
 use Rattle.std.proofs.Common.{◌≡◌, ℕ, zero, suc, ◌+◌, ◌*◌, ◌/◌, ◌<◌, List, [], ◌∷◌, length, get_or, set, refl, sym, ◌∙◌, ap, arith, ◌⊎◌, inl, inr}
 use Rattle.std.proofs.lemmas.List.{get_or-set_other, get_or-set_same}
 use Rattle.std.proofs.lemmas.Bool.{cases_lt}
-use Rattle.pa_machine.specs.declared.title.Title.{Title}
-use Rattle.pa_machine.specs.declared.title.OwnState.{OwnState}
-use Rattle.pa_machine.specs.declared.title.OwnState.TheVariants.{Clean}
+use Rattle.pa_slot.specs.declared.title.Title.{Title}
+use Rattle.pa_slot.specs.declared.title.OwnState.{OwnState}
+use Rattle.pa_slot.specs.declared.title.OwnState.TheVariants.{Clean}
 use Rattle.pa_machine.specs.declared.event.Event.{Event}
 use Rattle.pa_machine.specs.declared.event.Event.TheVariants.{Store, Cut, Uncut}
-use Rattle.pa_machine.specs.Titles.{content_place, count_place, content_at, count_word}
-use Rattle.pa_machine.specs.Holdings.{Piece, RawPiece, FreePiece, Thing, RawByte, FreeTitle, OwnOf, OwnAs, RefOf, IsTitleHeld, held_in}
+use Rattle.pa_slot.specs.Titles.{content_place, count_place, content_at, count_word}
+use Rattle.pa_slot.specs.Holdings.{Piece, RawPiece, FreePiece, Thing, RawByte, FreeTitle, OwnOf, OwnAs, RefOf, IsTitleHeld, held_in}
 use Rattle.pa_machine.specs.Events.{State, HasActor, Holds, HoldsRaw, IsEnabled, of_actor, held_by, total_of}
 use Rattle.pa_machine.specs.Trail.{IsRunTo}
 use Rattle.pa_machine.proofs.Totals.{tally_of, total_exchanged, of_actor_here, of_actor_apart}
@@ -48,7 +48,7 @@ nothing_paid Made b t lost gained own ref = record {
     at_each zero x none = none
     at_each (suc j) x none = of_actor_apart 0 (suc j) lost x (λ z. omega arith)
 
--- its bytes are raw, and actor 0's
+-- the bytes of a title that can be cut are raw, and actor 0 has them
 all_raw : (names : Titles) (actors bytes : ℕ) (b : Ledger) (s : State) (t : Title) → IsShown names actors bytes b s → 0 < actors → CanBeCut names bytes t → HoldsRaw s 0 t.start t.len
 all_raw names actors bytes b s t h some can byte low high =
     let long = h.long in

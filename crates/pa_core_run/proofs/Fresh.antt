@@ -2,8 +2,8 @@
 use Rattle.std.proofs.Common.{List, [], ◌∷◌, ◌++◌, map, flat_map, sym, subst, arith, ◌⊎◌, inl, inr}
 use Rattle.std.specs.Prelude.{Contains}
 use Rattle.std.proofs.lemmas.List.Elements.{Contains-append_left, Contains-append_right, Contains-append_cases}
-use Rattle.pa_machine.specs.declared.title.Title.{Title}
-use Rattle.pa_machine.proofs.Same.{title_tells}
+use Rattle.pa_slot.specs.declared.title.Title.{Title}
+use Rattle.pa_slot.proofs.Same.{title_tells}
 use Rattle.pa_record.specs.Spans.{Span, title_at}
 use Rattle.pa_record.specs.Root.{Root}
 use Rattle.pa_lists.proofs.Members.{not_in_none, first_in, later_in, in_cases}

@@ -1,17 +1,17 @@
 -- Records on lines without an entry that move a slot between its owner and the thread's lists: one that returns, and one that is made.
 use Rattle.std.proofs.Common.{◌≡◌, ℕ, suc, ◌+◌, ◌*◌, ◌<◌, List, [], ◌∷◌, ◌++◌, Some, refl, sym, ◌∙◌, ap, subst, arith, inl, inr}
 use Rattle.std.proofs.lemmas.Bool.{eq-eqb}
-use Rattle.pa_machine.specs.declared.word.SlotName.{SlotName}
-use Rattle.pa_machine.specs.declared.word.Step.{Step}
-use Rattle.pa_machine.specs.declared.word.Step.TheVariants.{Issue}
-use Rattle.pa_machine.specs.declared.title.Title.{Title}
-use Rattle.pa_machine.specs.declared.title.OwnState.TheVariants.{Clean}
-use Rattle.pa_machine.specs.Count.{number_of, held_of, refs_of, stepped, CanStep}
-use Rattle.pa_machine.specs.Run.{Mark, IsReturning}
-use Rattle.pa_machine.specs.Titles.{content_count, count_word}
-use Rattle.pa_machine.specs.Holdings.{FreePiece, OwnPiece, FreeTitle, held_in}
+use Rattle.pa_slot.specs.declared.word.SlotName.{SlotName}
+use Rattle.pa_slot.specs.declared.word.Step.{Step}
+use Rattle.pa_slot.specs.declared.word.Step.TheVariants.{Issue}
+use Rattle.pa_slot.specs.declared.title.Title.{Title}
+use Rattle.pa_slot.specs.declared.title.OwnState.TheVariants.{Clean}
+use Rattle.pa_slot.specs.Count.{number_of, held_of, refs_of, stepped, CanStep}
+use Rattle.pa_slot.specs.Run.{Mark, IsReturning}
+use Rattle.pa_slot.specs.Titles.{content_count, count_word}
+use Rattle.pa_slot.specs.Holdings.{FreePiece, OwnPiece, FreeTitle, held_in}
 use Rattle.pa_machine.specs.Events.{State, Holds}
-use Rattle.pa_machine.proofs.Runs.{same_slot_yes}
+use Rattle.pa_slot.proofs.Runs.{same_slot_yes}
 use Rattle.pa_machine.proofs.Amounts.{returned_cases}
 use Rattle.pa_trace.specs.declared.script.Op.TheVariants as ops
 use Rattle.pa_record.specs.declared.entry.Seen.{Seen}

@@ -1,17 +1,17 @@
 -- An allocation whose line has an entry: some events bring its slot to the thread, and then it is issued.
 use Rattle.std.proofs.Common.{◌≡◌, ℕ, suc, ◌+◌, ◌*◌, ◌<◌, ◌≤◌, List, [], ◌∷◌, ◌++◌, Some, refl, sym, ◌∙◌, ap, subst, arith, inl, inr}
 use Rattle.std.proofs.lemmas.Bool.{eq-eqb}
-use Rattle.pa_machine.specs.declared.word.SlotName.{SlotName}
-use Rattle.pa_machine.specs.declared.word.Step.TheVariants.{Issue}
-use Rattle.pa_machine.specs.declared.title.OwnState.TheVariants.{Clean}
+use Rattle.pa_slot.specs.declared.word.SlotName.{SlotName}
+use Rattle.pa_slot.specs.declared.word.Step.TheVariants.{Issue}
+use Rattle.pa_slot.specs.declared.title.OwnState.TheVariants.{Clean}
 use Rattle.pa_machine.specs.declared.event.Event.{Event}
-use Rattle.pa_machine.specs.Count.{number_of, stepped, CanStep}
-use Rattle.pa_machine.specs.Run.{Mark}
-use Rattle.pa_machine.specs.Titles.{content_count}
-use Rattle.pa_machine.specs.Holdings.{FreePiece, OwnPiece, FreeTitle}
+use Rattle.pa_slot.specs.Count.{number_of, stepped, CanStep}
+use Rattle.pa_slot.specs.Run.{Mark}
+use Rattle.pa_slot.specs.Titles.{content_count}
+use Rattle.pa_slot.specs.Holdings.{FreePiece, OwnPiece, FreeTitle}
 use Rattle.pa_machine.specs.Events.{State, Holds}
 use Rattle.pa_machine.specs.Trail.{IsRunTo}
-use Rattle.pa_machine.proofs.Runs.{same_slot_yes}
+use Rattle.pa_slot.proofs.Runs.{same_slot_yes}
 use Rattle.pa_machine.proofs.Lasting.{run_start}
 use Rattle.pa_trace.specs.declared.script.Op.TheVariants as ops
 use Rattle.pa_record.specs.declared.entry.Seen.{Seen}

@@ -1,12 +1,12 @@
 -- The thread's lists on a line without an entry: a slot that comes back is put into one, and one that is made leaves one.
 use Rattle.std.proofs.Common.{◌≡◌, ℕ, zero, suc, ◌+◌, ◌<◌, ◌≤◌, List, [], ◌∷◌, length, refl, sym, ◌∙◌, ap, subst, arith, inl, inr}
 use Rattle.std.proofs.lemmas.Bool.{cases_lt}
-use Rattle.pa_machine.specs.declared.word.SlotName.{SlotName}
-use Rattle.pa_machine.specs.declared.title.Title.{Title}
-use Rattle.pa_machine.specs.Count.{number_of}
-use Rattle.pa_machine.specs.Holdings.{FreePiece, FreeTitle, held_in}
-use Rattle.pa_machine.proofs.Runs.{same_slot_yes, same_slot_no}
-use Rattle.pa_machine.proofs.Same.{title_tells}
+use Rattle.pa_slot.specs.declared.word.SlotName.{SlotName}
+use Rattle.pa_slot.specs.declared.title.Title.{Title}
+use Rattle.pa_slot.specs.Count.{number_of}
+use Rattle.pa_slot.specs.Holdings.{FreePiece, FreeTitle, held_in}
+use Rattle.pa_slot.proofs.Runs.{same_slot_yes, same_slot_no}
+use Rattle.pa_slot.proofs.Same.{title_tells}
 use Rattle.pa_machine.proofs.Parts.{free_none}
 use Rattle.pa_machine.proofs.Amounts.{free_self}
 use Rattle.pa_record.specs.declared.numbered.Numbered.{Numbered}
@@ -82,7 +82,7 @@ lists_grow partitions roots x slot cache after y real none (inl (p, class, of, o
     over_lists partitions p class y cache after (kept class list) (once y slot.slot) (real p class of) becomes (omega arith)
 lists_grow partitions roots x slot cache after y real none (inr (p, asked, number, direct, only, becomes)) = absurd (no_only roots x.line p _ [] none only)
 
--- and one that was made from a list
+-- if a slot was made from the front of a list, the thread's lists have it once less, and no other slot more often
 pub lists_fall : (partitions : ℕ) (roots : Journals) (x : Played) (seen : Seen) (cache after : Cache) → ((p class : ℕ) → AsksForClass x.op p class → (p < partitions) × (class < 59)) → NoActs roots x.line → MadeRow roots x seen cache after →
     (y : SlotName) → over partitions (λ q. listed_times y (after q) 0 59) + once y seen.slot ≤ over partitions (λ q. listed_times y (cache q) 0 59)
 lists_fall partitions roots x seen cache after real none (inl (p, class, xs, rest, asks, filled, front, becomes)) y =

@@ -1,7 +1,7 @@
 -- Titles that are cut one after the other: what a root makes on a line is in the core.
 use Rattle.std.proofs.Common.{◌≡◌, ℕ, ◌<◌, List, [], ◌∷◌, ◌++◌, refl, subst, ◌⊎◌, inl, inr}
 use Rattle.std.specs.Prelude.{Contains}
-use Rattle.pa_machine.specs.declared.title.Title.{Title}
+use Rattle.pa_slot.specs.declared.title.Title.{Title}
 use Rattle.pa_machine.specs.Events.{State}
 use Rattle.pa_machine.proofs.Lasting.{run_start}
 use Rattle.pa_record.specs.Spans.{name_of}

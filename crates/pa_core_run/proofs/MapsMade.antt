@@ -3,8 +3,8 @@ use Rattle.std.proofs.Common.{◌≡◌, ℕ, ◌&&◌, eqb, List, [], ◌∷◌
 use Rattle.std.specs.Prelude.{Contains}
 use Rattle.std.proofs.lemmas.Bool.{cases_Bool, and_parts, eqb-true}
 use Rattle.std.proofs.lemmas.List.Elements.{Contains-push_cases}
-use Rattle.pa_machine.specs.declared.word.SlotName.{SlotName}
-use Rattle.pa_machine.specs.declared.title.Title.{Title}
+use Rattle.pa_slot.specs.declared.word.SlotName.{SlotName}
+use Rattle.pa_slot.specs.declared.title.Title.{Title}
 use Rattle.pa_buckets.specs.Bands.{fill_of}
 use Rattle.pa_record.specs.declared.pool.PoolEntry.{PoolEntry}
 use Rattle.pa_record.specs.declared.root.RootEntry.{RootEntry}

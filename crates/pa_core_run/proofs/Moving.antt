@@ -1,13 +1,13 @@
 -- The kinds of change: a turn of a thread on a title, an item that is handed over, a title that is cut, and one that is uncut.
 use Rattle.std.proofs.Common.{◌≡◌, ℕ, ◌+◌, ◌*◌, ◌<◌, List, [], ◌∷◌, length, sym, ◌∙◌, ap, subst, arith, inl, inr}
 use Rattle.std.proofs.lemmas.Bool.{cases_lt}
-use Rattle.pa_machine.specs.declared.title.Title.{Title}
-use Rattle.pa_machine.specs.declared.title.OwnState.TheVariants.{Clean}
+use Rattle.pa_slot.specs.declared.title.Title.{Title}
+use Rattle.pa_slot.specs.declared.title.OwnState.TheVariants.{Clean}
 use Rattle.pa_machine.specs.declared.event.Item.{Item}
 use Rattle.pa_machine.specs.declared.event.Event.{Event}
 use Rattle.pa_machine.specs.declared.event.Event.TheVariants.{Hand}
-use Rattle.pa_machine.specs.Titles.{Covers, content_place, count_place, content_at, count_word, HasContentFrom}
-use Rattle.pa_machine.specs.Holdings.{Piece, Thing, RawByte, FreeTitle, OwnOf, OwnAs, RefOf, IsTitleHeld, held_in}
+use Rattle.pa_slot.specs.Titles.{Covers, content_place, count_place, content_at, count_word, HasContentFrom}
+use Rattle.pa_slot.specs.Holdings.{Piece, Thing, RawByte, FreeTitle, OwnOf, OwnAs, RefOf, IsTitleHeld, held_in}
 use Rattle.pa_machine.specs.Events.{State, HasActor, HoldsItem, Exchanges, of_actor, held_by, total_of, piece_of}
 use Rattle.pa_machine.specs.Trail.{IsGoodState, IsRunTo}
 use Rattle.pa_machine.proofs.Totals.{total_exchanged, of_actor_here, of_actor_apart}

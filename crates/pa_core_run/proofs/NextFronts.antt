@@ -2,11 +2,11 @@
 use Rattle.std.proofs.Common.{◌≡◌, ℕ, zero, suc, ◌+◌, ◌<◌, ◌≤◌, List, [], ◌∷◌, ◌++◌, Option, Some, None, refl, sym, ◌∙◌, ap, subst, arith, ◌⊎◌, inl, inr, ◌==◌, map, filter}
 use Rattle.std.specs.Prelude.{Contains}
 use Rattle.std.proofs.lemmas.Bool.{cases_eq, cases_lt, eq-eqb, ne_eqb}
-use Rattle.pa_machine.specs.declared.word.SlotName.{SlotName}
-use Rattle.pa_machine.specs.declared.word.Step.{Step}
-use Rattle.pa_machine.specs.Count.{number_of, held_of, stepped, CanStep}
-use Rattle.pa_machine.specs.Run.{Mark}
-use Rattle.pa_machine.proofs.Runs.{number_stepped, same_slot_cases}
+use Rattle.pa_slot.specs.declared.word.SlotName.{SlotName}
+use Rattle.pa_slot.specs.declared.word.Step.{Step}
+use Rattle.pa_slot.specs.Count.{number_of, held_of, stepped, CanStep}
+use Rattle.pa_slot.specs.Run.{Mark}
+use Rattle.pa_slot.proofs.Runs.{number_stepped, same_slot_cases}
 use Rattle.pa_trace.specs.declared.script.Op.TheVariants.{Swap}
 use Rattle.pa_record.specs.declared.history.Held.TheVariants.{Nothing}
 use Rattle.pa_record.specs.declared.root.RootEntry.{RootEntry}
@@ -38,7 +38,7 @@ use Rattle.pa_core_run.proofs.Paying.{IsSet}
 use Rattle.pa_heap_effects.proofs.Sharing.{root_parts}
 use Rattle.pa_slot_effects.proofs.Handles.{over_same}
 
--- one record more
+-- rows that lead over some records lead over one record more
 rows_snoc : (facts : Facts) (first all : AllRegs) (before : List Played) (x : Played) (next : Regs) → RowsTo facts first before all → Row facts x.op (all x.thread) x.answer next →
     RowsTo facts first (before ++ x ∷ []) (with_thread all x.thread next)
 rows_snoc facts first all [] x next to row = (next, subst (λ (r : AllRegs). Row facts x.op (r x.thread) x.answer next) to row, ap (λ (r : AllRegs). with_thread r x.thread next) to)

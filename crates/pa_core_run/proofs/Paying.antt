@@ -1,13 +1,13 @@
 -- What a change of one register, and of a thread's lists, pays for in the ledger.
 use Rattle.std.proofs.Common.{◌≡◌, ℕ, zero, suc, ◌+◌, ◌<◌, ◌≤◌, List, [], ◌∷◌, refl, sym, ◌∙◌, ap, subst, arith, inl, inr}
 use Rattle.std.proofs.lemmas.Bool.{cases_eq, eq-eqb, ne_eqb}
-use Rattle.pa_machine.specs.declared.word.SlotName.{SlotName}
-use Rattle.pa_machine.specs.declared.title.Title.{Title}
-use Rattle.pa_machine.specs.declared.title.OwnState.TheVariants.{Clean}
-use Rattle.pa_machine.specs.Holdings.{Piece, OwnPiece, RefPiece, FreeTitle, OwnOf, RefOf, held_in}
+use Rattle.pa_slot.specs.declared.word.SlotName.{SlotName}
+use Rattle.pa_slot.specs.declared.title.Title.{Title}
+use Rattle.pa_slot.specs.declared.title.OwnState.TheVariants.{Clean}
+use Rattle.pa_slot.specs.Holdings.{Piece, OwnPiece, RefPiece, FreeTitle, OwnOf, RefOf, held_in}
 use Rattle.pa_machine.specs.Events.{of_actor}
-use Rattle.pa_machine.proofs.Runs.{same_slot_yes, same_slot_no}
-use Rattle.pa_machine.proofs.Same.{title_tells}
+use Rattle.pa_slot.proofs.Runs.{same_slot_yes, same_slot_no}
+use Rattle.pa_slot.proofs.Same.{title_tells}
 use Rattle.pa_machine.proofs.Parts.{own_none, ref_none}
 use Rattle.pa_machine.proofs.Amounts.{own_self, ref_self}
 use Rattle.pa_machine.proofs.Totals.{of_actor_here, of_actor_apart}
@@ -38,7 +38,7 @@ points_piece Made t u one m n = elim (title_tells t u) [
 
 -- ---- one register changes, and the thread's lists
 
--- The state after thread k's register `reg` became `new`; of the lists only the thread's may change, and of the slots one.
+-- The state after thread k's register `reg` became `new`. Of the lists only the thread's may change, and of the slots only one.
 pub record IsSet (partitions : ℕ) (st next : Standing) (k reg : ℕ) (new : Reg) (x : SlotName) (word : ℕ) : Type 0 where
   pub few : reg < 64
   pub here : (r : ℕ) → next.regs k r ≡ with (st.regs k) reg new r

@@ -3,8 +3,8 @@ use Rattle.std.proofs.Common.{◌≡◌, ℕ, zero, suc, ◌+◌, ◌*◌, ◌�
 use Rattle.std.specs.Prelude.{Contains}
 use Rattle.std.proofs.lemmas.Bool.{cases_lt}
 use Rattle.std.proofs.lemmas.List.Elements.{Contains-append_cases, Contains-append_right}
-use Rattle.pa_machine.specs.declared.word.SlotName.{SlotName}
-use Rattle.pa_machine.specs.declared.title.Title.{Title}
+use Rattle.pa_slot.specs.declared.word.SlotName.{SlotName}
+use Rattle.pa_slot.specs.declared.title.Title.{Title}
 use Rattle.pa_machine.specs.Events.{State}
 use Rattle.pa_record.specs.declared.entry.Answer.TheVariants as answers
 use Rattle.pa_record.specs.declared.numbered.Numbered.{Numbered}
@@ -36,11 +36,12 @@ use Rattle.pa_core_run.proofs.Titled.{lists_known, AreTitlesOf, titles_for, name
 
 -- ---- the slots of a thread's lists
 
--- of that many classes of a partition, from one on; of the first partitions
+-- the slots of the lists of `n` classes of one partition, from one class on
 abbrev pub slots_from : (ℕ → List Numbered) → ℕ → ℕ → List Numbered
 slots_from lists class zero = []
 slots_from lists class (suc n) = lists class ++ slots_from lists (class + 1) n
 
+-- the slots of the lists of all classes of the first partitions
 abbrev pub all_slots : Cache → ℕ → List Numbered
 all_slots cache zero = []
 all_slots cache (suc p) = all_slots cache p ++ slots_from (cache p) 0 59

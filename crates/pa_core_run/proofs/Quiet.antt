@@ -2,13 +2,13 @@
 use Rattle.std.proofs.Common.{◌≡◌, ℕ, zero, suc, ◌+◌, ◌*◌, ◌<◌, ◌≤◌, List, [], ◌∷◌, ◌++◌, length, Some, None, refl, sym, ◌∙◌, ap, subst, arith, ◌⊎◌, inl, inr}
 use Rattle.std.proofs.lemmas.List.{length-append}
 use Rattle.std.proofs.lemmas.List.Elements.{All-contains}
-use Rattle.pa_machine.specs.declared.word.SlotName.{SlotName}
-use Rattle.pa_machine.specs.declared.word.Step.{Step}
-use Rattle.pa_machine.specs.declared.word.Step.TheVariants.{Copy, Reset, Free, Write}
-use Rattle.pa_machine.specs.declared.title.Title.{Title}
-use Rattle.pa_machine.specs.Count.{number_of, held_of}
-use Rattle.pa_machine.specs.Run.{Mark}
-use Rattle.pa_machine.specs.Titles.{content_count, count_word, poison}
+use Rattle.pa_slot.specs.declared.word.SlotName.{SlotName}
+use Rattle.pa_slot.specs.declared.word.Step.{Step}
+use Rattle.pa_slot.specs.declared.word.Step.TheVariants.{Copy, Reset, Free, Write}
+use Rattle.pa_slot.specs.declared.title.Title.{Title}
+use Rattle.pa_slot.specs.Count.{number_of, held_of}
+use Rattle.pa_slot.specs.Run.{Mark}
+use Rattle.pa_slot.specs.Titles.{content_count, count_word, poison}
 use Rattle.pa_machine.specs.Events.{State}
 use Rattle.pa_trace.specs.Limits.{IsOpWithin}
 use Rattle.pa_trace.specs.declared.script.Op.{Op}

@@ -1,9 +1,9 @@
 -- Records without an entry of a journal: what reports no slot, looks, and counted steps.
 use Rattle.std.proofs.Common.{◌≡◌, ℕ, zero, suc, ◌+◌, ◌*◌, ◌<◌, List, [], ◌∷◌, ◌++◌, Some, None, refl, sym, ◌∙◌, ap, subst, arith, ◌⊎◌, inl, inr}
-use Rattle.pa_machine.specs.declared.word.SlotName.{SlotName}
-use Rattle.pa_machine.specs.declared.title.Title.{Title}
-use Rattle.pa_machine.specs.Count.{number_of, held_of}
-use Rattle.pa_machine.specs.Run.{Mark}
+use Rattle.pa_slot.specs.declared.word.SlotName.{SlotName}
+use Rattle.pa_slot.specs.declared.title.Title.{Title}
+use Rattle.pa_slot.specs.Count.{number_of, held_of}
+use Rattle.pa_slot.specs.Run.{Mark}
 use Rattle.pa_machine.specs.Events.{State}
 use Rattle.pa_machine.proofs.Lasting.{run_start}
 use Rattle.pa_trace.specs.declared.script.Op.TheVariants as ops
@@ -32,7 +32,7 @@ use Rattle.pa_core_run.proofs.Named.{made_unique, HasTitle, made_title}
 use Rattle.pa_core_run.proofs.NextFronts.{after_record, among, regs_left, cache_left, front_next, cells_left, found_word, regs_same, lists_same, words_same, right_same}
 use Rattle.pa_slot_effects.proofs.Handles.{over_same}
 
--- a ledger that asks no more, of the same words and contents
+-- a ledger with the same numbers, words and contents is shown too
 shown_alike : (names : Titles) (actors bytes : ℕ) (b next : Ledger) (s : State) → IsShown names actors bytes b s → ((k : ℕ) (x : SlotName) → next.own k x ≡ b.own k x) → ((k : ℕ) (x : SlotName) → next.ref k x ≡ b.ref k x) →
     ((k : ℕ) (x : SlotName) → next.free k x ≡ b.free k x) → ((x : SlotName) → next.word x ≡ b.word x) → ((x : SlotName) → next.content x ≡ b.content x) → IsShown names actors bytes next s
 shown_alike names actors bytes b next s h own ref free word content = record {

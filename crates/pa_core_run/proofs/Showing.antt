@@ -1,14 +1,14 @@
 -- The core goes on showing the ledger when one title changes and the ledger with it.
 use Rattle.std.proofs.Common.{◌≡◌, ℕ, ◌*◌, ◌<◌, List, [], ◌∷◌, length, refl, sym, ◌∙◌, ap, subst, arith, ◌⊎◌, inl, inr}
-use Rattle.pa_machine.specs.declared.word.SlotName.{SlotName}
-use Rattle.pa_machine.specs.declared.title.Title.{Title}
-use Rattle.pa_machine.specs.declared.title.OwnState.{OwnState}
-use Rattle.pa_machine.specs.declared.title.OwnState.TheVariants.{Clean}
-use Rattle.pa_machine.specs.Titles.{count_word, HasContentFrom}
-use Rattle.pa_machine.specs.Holdings.{Piece, FreePiece, OwnPiece, RefPiece, RawByte, FreeTitle, OwnOf, OwnAs, RefOf, IsTitleHeld, held_in}
+use Rattle.pa_slot.specs.declared.word.SlotName.{SlotName}
+use Rattle.pa_slot.specs.declared.title.Title.{Title}
+use Rattle.pa_slot.specs.declared.title.OwnState.{OwnState}
+use Rattle.pa_slot.specs.declared.title.OwnState.TheVariants.{Clean}
+use Rattle.pa_slot.specs.Titles.{count_word, HasContentFrom}
+use Rattle.pa_slot.specs.Holdings.{Piece, FreePiece, OwnPiece, RefPiece, RawByte, FreeTitle, OwnOf, OwnAs, RefOf, IsTitleHeld, held_in}
 use Rattle.pa_machine.specs.Events.{State, Holds, Exchanges, total_of, returned_at}
 use Rattle.pa_machine.specs.Trail.{IsGoodState}
-use Rattle.pa_machine.proofs.Same.{title_tells, state_tells}
+use Rattle.pa_slot.proofs.Same.{title_tells, state_tells}
 use Rattle.pa_machine.proofs.Totals.{tally_of}
 use Rattle.pa_machine.proofs.Parts.{IsUntouched, untouched_held, IsNoneOf, nil_none, free_none, own_none, ref_none}
 use Rattle.pa_machine.proofs.Amounts.{state_apart, returned_cases}

@@ -1,16 +1,16 @@
 -- Records of counted steps: a copy, a write, and a reset and a free up to the lists that they leave.
 use Rattle.std.proofs.Common.{◌≡◌, ℕ, zero, suc, ◌+◌, ◌*◌, ◌<◌, ◌≤◌, List, [], ◌∷◌, ◌++◌, Some, None, refl, sym, ◌∙◌, ap, subst, arith, ◌⊎◌, inl, inr}
 use Rattle.std.proofs.lemmas.Bool.{cases_eq}
-use Rattle.pa_machine.specs.declared.word.SlotName.{SlotName}
-use Rattle.pa_machine.specs.declared.word.Step.{Step}
-use Rattle.pa_machine.specs.declared.word.Step.TheVariants.{Issue, Copy, Reset, Free, Write}
-use Rattle.pa_machine.specs.declared.title.Title.{Title}
-use Rattle.pa_machine.specs.declared.title.OwnState.TheVariants.{Clean}
+use Rattle.pa_slot.specs.declared.word.SlotName.{SlotName}
+use Rattle.pa_slot.specs.declared.word.Step.{Step}
+use Rattle.pa_slot.specs.declared.word.Step.TheVariants.{Issue, Copy, Reset, Free, Write}
+use Rattle.pa_slot.specs.declared.title.Title.{Title}
+use Rattle.pa_slot.specs.declared.title.OwnState.TheVariants.{Clean}
 use Rattle.pa_machine.specs.declared.event.Event.{Event}
-use Rattle.pa_machine.specs.Count.{number_of, held_of, refs_of, stepped, CanStep}
-use Rattle.pa_machine.specs.Run.{Mark}
-use Rattle.pa_machine.specs.Titles.{content_count, count_word}
-use Rattle.pa_machine.specs.Holdings.{Piece, OwnPiece, RefPiece, FreeTitle, held_in}
+use Rattle.pa_slot.specs.Count.{number_of, held_of, refs_of, stepped, CanStep}
+use Rattle.pa_slot.specs.Run.{Mark}
+use Rattle.pa_slot.specs.Titles.{content_count, count_word}
+use Rattle.pa_slot.specs.Holdings.{Piece, OwnPiece, RefPiece, FreeTitle, held_in}
 use Rattle.pa_machine.specs.Events.{State}
 use Rattle.pa_machine.specs.Trail.{IsRunTo}
 use Rattle.pa_machine.proofs.Lasting.{run_start}

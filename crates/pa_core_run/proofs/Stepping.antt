@@ -1,20 +1,20 @@
 -- The counted ops, one whole: the core can play each, and shows the state after it.
 use Rattle.std.proofs.Common.{◌≡◌, ℕ, suc, ◌+◌, ◌<◌, ◌≤◌, List, [], ◌∷◌, ◌++◌, get_or, refl, sym, ◌∙◌, ap, subst, arith, ◌⊎◌, inl, inr}
 use Rattle.std.proofs.lemmas.List.Sums.{sum_by-cons}
-use Rattle.pa_machine.specs.declared.word.SlotName.{SlotName}
-use Rattle.pa_machine.specs.declared.word.Step.{Step}
-use Rattle.pa_machine.specs.declared.word.Step.TheVariants.{Issue, Copy, Reset, Free, Write}
-use Rattle.pa_machine.specs.declared.title.Title.{Title}
-use Rattle.pa_machine.specs.declared.title.OwnState.{OwnState}
-use Rattle.pa_machine.specs.declared.title.OwnState.TheVariants.{Clean}
+use Rattle.pa_slot.specs.declared.word.SlotName.{SlotName}
+use Rattle.pa_slot.specs.declared.word.Step.{Step}
+use Rattle.pa_slot.specs.declared.word.Step.TheVariants.{Issue, Copy, Reset, Free, Write}
+use Rattle.pa_slot.specs.declared.title.Title.{Title}
+use Rattle.pa_slot.specs.declared.title.OwnState.{OwnState}
+use Rattle.pa_slot.specs.declared.title.OwnState.TheVariants.{Clean}
 use Rattle.pa_machine.specs.declared.event.Event.{Event}
 use Rattle.pa_machine.specs.declared.event.Event.TheVariants.{Count}
-use Rattle.pa_machine.specs.Count.{CanStep, stepped, refs_of}
-use Rattle.pa_machine.specs.Titles.{content_count, count_word, HasContentFrom}
-use Rattle.pa_machine.specs.Holdings.{Piece, RawPiece, FreePiece, OwnPiece, RefPiece, FreeTitle, OwnOf, OwnAs, RefOf, amount, held_in}
+use Rattle.pa_slot.specs.Count.{CanStep, stepped, refs_of}
+use Rattle.pa_slot.specs.Titles.{content_count, count_word, HasContentFrom}
+use Rattle.pa_slot.specs.Holdings.{Piece, RawPiece, FreePiece, OwnPiece, RefPiece, FreeTitle, OwnOf, OwnAs, RefOf, amount, held_in}
 use Rattle.pa_machine.specs.Events.{State, HasActor, Holds, of_actor, total_of}
 use Rattle.pa_machine.specs.Trail.{IsGoodState}
-use Rattle.pa_machine.proofs.Same.{title_tells, state_self}
+use Rattle.pa_slot.proofs.Same.{title_tells, state_self}
 use Rattle.pa_machine.proofs.Totals.{tally_of, total_exchanged}
 use Rattle.pa_machine.proofs.Amounts.{state_here}
 use Rattle.pa_machine.proofs.Happening.{in_total, few_owns}

@@ -1,15 +1,15 @@
 -- An exchange with a cell: what the register held goes to actor 0, and what the cell held comes to the thread.
 use Rattle.std.proofs.Common.{◌≡◌, ℕ, zero, suc, ◌+◌, ◌<◌, ◌≤◌, List, [], ◌∷◌, ◌++◌, get_or, refl, sym, ◌∙◌, ap, subst, arith, ◌⊎◌, inl, inr, ◌==◌, if◌then◌else◌}
 use Rattle.std.proofs.lemmas.Bool.{cases_eq, eq-eqb, ne_eqb}
-use Rattle.pa_machine.specs.declared.word.SlotName.{SlotName}
-use Rattle.pa_machine.specs.declared.title.Title.{Title}
-use Rattle.pa_machine.specs.declared.title.OwnState.{OwnState}
-use Rattle.pa_machine.specs.declared.title.OwnState.TheVariants.{Clean}
+use Rattle.pa_slot.specs.declared.word.SlotName.{SlotName}
+use Rattle.pa_slot.specs.declared.title.Title.{Title}
+use Rattle.pa_slot.specs.declared.title.OwnState.{OwnState}
+use Rattle.pa_slot.specs.declared.title.OwnState.TheVariants.{Clean}
 use Rattle.pa_machine.specs.declared.event.Item.{Item}
 use Rattle.pa_machine.specs.declared.event.Item.TheVariants.{Own as OwnItem, Ref as RefItem}
 use Rattle.pa_machine.specs.declared.event.Event.{Event}
 use Rattle.pa_machine.specs.declared.event.Event.TheVariants.{Hand}
-use Rattle.pa_machine.specs.Holdings.{Piece, OwnPiece, RefPiece, Thing, FreeTitle, OwnOf, OwnAs, RefOf, held_in}
+use Rattle.pa_slot.specs.Holdings.{Piece, OwnPiece, RefPiece, Thing, FreeTitle, OwnOf, OwnAs, RefOf, held_in}
 use Rattle.pa_machine.specs.Events.{State, Holds, of_actor}
 use Rattle.pa_machine.specs.Trail.{IsRunTo}
 use Rattle.pa_machine.proofs.Totals.{of_actor_here, of_actor_apart}
@@ -37,8 +37,8 @@ use Rattle.pa_machine.proofs.Holding.{own_title, ref_title}
 abbrev pub has_at : (SlotName → Reg → ℕ) → ℕ → Reg → ℕ → SlotName → ℕ
 has_at f k r j x = if k == j then f x r else 0
 
--- The handle r goes from one actor's share to another's: of owners and raw_ptrs each actor is to hold as much as before, without
--- what it gave and with what it got; and all else of the ledger stays.
+-- The handle r goes from one actor's share to another's. Of owners and raw_ptrs each actor is to hold as much as before, without what it
+-- gave and with what it got. All else of the ledger stays.
 pub record IsGone (b next : Ledger) (r : Reg) (from to : ℕ) : Type 0 where
   pub own : (j : ℕ) (x : SlotName) → next.own j x + has_at owns from r j x ≤ b.own j x + has_at owns to r j x
   pub ref : (j : ℕ) (x : SlotName) → next.ref j x + has_at points from r j x ≤ b.ref j x + has_at points to r j x

@@ -3,15 +3,15 @@ use Rattle.std.proofs.Common.{◌≡◌, ℕ, ◌<◌, List, [], ◌∷◌, refl
 use Rattle.std.specs.Prelude.{Contains}
 use Rattle.std.proofs.lemmas.List.Sums.{sum_by-cons}
 use Rattle.std.proofs.lemmas.Bool.{cases_lt}
-use Rattle.pa_machine.specs.declared.word.SlotName.{SlotName}
-use Rattle.pa_machine.specs.declared.title.Title.{Title}
-use Rattle.pa_machine.specs.declared.title.OwnState.{OwnState}
-use Rattle.pa_machine.specs.declared.title.OwnState.TheVariants.{Clean}
-use Rattle.pa_machine.specs.Count.{held_of}
-use Rattle.pa_machine.specs.Titles.{content_count, content_at, count_word, poison}
-use Rattle.pa_machine.specs.Holdings.{Piece, OwnOf, OwnAs, RefOf, IsTitleHeld, held_in, held_by_all}
+use Rattle.pa_slot.specs.declared.word.SlotName.{SlotName}
+use Rattle.pa_slot.specs.declared.title.Title.{Title}
+use Rattle.pa_slot.specs.declared.title.OwnState.{OwnState}
+use Rattle.pa_slot.specs.declared.title.OwnState.TheVariants.{Clean}
+use Rattle.pa_slot.specs.Count.{held_of}
+use Rattle.pa_slot.specs.Titles.{content_count, content_at, count_word, poison}
+use Rattle.pa_slot.specs.Holdings.{Piece, OwnOf, OwnAs, RefOf, IsTitleHeld, held_in, held_by_all}
 use Rattle.pa_machine.specs.Events.{State, total_of}
-use Rattle.pa_machine.proofs.Runs.{same_slot_cases, same_slot_yes, same_slot_no}
+use Rattle.pa_slot.proofs.Runs.{same_slot_cases, same_slot_yes, same_slot_no}
 use Rattle.pa_machine.proofs.Happening.{in_total}
 use Rattle.pa_machine.proofs.Keeps.{own_of_state}
 use Rattle.pa_machine.proofs.Totals.{tally_of}

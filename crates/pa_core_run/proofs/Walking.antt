@@ -2,7 +2,7 @@
 use Rattle.std.proofs.Common.{◌≡◌, ℕ, ◌+◌, ◌*◌, ◌≤◌, List, [], ◌∷◌, ◌++◌, refl, sym, ◌∙◌, ap, subst, arith}
 use Rattle.std.specs.Prelude.{Contains}
 use Rattle.pa_machine.specs.declared.event.Event.{Event}
-use Rattle.pa_machine.specs.declared.title.Title.{Title}
+use Rattle.pa_slot.specs.declared.title.Title.{Title}
 use Rattle.pa_machine.specs.Events.{State}
 use Rattle.pa_machine.specs.Trail.{IsGoodState, IsRunTo}
 use Rattle.pa_machine.proofs.Lasting.{run_start}
@@ -54,7 +54,7 @@ front_later a n m before rest s h cut up late shows =
       shown = subst (λ (root : ℕ → Root). IsShown (titles_in a root) (a.threads + 1) (2097152 * a.supers) (ledger_of a.partitions shows.st) s) roots shows.shown;
     }
 
--- all records from a line on
+-- The rest of the records is played from this state, by events that lead to a last one.
 pub record IsWalked (a : Parts) (rest : List Played) (s : State) : Type 0 where
   pub events : List Event
   pub last : State

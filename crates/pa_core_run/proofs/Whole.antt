@@ -1,6 +1,6 @@
 -- Each record of a run in the order of its lines can be played, by its answer; and so the run.
 use Rattle.std.proofs.Common.{◌≡◌, ◌≤◌, List, ◌∷◌, ◌++◌, Option, Some, None, refl, inl, inr, subst}
-use Rattle.pa_machine.specs.declared.word.Step.{Step}
+use Rattle.pa_slot.specs.declared.word.Step.{Step}
 use Rattle.pa_machine.specs.Events.{State}
 use Rattle.pa_record.specs.declared.entry.Seen.{Seen}
 use Rattle.pa_record.specs.declared.entry.Answer.{Answer}

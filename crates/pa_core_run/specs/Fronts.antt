@@ -1,8 +1,8 @@
 -- What the core shows before a line of a run in the order of its lines.
 use Rattle.std.specs.Prelude.{◌≡◌, ℕ, ◌+◌, ◌*◌, List, [], ◌∷◌, ◌++◌}
-use Rattle.pa_machine.specs.declared.word.SlotName.{SlotName}
-use Rattle.pa_machine.specs.declared.title.Title.{Title}
-use Rattle.pa_machine.specs.Count.{number_of, held_of}
+use Rattle.pa_slot.specs.declared.word.SlotName.{SlotName}
+use Rattle.pa_slot.specs.declared.title.Title.{Title}
+use Rattle.pa_slot.specs.Count.{number_of, held_of}
 use Rattle.pa_machine.specs.Events.{State}
 use Rattle.pa_record.specs.declared.history.Held.TheVariants.{Nothing}
 use Rattle.pa_record.specs.Spans.{name_of}
@@ -20,8 +20,7 @@ use Rattle.pa_core_run.specs.Playing.{Plays}
 use Rattle.pa_core_run.specs.Ledger.{Titles, IsShown}
 use Rattle.pa_core_run.specs.Standing.{Standing, ledger_of}
 
--- the titles that the journals make at some time; those that are in the roots before a line; and the slots that were made and
--- are in their root then
+-- one of the journals makes the title at some time
 abbrev pub MadeIn : Parts → Title → Type 0
 MadeIn a t = (p : ℕ) × IsMadeBy a.pools (a.roots p) t
 
@@ -33,12 +32,12 @@ ThereIn root t = (p : ℕ) × IsThere (root p) t
 abbrev pub KeptIn : (ℕ → Root) → Title → Type 0
 KeptIn root t = (p : ℕ) × IsMade (root p) t × (IsNameOut (root p) (name_of t) → ⊥)
 
--- the titles of a run: made by its journals, and there and kept by these roots
+-- the titles of a run: those that its journals make, and those that exist and are kept in these roots
 abbrev pub titles_in : Parts → (ℕ → Root) → Titles
 titles_in a root = record { Made = MadeIn a; There = ThereIn root; Kept = KeptIn root }
 
--- The state before a line, after some records and before the rest: the registers and lists that the records lead to, and from
--- which the rest goes on; what the last exchange of each cell gave; and the words and contents that the records left.
+-- The state before line n, after some records and before the rest: the registers and lists to which these records lead and from which the
+-- rest goes on, what the last exchange of each cell gave, and the words and contents that the records left.
 pub record IsFrontOf (a : Parts) (n : ℕ) (before rest : List Played) (st : Standing) : Type 0 where
   pub registers : HasRegisters a before st.regs
   pub rows : (end : AllRegs) × RowsTo (facts_of a) st.regs rest end
@@ -54,7 +53,7 @@ pub record ShowsFront (a : Parts) (n : ℕ) (before rest : List Played) (s : Sta
   pub front : IsFrontOf a n before rest st
   pub shown : IsShown (titles_in a (root_at a n)) (a.threads + 1) (2097152 * a.supers) (ledger_of a.partitions st) s
 
--- The record after these can be played whenever the core shows the state before it, and leads to the state before the next line.
+-- The next record can be played whenever the core shows the state before it, and leads to the state before the next line.
 abbrev pub CanBePlayed : Parts → List Played → Played → List Played → Type 0
 CanBePlayed a before x rest =
     (s : State) → ShowsFront a x.line before (x ∷ rest) s → (next : State) × Plays (MadeIn a) x s next × ShowsFront a (x.line + 1) (before ++ x ∷ []) rest next

@@ -31,35 +31,35 @@ QuietRecordsArePlayed =
     (t : Trace) (r : Run) → IsWithinLimits t → IsFileRun t r → (before : List Played) (x : Played) (rest : List Played) →
     records_of t (told_by r) ≡ before ++ x ∷ rest → NoActs (told_by r).roots x.line → CanBePlayed (parts_of t (told_by r)) before x rest
 
--- and so can each allocation that finds no room, whose entries leave the roots
+-- Each allocation that finds no room can be played.
 abbrev pub RefusedRecordsArePlayed : Type 0
 RefusedRecordsArePlayed =
     (t : Trace) (r : Run) → IsWithinLimits t → IsFileRun t r → (before : List Played) (x : Played) (rest : List Played) (entry : ℕ) →
     records_of t (told_by r) ≡ before ++ x ∷ rest → x.answer ≡ Full entry → CanBePlayed (parts_of t (told_by r)) before x rest
 
--- And so can each allocation that made a slot: from the front of the thread's list, after a fill of it, or as a direct map. New titles
+-- Each allocation that made a slot can be played: from the front of the thread's list, after a fill of it, or as a direct map. New titles
 -- are cut, and those that a fill takes, or the direct map's, come to the thread before the slot is issued.
 abbrev pub MadeRecordsArePlayed : Type 0
 MadeRecordsArePlayed =
     (t : Trace) (r : Run) → IsWithinLimits t → IsFileRun t r → (before : List Played) (x : Played) (rest : List Played) (seen : Seen) (usable : ℕ) →
     records_of t (told_by r) ≡ before ++ x ∷ rest → x.answer ≡ Made seen usable → CanBePlayed (parts_of t (told_by r)) before x rest
 
--- And so can each free or reset that returned a slot to a list which spilled: what doesn't stay of the list goes back to the root.
+-- Each free or reset that returned a slot to a list which spilled can be played: what doesn't stay of the list goes back to the root.
 abbrev pub SpilledRecordsArePlayed : Type 0
 SpilledRecordsArePlayed =
     (t : Trace) (r : Run) → IsWithinLimits t → IsFileRun t r → (before : List Played) (x : Played) (rest : List Played) →
     (seen : Seen) (p : ℕ) (slots : List Numbered) → records_of t (told_by r) ≡ before ++ x ∷ rest → x.answer ≡ Done seen →
     Contains (acts_of (told_by r).roots x.line p) (Give slots) → CanBePlayed (parts_of t (told_by r)) before x rest
 
--- And so can each reset or free that gave back a direct map: its line has an Unmap. The step leaves the map's free title, which goes to
--- actor 0 and is uncut.
+-- Each reset or free that gave back a direct map can be played: its line has an Unmap. The step leaves the map's free title, which goes
+-- to actor 0 and is uncut.
 abbrev pub UnmappedRecordsArePlayed : Type 0
 UnmappedRecordsArePlayed =
     (t : Trace) (r : Run) → IsWithinLimits t → IsFileRun t r → (before : List Played) (x : Played) (rest : List Played) →
     (p asked : ℕ) (slot : Numbered) → records_of t (told_by r) ≡ before ++ x ∷ rest →
     Contains (acts_of (told_by r).roots x.line p) (Unmap asked slot) → CanBePlayed (parts_of t (told_by r)) before x rest
 
--- And so can each purge: the free titles of all slots in its thread's lists go to actor 0, and the lists are empty.
+-- Each purge can be played: the free titles of all slots in its thread's lists go to actor 0, and the lists are empty then.
 abbrev pub PurgedRecordsArePlayed : Type 0
 PurgedRecordsArePlayed =
     (t : Trace) (r : Run) → IsWithinLimits t → IsFileRun t r → (before : List Played) (x : Played) (rest : List Played) (slots : ℕ) →

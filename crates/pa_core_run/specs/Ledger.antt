@@ -1,16 +1,16 @@
 -- What the core shows of a run so far, by the names of slots.
 use Rattle.std.specs.Prelude.{◌≡◌, ℕ, ◌+◌, ◌*◌, ◌<◌, ◌≤◌, List, length}
-use Rattle.pa_machine.specs.declared.word.SlotName.{SlotName}
-use Rattle.pa_machine.specs.declared.title.Title.{Title}
-use Rattle.pa_machine.specs.declared.title.OwnState.{OwnState}
-use Rattle.pa_machine.specs.declared.title.OwnState.TheVariants.{Clean}
-use Rattle.pa_machine.specs.Titles.{count_word, HasContentFrom}
-use Rattle.pa_machine.specs.Holdings.{Piece, RawByte, FreeTitle, OwnOf, OwnAs, RefOf, IsTitleHeld, held_in}
+use Rattle.pa_slot.specs.declared.word.SlotName.{SlotName}
+use Rattle.pa_slot.specs.declared.title.Title.{Title}
+use Rattle.pa_slot.specs.declared.title.OwnState.{OwnState}
+use Rattle.pa_slot.specs.declared.title.OwnState.TheVariants.{Clean}
+use Rattle.pa_slot.specs.Titles.{count_word, HasContentFrom}
+use Rattle.pa_slot.specs.Holdings.{Piece, RawByte, FreeTitle, OwnOf, OwnAs, RefOf, IsTitleHeld, held_in}
 use Rattle.pa_machine.specs.Events.{State, Holds, held_by, total_of}
 use Rattle.pa_machine.specs.Trail.{IsGoodState}
 use Rattle.pa_record.specs.Spans.{name_of}
 
--- how many owners and raw_ptrs of a name each actor is to hold, and free slots each thread; and each slot's word and content
+-- how many owners, raw_ptrs and free slots of a name each actor is to hold, and the word and the content of each slot
 pub record Ledger : Type 0 where
   pub own : ℕ → SlotName → ℕ
   pub ref : ℕ → SlotName → ℕ
@@ -26,7 +26,8 @@ pub record Titles : Type 1 where
   pub Kept : Title → Type 0
 
 -- The core has that many actors and bytes, and shows the ledger.
---   own, ref: each actor holds at least what it is to hold, of each title that is made; free: each thread does
+--   own, ref: each actor holds at least what it is to hold, of each title that is made
+--   free: each thread has at least the free slots that it is to have
 --   kept: actor 0 has the free slots of the roots
 --   words, contents: the count word of each title that is held is its slot's word, and a clean Own's content is its content
 --   clean: between two records each Own is clean
@@ -46,8 +47,8 @@ pub record IsShown (names : Titles) (actors bytes : ℕ) (b : Ledger) (s : State
   pub raw : (k byte : ℕ) → 0 < k → k < actors → held_by s k (RawByte byte) ≡ 0
   pub there : (t : Title) → IsTitleHeld (total_of s) t → names.There t
 
--- What each actor is to hold of the titles that are made after these pieces were lost and gained is no more than before, with
--- what was gained and without what was lost; and only one slot's word and content change: its word becomes this.
+-- After these pieces were lost and gained, each actor is to hold of the titles that are made no more than before, with what was gained
+-- and without what was lost. Only the word and the content of one slot change, and its word becomes this.
 pub record IsPaid (Made : Title → Type 0) (b next : Ledger) (lost gained : ℕ → List Piece) (t : Title) (word : ℕ) : Type 0 where
   pub own : (k : ℕ) (u : Title) → Made u → next.own k (name_of u) + held_in (lost k) (OwnOf u) ≤ b.own k (name_of u) + held_in (gained k) (OwnOf u)
   pub ref : (k : ℕ) (u : Title) → Made u → next.ref k (name_of u) + held_in (lost k) (RefOf u) ≤ b.ref k (name_of u) + held_in (gained k) (RefOf u)

@@ -1,10 +1,10 @@
 -- Titles that come into the core and leave it, and free slots that go between a thread and the roots: what the lines that make
 -- entries of a journal do in the core besides their step.
 use Rattle.std.specs.Prelude.{◌≡◌, ℕ, ◌+◌, ◌%◌, ◌<◌, ◌≤◌, List, [], ◌∷◌, ◌++◌, Contains}
-use Rattle.pa_machine.specs.declared.word.SlotName.{SlotName}
-use Rattle.pa_machine.specs.declared.title.Title.{Title}
+use Rattle.pa_slot.specs.declared.word.SlotName.{SlotName}
+use Rattle.pa_slot.specs.declared.title.Title.{Title}
 use Rattle.pa_machine.specs.declared.event.Event.{Event}
-use Rattle.pa_machine.specs.Holdings.{FreeTitle}
+use Rattle.pa_slot.specs.Holdings.{FreeTitle}
 use Rattle.pa_machine.specs.Events.{State, Holds}
 use Rattle.pa_machine.specs.Trail.{IsRunTo}
 use Rattle.pa_record.specs.Spans.{name_of}
@@ -27,7 +27,7 @@ abbrev pub AllApart : List Title → Type 0
 AllApart [] = Unit {0}
 AllApart (t ∷ ts) = ((u : Title) → Contains ts u → TitlesApart u t) × AllApart ts
 
--- how often a name is one of these titles'
+-- how often a name is that of one of these titles
 abbrev pub named_in : SlotName → List Title → ℕ
 named_in x [] = 0
 named_in x (t ∷ ts) = once x (name_of t) + named_in x ts
@@ -80,7 +80,7 @@ SlotsCanGoBack =
     ((x : SlotName) → rest k x + named_in x ts ≤ b.free k x) → ((j : ℕ) (x : SlotName) → (j ≡ k → ⊥) → rest j x ≤ b.free j x) →
     (after : State) × IsReached (listed_titles made there (kept ++ ts)) actors bytes (asking b rest) s k after
 
--- And titles that actor 0 has for the roots can come to a thread.
+-- Titles that actor 0 has for the roots can come to a thread.
 abbrev pub SlotsCanCome : Type 0
 SlotsCanCome =
     (ts made there kept kept_then : List Title) (actors bytes k : ℕ) (b : Ledger) (later : ℕ → SlotName → ℕ) (s : State) →
@@ -90,7 +90,7 @@ SlotsCanCome =
     ((x : SlotName) → later k x ≤ b.free k x + named_in x ts) → ((j : ℕ) (x : SlotName) → (j ≡ k → ⊥) → later j x ≤ b.free j x) →
     (after : State) × IsReached (listed_titles made there kept_then) actors bytes (asking b later) s k after
 
--- all four
+-- The four laws of this file hold: titles can be cut and uncut, and free slots can go back and come.
 pub record TitlesComeAndGo : Type 0 where
   pub cut : TitlesCanBeCut
   pub uncut : TitlesCanBeUncut

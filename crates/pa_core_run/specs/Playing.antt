@@ -1,12 +1,12 @@
 -- How the records of a run are played as events of the core: each op of a thread by its own actor, and by actor 0, which has
 -- the raw bytes, the free slots of the roots, and what lies in cells. Thread k is actor k + 1.
 use Rattle.std.specs.Prelude.{◌≡◌, ℕ, ◌+◌, ◌*◌, ◌<◌, ◌⊎◌, List, [], ◌∷◌, ◌++◌, Option, Some, None}
-use Rattle.pa_machine.specs.declared.word.Step.{Step}
-use Rattle.pa_machine.specs.declared.title.Title.{Title}
+use Rattle.pa_slot.specs.declared.word.Step.{Step}
+use Rattle.pa_slot.specs.declared.title.Title.{Title}
 use Rattle.pa_machine.specs.declared.event.Event.{Event}
 use Rattle.pa_machine.specs.declared.event.Event.TheVariants.{Count, Store, Poison, Load, Hand, Cut, Uncut}
-use Rattle.pa_machine.specs.Run.{Mark}
-use Rattle.pa_machine.specs.Titles.{content_count, content_place, count_place, content_at, count_word}
+use Rattle.pa_slot.specs.Run.{Mark}
+use Rattle.pa_slot.specs.Titles.{content_count, content_place, count_place, content_at, count_word}
 use Rattle.pa_machine.specs.Events.{State, IsStart}
 use Rattle.pa_machine.specs.Trail.{IsGoodState, IsRunTo}
 use Rattle.pa_trace.specs.declared.script.Op.{Op}
@@ -29,7 +29,7 @@ read_by (ops.Read reg place) (answers.Value seen value) = Some (place, value)
 read_by (ops.Read reg place) (answers.Dangling seen value) = Some (place, value)
 read_by op answer = None
 
--- the events that a record reports: its step on the count word, or a look at it; and its read
+-- the event of an actor's step on the count word of a title, or of a look at it if there is no step
 abbrev pub step_event : ℕ → Title → Option Step → Event
 step_event actor t None = Load actor (8 * count_place t)
 step_event actor t (Some step) = Count actor t step
@@ -39,7 +39,7 @@ abbrev pub read_events : ℕ → Title → Option (ℕ × ℕ) → List Event
 read_events actor t None = []
 read_events actor t (Some read) = Load actor (8 * content_place t read.0) ∷ []
 
--- the step on the count word, or the look at it, and then the read; none if no slot is reported
+-- the step on the count word, or the look at it, and then the read, and no events if no slot is reported
 abbrev pub mark_events : ℕ → Title → Option Mark → Option (ℕ × ℕ) → List Event
 mark_events actor t None read = []
 mark_events actor t (Some mark) read = step_event actor t mark.step ∷ read_events actor t read
@@ -48,7 +48,7 @@ mark_events actor t (Some mark) read = step_event actor t mark.step ∷ read_eve
 abbrev pub told_events : Played → Title → List Event
 told_events x t = mark_events (x.thread + 1) t (mark_of x) (read_by x.op x.answer)
 
--- the words have the count word that the record found, and what it read
+-- the words have what was read of the title's content, if anything was
 abbrev pub HasRead : List ℕ → Title → Option (ℕ × ℕ) → Type 0
 HasRead words t None = Unit {0}
 HasRead words t (Some read) = (read.0 < content_count t) × (content_at words t read.0 ≡ read.1)
@@ -58,11 +58,11 @@ abbrev pub Finds : (Title → Type 0) → List ℕ → Title → Option Mark →
 Finds Made words t None read = Unit {0}
 Finds Made words t (Some mark) read = Made t × (name_of t ≡ mark.slot) × (count_word words t ≡ mark.found) × HasRead words t read
 
--- an event beside the counted step: of this actor or of actor 0, and no step on a count word
+-- the other actor is actor 0 or this one
 abbrev pub IsOfTwo : ℕ → ℕ → Type 0
 IsOfTwo actor other = (other ≡ 0) ⊎ (other ≡ actor)
 
--- the event is no step on a count word, and is of this actor or of actor 0; so are both sides if something is handed over
+-- The event is no step on a count word, and is of this actor or of actor 0, as both sides are if something is handed over.
 abbrev pub IsBeside : ℕ → Event → Type 0
 IsBeside actor (Count other t step) = ⊥
 IsBeside actor (Store other at value) = IsOfTwo actor other
@@ -72,7 +72,7 @@ IsBeside actor (Hand from to item) = IsOfTwo actor from × IsOfTwo actor to
 IsBeside actor (Cut other t) = IsOfTwo actor other
 IsBeside actor (Uncut other t) = IsOfTwo actor other
 
--- each of the events is such a one
+-- none of the events is a step on a count word, and each is of this actor or of actor 0
 abbrev pub AreBeside : ℕ → List Event → Type 0
 AreBeside actor [] = Unit {0}
 AreBeside actor (e ∷ es) = IsBeside actor e × AreBeside actor es
@@ -119,6 +119,6 @@ pub record HasCoreRun (t : Trace) (r : Run) : Type 0 where
   pub run : IsRunTo start events last
   pub plays : PlaysTo (IsTitleOf (told_by r)) start (records_of t (told_by r)) events last
 
--- each run in the order of the lines has one
+-- each run in the order of the lines has a run of the core
 abbrev pub FileRunsArePlayed : Type 0
 FileRunsArePlayed = (t : Trace) (r : Run) → IsWithinLimits t → IsFileRun t r → HasCoreRun t r

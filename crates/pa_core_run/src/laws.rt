@@ -14,32 +14,34 @@ pub fn played_records_make_a_run()
     ensures { PlayedRecordsMakeARun }
 {}
 
-/// The law that each record on a line without an entry of a journal can be played in this way.
+/// The law that each record on a line without an entry of a journal can be played wherever the core shows what comes before it.
 pub fn quiet_records_are_played()
     ensures { QuietRecordsArePlayed }
 {}
 
-/// The law that each allocation which finds no room can be played in this way.
+/// The law that each allocation which finds no room can be played wherever the core shows what comes before it.
 pub fn refused_records_are_played()
     ensures { RefusedRecordsArePlayed }
 {}
 
-/// The law that each allocation which made a slot can be played so: from the thread's list, after a fill, or as a direct map.
+/// The law that each allocation which made a slot can be played wherever the core shows what comes before it: from the thread's list,
+/// after a fill, or as a direct map.
 pub fn made_records_are_played()
     ensures { MadeRecordsArePlayed }
 {}
 
-/// The law that each free or reset whose slot came to a list which spilled can be played in this way.
+/// The law that each free or reset with a slot that came to a list which spilled can be played wherever the core shows what comes before
+/// it.
 pub fn spilled_records_are_played()
     ensures { SpilledRecordsArePlayed }
 {}
 
-/// The law that each reset or free which gave back a direct map can be played in this way.
+/// The law that each reset or free which gave back a direct map can be played wherever the core shows what comes before it.
 pub fn unmapped_records_are_played()
     ensures { UnmappedRecordsArePlayed }
 {}
 
-/// The law that each purge can be played in this way.
+/// The law that each purge can be played wherever the core shows what comes before it.
 pub fn purged_records_are_played()
     ensures { PurgedRecordsArePlayed }
 {}

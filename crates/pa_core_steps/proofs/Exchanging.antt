@@ -3,7 +3,7 @@ use Rattle.std.proofs.Common.{◌≡◌, ℕ, ◌+◌, ◌<◌, List, [], ◌++�
 use Rattle.std.proofs.lemmas.List.{get_or-set_other, get_or-set_same, length-set}
 use Rattle.std.proofs.lemmas.List.Sums.{sum_by-append}
 use Rattle.std.proofs.lemmas.Bool.Decides.{eqb_tells}
-use Rattle.pa_machine.specs.Holdings.{Piece, Thing, amount, held_in}
+use Rattle.pa_slot.specs.Holdings.{Piece, Thing, amount, held_in}
 use Rattle.pa_machine.specs.Events.{Exchanges, of_actor}
 use Rattle.pa_machine.proofs.Totals.{of_actor_here, of_actor_apart}
 

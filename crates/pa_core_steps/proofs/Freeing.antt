@@ -1,13 +1,13 @@
 -- A free, of a slot of any length: the owner's content words become poison one after the other, and then it lets go.
 use Rattle.std.proofs.Common.{◌≡◌, ℕ, zero, suc, ◌+◌, ◌<◌, ◌≤◌, [], ◌∷◌, set, sym, subst, arith}
-use Rattle.pa_machine.specs.declared.word.Step.TheVariants.{Free}
-use Rattle.pa_machine.specs.declared.title.Title.{Title}
-use Rattle.pa_machine.specs.declared.title.OwnState.{OwnState}
-use Rattle.pa_machine.specs.declared.title.OwnState.TheVariants.{Clean, Poisoned}
+use Rattle.pa_slot.specs.declared.word.Step.TheVariants.{Free}
+use Rattle.pa_slot.specs.declared.title.Title.{Title}
+use Rattle.pa_slot.specs.declared.title.OwnState.{OwnState}
+use Rattle.pa_slot.specs.declared.title.OwnState.TheVariants.{Clean, Poisoned}
 use Rattle.pa_machine.specs.declared.event.Event.TheVariants.{Count, Poison}
-use Rattle.pa_machine.specs.Count.{CanStep, stepped}
-use Rattle.pa_machine.specs.Titles.{content_count, content_place, count_place, count_word, progress, poison}
-use Rattle.pa_machine.specs.Holdings.{OwnPiece, OwnAs}
+use Rattle.pa_slot.specs.Count.{CanStep, stepped}
+use Rattle.pa_slot.specs.Titles.{content_count, content_place, count_place, count_word, progress, poison}
+use Rattle.pa_slot.specs.Holdings.{OwnPiece, OwnAs}
 use Rattle.pa_machine.specs.Events.{State, HasActor, Holds, returned_at}
 use Rattle.pa_machine.specs.Trail.{IsGoodState}
 use Rattle.pa_machine.proofs.Amounts.{state_here, word_written, word_unwritten}

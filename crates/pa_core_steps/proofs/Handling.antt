@@ -1,12 +1,12 @@
 -- A copy of a handle, and a reset of a raw_ptr: one step each.
 use Rattle.std.proofs.Common.{◌≡◌, ℕ, [], ◌∷◌, get_or, set, ◌∙◌, ap, subst, arith, inl, inr}
-use Rattle.pa_machine.specs.declared.word.Step.TheVariants.{Copy, Reset}
-use Rattle.pa_machine.specs.declared.title.Title.{Title}
-use Rattle.pa_machine.specs.declared.title.OwnState.TheVariants.{Clean}
+use Rattle.pa_slot.specs.declared.word.Step.TheVariants.{Copy, Reset}
+use Rattle.pa_slot.specs.declared.title.Title.{Title}
+use Rattle.pa_slot.specs.declared.title.OwnState.TheVariants.{Clean}
 use Rattle.pa_machine.specs.declared.event.Event.TheVariants.{Count}
-use Rattle.pa_machine.specs.Count.{stepped}
-use Rattle.pa_machine.specs.Titles.{content_place, count_place, count_word, HasContentFrom}
-use Rattle.pa_machine.specs.Holdings.{RefPiece, IsTitleHeld}
+use Rattle.pa_slot.specs.Count.{stepped}
+use Rattle.pa_slot.specs.Titles.{content_place, count_place, count_word, HasContentFrom}
+use Rattle.pa_slot.specs.Holdings.{RefPiece, IsTitleHeld}
 use Rattle.pa_machine.specs.Events.{State, total_of, returned_at}
 use Rattle.pa_machine.proofs.Amounts.{word_written, content_unwritten}
 use Rattle.pa_core_steps.specs.Turns.{IsTurn, CopiesCanHappen, ResetsCanHappen}

@@ -1,14 +1,14 @@
 -- Values that are stored to the content of a title, word after word: of an Own that no raw_ptr shares, and of a free one.
 use Rattle.std.proofs.Common.{◌≡◌, ℕ, zero, suc, ◌+◌, ◌-◌, ◌*◌, ◌/◌, ◌%◌, ◌<◌, ◌≤◌, [], ◌∷◌, length, get_or, set, refl, sym, ◌∙◌, ap, subst, arith, ◌⊎◌, inl, inr}
 use Rattle.std.proofs.lemmas.Bool.{cases_eq}
-use Rattle.pa_machine.specs.declared.word.Step.TheVariants.{Issue, Write}
-use Rattle.pa_machine.specs.declared.title.Title.{Title}
-use Rattle.pa_machine.specs.declared.title.OwnState.{OwnState}
-use Rattle.pa_machine.specs.declared.title.OwnState.TheVariants.{Clean, Dirty}
+use Rattle.pa_slot.specs.declared.word.Step.TheVariants.{Issue, Write}
+use Rattle.pa_slot.specs.declared.title.Title.{Title}
+use Rattle.pa_slot.specs.declared.title.OwnState.{OwnState}
+use Rattle.pa_slot.specs.declared.title.OwnState.TheVariants.{Clean, Dirty}
 use Rattle.pa_machine.specs.declared.event.Event.TheVariants.{Count, Store}
-use Rattle.pa_machine.specs.Count.{CanStep, stepped, refs_of}
-use Rattle.pa_machine.specs.Titles.{IsWellFormed, content_count, content_place, count_place, content_at, count_word, HasContentFrom, IsContentOf}
-use Rattle.pa_machine.specs.Holdings.{FreePiece, OwnPiece, FreeTitle, OwnAs}
+use Rattle.pa_slot.specs.Count.{CanStep, stepped, refs_of}
+use Rattle.pa_slot.specs.Titles.{IsWellFormed, content_count, content_place, count_place, content_at, count_word, HasContentFrom, IsContentOf}
+use Rattle.pa_slot.specs.Holdings.{FreePiece, OwnPiece, FreeTitle, OwnAs}
 use Rattle.pa_machine.specs.Events.{State, HasActor, Holds, HoldsOpen, IsAfter}
 use Rattle.pa_machine.specs.Trail.{IsGoodState}
 use Rattle.pa_machine.proofs.Amounts.{state_here, word_written, word_unwritten, content_written, content_other}

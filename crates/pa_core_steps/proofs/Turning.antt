@@ -1,10 +1,10 @@
 -- Turns on a title: one event of it, and turns that go one after the other.
 use Rattle.std.proofs.Common.{◌≡◌, ℕ, ◌*◌, ◌≤◌, List, [], ◌∷◌, ◌++◌, length, get_or, set, refl, sym, ◌∙◌, ap, subst, arith}
 use Rattle.std.proofs.lemmas.List.{get_or-set_other}
-use Rattle.pa_machine.specs.declared.title.Title.{Title}
+use Rattle.pa_slot.specs.declared.title.Title.{Title}
 use Rattle.pa_machine.specs.declared.event.Event.{Event}
-use Rattle.pa_machine.specs.Titles.{Covers, count_word}
-use Rattle.pa_machine.specs.Holdings.{Piece, Thing, IsTitleHeld, held_in}
+use Rattle.pa_slot.specs.Titles.{Covers, count_word}
+use Rattle.pa_slot.specs.Holdings.{Piece, Thing, IsTitleHeld, held_in}
 use Rattle.pa_machine.specs.Events.{State, HasActor, IsEnabled, Happens, IsAfter, of_actor, held_by, total_of}
 use Rattle.pa_machine.specs.Trail.{IsGoodState}
 use Rattle.pa_machine.proofs.Lasting.{run_start}

@@ -1,14 +1,14 @@
 -- What can happen in the core: each enabled event, and the whole turn of an op on a title.
 use Rattle.std.specs.Prelude.{◌≡◌, ℕ, zero, suc, ◌+◌, ◌*◌, ◌⊎◌, List, [], ◌∷◌, ◌++◌, slice_index}
-use Rattle.pa_machine.specs.declared.word.Step.{Step}
-use Rattle.pa_machine.specs.declared.word.Step.TheVariants.{Issue, Copy, Reset, Free, Write}
-use Rattle.pa_machine.specs.declared.title.Title.{Title}
-use Rattle.pa_machine.specs.declared.title.OwnState.TheVariants.{Clean}
+use Rattle.pa_slot.specs.declared.word.Step.{Step}
+use Rattle.pa_slot.specs.declared.word.Step.TheVariants.{Issue, Copy, Reset, Free, Write}
+use Rattle.pa_slot.specs.declared.title.Title.{Title}
+use Rattle.pa_slot.specs.declared.title.OwnState.TheVariants.{Clean}
 use Rattle.pa_machine.specs.declared.event.Event.{Event}
 use Rattle.pa_machine.specs.declared.event.Event.TheVariants.{Count, Store, Poison}
-use Rattle.pa_machine.specs.Count.{CanStep, stepped, refs_of}
-use Rattle.pa_machine.specs.Titles.{Covers, content_count, count_word, HasContentFrom}
-use Rattle.pa_machine.specs.Holdings.{Piece, FreePiece, OwnPiece, RefPiece, FreeTitle, OwnAs, RefOf}
+use Rattle.pa_slot.specs.Count.{CanStep, stepped, refs_of}
+use Rattle.pa_slot.specs.Titles.{Covers, content_count, count_word, HasContentFrom}
+use Rattle.pa_slot.specs.Holdings.{Piece, FreePiece, OwnPiece, RefPiece, FreeTitle, OwnAs, RefOf}
 use Rattle.pa_machine.specs.Events.{State, HasActor, Holds, IsEnabled, Happens, Exchanges, of_actor, returned_at}
 use Rattle.pa_machine.specs.Trail.{IsGoodState, IsRunTo}
 
@@ -16,7 +16,7 @@ use Rattle.pa_machine.specs.Trail.{IsGoodState, IsRunTo}
 abbrev pub EventsCanHappen : Type 0
 EventsCanHappen = (e : Event) (s : State) → IsGoodState s → IsEnabled e s → (after : State) × Happens e s after
 
--- Two runs, the second of which begins where the first ends, make one; and a run leaves a good core.
+-- Two runs, the second of which begins where the first ends, make one. A run leaves a good core.
 pub record RunsJoin : Type 0 where
   pub joined : (s mid after : State) (es fs : List Event) → IsGoodState s → IsRunTo s es mid → IsRunTo mid fs after → IsRunTo s (es ++ fs) after
   pub good : (s after : State) (es : List Event) → IsGoodState s → IsRunTo s es after → IsGoodState after
@@ -46,7 +46,7 @@ pub record IsDone (s : State) (actor : ℕ) (t : Title) (step : Step) (lost gain
   pub prepares : IsTurn s actor t lost between (count_word s.words t) first mid
   pub steps : IsTurn mid actor t between gained (stepped step (count_word s.words t)) (Count actor t step ∷ []) after
 
--- what an owner, and what a raw_ptr, gets by a step: the free title, if it was the last handle
+-- what an actor gets by a step on the title's count word: the free title, if the step gave up the last handle
 abbrev pub left_by : Step → State → Title → List Piece
 left_by step s t = returned_at (stepped step (count_word s.words t)) t
 
@@ -72,7 +72,7 @@ IssuesCanHappen =
     (after : State) × IsDone s actor t Issue (FreePiece t ∷ []) (OwnPiece t Clean ∷ []) (stores (content_count t) 0 actor t 0) after
     × HasContentFrom after.words t 0 0
 
--- a handle is copied, and a raw_ptr reset; the content stays
+-- if all content words of the title have one value before, they have it after
 abbrev pub KeepsContentOf : State → State → Title → Type 0
 KeepsContentOf s after t = (value : ℕ) → HasContentFrom s.words t 0 value → HasContentFrom after.words t 0 value
 

@@ -1,12 +1,12 @@
 ghost use Rattle.std.specs.Prelude.{◌≡◌, ◌↔◌, ◌<◌, ◌⊎◌};
-ghost use Rattle.pa_machine.specs.declared.word.Step.TheVariants.{Issue, Copy, Reset, Free, Write};
-ghost use Rattle.pa_machine.specs.Run.{IsReturning};
+ghost use Rattle.pa_slot.specs.declared.word.Step.TheVariants.{Issue, Copy, Reset, Free, Write};
+ghost use Rattle.pa_slot.specs.Run.{IsReturning};
 ghost use Rattle.pa_region.specs.Views.{HasStake, free_of};
 ghost use Rattle.pa_region.specs.Moves.{CanCount};
 ghost use Rattle.pa_region.specs.Shares.{IsUser, IsStepMade, IsLooked};
 
-use pa_machine::{Step, Title, Word, returns};
 use pa_region::{Region, Seat, releases_leave};
+use pa_slot::{Step, Title, Word, returns};
 
 /// What a release did to the slot: another owner or `raw_ptr` still holds it, or it was the last and the slot is free.
 #[derive(Clone, Copy, Debug, PartialEq, Eq)]
@@ -33,7 +33,7 @@ pub fn copy(region: &Region, seat: &mut Seat, title: Title) -> Word
     region.count_step(seat, title, Step::Copy)
 }
 
-/// The owner records that it has written the content; no `raw_ptr` points to the slot.
+/// The owner records that it has written the content. No `raw_ptr` points to the slot.
 pub fn wrote(region: &Region, seat: &mut Seat, title: Title) -> Word
     requires region { seat.old.region ≡ region.now }
     requires able { CanCount Write title seat.old.view }

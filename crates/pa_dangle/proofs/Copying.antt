@@ -3,9 +3,9 @@ use Rattle.std.proofs.Common.{◌≡◌, ℕ, ◌⊎◌, List, Option, Some, Non
 use Rattle.std.specs.Prelude.{Contains, slice_get}
 use Rattle.pa_lists.proofs.Indexed.{at_in, one_at, option_cases}
 use Rattle.pa_lists.proofs.Members.{of_some, not_some}
-use Rattle.pa_machine.specs.declared.word.SlotName.{SlotName}
-use Rattle.pa_machine.specs.declared.word.Step.TheVariants.{Issue}
-use Rattle.pa_machine.specs.Run.{Mark, IsQuarantined}
+use Rattle.pa_slot.specs.declared.word.SlotName.{SlotName}
+use Rattle.pa_slot.specs.declared.word.Step.TheVariants.{Issue}
+use Rattle.pa_slot.specs.Run.{Mark, IsQuarantined}
 use Rattle.pa_trace.specs.declared.script.Op.{Op}
 use Rattle.pa_trace.specs.declared.script.Op.TheVariants as ops
 use Rattle.pa_record.specs.declared.entry.Answer.{Answer}
@@ -104,7 +104,7 @@ put_by_change cells (ops.Write to value) a reg s e = absurd (not_some (reg, Ref 
 put_by_change cells (ops.Read to place) a reg s e = absurd (not_some (reg, Ref s) e)
 put_by_change cells ops.Purge a reg s e = absurd (not_some (reg, Ref s) e)
 
--- and what it put there it left there
+-- what a record put into a register is what it left there
 change_by_put : (cells : Cells) (op : Op) (a : Answer) (reg : ℕ) → put_into cells op a ≡ Some reg
     → (s : SlotName) × Leaves (change_of cells op a) reg (Ref s)
 change_by_put cells (ops.Copy from to) (Done seen) reg e = (seen.slot, ap (λ n. Some (n, Ref seen.slot)) (of_some to reg e))
@@ -214,7 +214,7 @@ module _ (cells : Cells) (ps : List Played) (h : HaveHandles cells ps) where
         ]
       ]
 
--- so has the record at a place, if it saw a slot in quarantine
+-- the record at a place has an origin, if it saw a slot in quarantine
 pub saw_origin : (cells : Cells) (ps : List Played) (i : ℕ) (told : Played) (seen : Seen) → HaveHandles cells ps → IsRecord ps i told
     → SawUse told seen → (x : Played) → IsRecord ps i x → (line : ℕ) × HasOrigin cells ps x line
 saw_origin cells ps i told seen h at ((m, saw), q) x here =

@@ -3,11 +3,11 @@ use Rattle.std.proofs.Common.{◌≡◌, ℕ, ◌-◌, ◌<◌, ◌≤◌, List,
 use Rattle.std.specs.Prelude.{slice_get, Contains, option_map}
 use Rattle.std.proofs.lemmas.Bool.{cases_lt}
 use Rattle.pa_lists.proofs.Members.{of_some, not_some}
-use Rattle.pa_lists.proofs.Indexed.{in_at, at_in, option_cases}
-use Rattle.pa_machine.specs.declared.word.SlotName.{SlotName}
-use Rattle.pa_machine.specs.declared.word.Step.TheVariants as steps
-use Rattle.pa_machine.specs.Count.{number_of}
-use Rattle.pa_machine.specs.Run.{Mark, Slots}
+use Rattle.pa_lists.proofs.Indexed.{in_at, at_in, option_cases, here_is}
+use Rattle.pa_slot.specs.declared.word.SlotName.{SlotName}
+use Rattle.pa_slot.specs.declared.word.Step.TheVariants as steps
+use Rattle.pa_slot.specs.Count.{number_of}
+use Rattle.pa_slot.specs.Run.{Mark, Slots}
 use Rattle.pa_trace.specs.declared.script.Op.{Op}
 use Rattle.pa_trace.specs.declared.script.Op.TheVariants as ops
 use Rattle.pa_record.specs.declared.entry.Seen.{Seen}
@@ -16,15 +16,15 @@ use Rattle.pa_record.specs.declared.entry.Answer.TheVariants as answers
 use Rattle.pa_rules.specs.declared.played.Played.{Played}
 use Rattle.pa_rules.specs.Played.{mark_of, mark_of_answer, mark_at, marks_of, step_of}
 use Rattle.pa_rules.specs.declared.verdict.Place.TheVariants as places
-use Rattle.pa_rules.specs.RecordDemands.{IsRecord, SlotsDemand}
+use Rattle.pa_rules.specs.RecordDemands.{IsRecord}
 use Rattle.pa_rules.specs.Rising.{RiseByLine}
 use Rattle.pa_rules.proofs.Running.{mark_from}
 use Rattle.pa_rules.proofs.Phases.{mark_in}
 use Rattle.pa_rules.proofs.Marking.{mark_line}
-use Rattle.pa_legal.proofs.owners.Using.{made_or_done}
+use Rattle.pa_legal.proofs.owners.Using.{made_or_done, no_op_issues}
 use Rattle.pa_audit_records.specs.Keys.{word_key}
 use Rattle.pa_audit_records.proofs.Stepping.{same_place}
-use Rattle.pa_audit_records.proofs.Walking.{here_is}
+use Rattle.pa_audit_records.proofs.Going.{slots_met}
 use Rattle.pa_audit_order.specs.Keyed.{HasNoKey, IsGreatest}
 use Rattle.pa_audit_order.specs.declared.numbers.Kind.{Kind as TableKind}
 use Rattle.pa_audit_order.specs.declared.numbers.Kind.TheVariants as tables
@@ -73,16 +73,6 @@ saw_mark x seen e =
     let (m, mark, same) = option_cases mark_place (mark_of x) (seen_place seen) (mark_seen x.line x.op x.answer ∙ ap (option_map seen_place) e) in
     (m, record { mark = mark; slot = ap (λ (p : SlotName × ℕ). p.0) same; found = ap (λ (p : SlotName × ℕ). p.1) same })
 
-no_issue : (op : Op) → step_of op ≡ Some steps.Issue → ⊥
-no_issue (ops.Alloc reg partition size) e = not_some steps.Issue e
-no_issue (ops.Copy from to) e = let same : steps.Copy ≡ steps.Issue = of_some steps.Copy steps.Issue e in cc
-no_issue (ops.Reset reg) e = let same : steps.Reset ≡ steps.Issue = of_some steps.Reset steps.Issue e in cc
-no_issue (ops.Free reg) e = let same : steps.Free ≡ steps.Issue = of_some steps.Free steps.Issue e in cc
-no_issue (ops.Write reg value) e = let same : steps.Write ≡ steps.Issue = of_some steps.Write steps.Issue e in cc
-no_issue (ops.Read reg place) e = not_some steps.Issue e
-no_issue (ops.Swap cell reg) e = not_some steps.Issue e
-no_issue ops.Purge e = not_some steps.Issue e
-
 is_free : (op : Op) (seen : Seen) → step_of op ≡ Some steps.Free → seen_by tables.Free op (answers.Done seen) ≡ Some seen
 is_free (ops.Alloc reg partition size) seen e = absurd (not_some steps.Free e)
 is_free (ops.Copy from to) seen e = let same : steps.Copy ≡ steps.Free = of_some steps.Copy steps.Free e in absurd cc
@@ -119,7 +109,7 @@ does_step Issued x m mark step = elim (made_or_done x.line x.op x.answer m steps
         ap (λ (z : Mark). z.slot) same,
         ap (λ (z : Mark). number_of z.found) same,
       )
-  | inr (seen, is, made) ↦ absurd (no_issue x.op made)
+  | inr (seen, is, made) ↦ absurd (no_op_issues x.op made)
 ]
 does_step Freed x m mark step = elim (made_or_done x.line x.op x.answer m steps.Free mark step) [
   | inl (seen, usable, is, issue) ↦ absurd cc
@@ -137,13 +127,6 @@ does_step Freed x m mark step = elim (made_or_done x.line x.op x.answer m steps.
 -- the record at a place is the loop's
 pub at_here : (ps : List Played) (k i : ℕ) (d x : Played) → k < length ps → k ≡ i → IsRecord ps i x → get_or ps k d ≡ x
 at_here ps k i d x below same at = of_some (get_or ps k d) x (sym (here_is ps k d below) ∙ ap (slice_get ps) same ∙ at)
-
--- what the clause of the slots asks of each record
-slots_met : (ps : List Played) → Slots (marks_of ps) → (i : ℕ) → SlotsDemand ps (places.Record i)
-slots_met ps slots i x m at mark =
-    let member = mark_in ps x m (at_in ps i x at) mark in
-    let (vs, run, one) = slots m.slot in
-    (vs, run, one.found m member refl, λ p step. one.used m p member refl step)
 
 -- no two records made the step at one number of a slot
 pub one_of_kind : (kind : TableKind) (ps : List Played) → RiseByLine ps → Slots (marks_of ps) → IsOneAt kind ps

@@ -7,16 +7,15 @@ use Rattle.std.proofs.lemmas.List.Elements.{All-contains, Contains-get_or, Conta
 use Rattle.std.proofs.lemmas.List.Sorted.{Contains-permutation, IsPermutation-sym, sum_by-IsPermutation}
 use Rattle.std.proofs.lemmas.List.Sums.{sum_by-cons}
 use Rattle.pa_lists.proofs.Members.{of_some, first_in, later_in}
-use Rattle.pa_lists.proofs.Indexed.{in_at, at_in}
+use Rattle.pa_lists.proofs.Indexed.{in_at, at_in, here_is}
 use Rattle.pa_lists.proofs.Pairs.{pairs_tail, pairs_head, pairs_push}
-use Rattle.pa_machine.specs.Run.{Mark, IsQuarantined, Slots}
+use Rattle.pa_slot.specs.Run.{Mark, IsQuarantined, Slots}
 use Rattle.pa_record.specs.declared.history.CellEntry.{CellEntry}
 use Rattle.pa_rules.specs.declared.played.Played.{Played}
 use Rattle.pa_rules.specs.Played.{mark_of, marks_of}
 use Rattle.pa_rules.specs.Rising.{RiseByLine}
 use Rattle.pa_rules.proofs.Rising.{rises}
 use Rattle.pa_rules.proofs.Running.{mark_from}
-use Rattle.pa_audit_records.proofs.Walking.{here_is}
 use Rattle.pa_dangle.specs.declared.found.Pair.{Pair}
 use Rattle.pa_dangle.specs.Collected.{AreCollected, IsNoUse, IsPairFrom, rank_of}
 use Rattle.pa_dangle.specs.Pairs.{AreFound, IsPairOf, StandsAbove, keeps_slot, uses_on}

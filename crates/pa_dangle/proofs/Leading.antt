@@ -1,11 +1,11 @@
 -- The table of ways back: as it grows, as ways are shortened, and as they are gone.
 use Rattle.std.proofs.Common.{◌≡◌, ℕ, zero, suc, ◌+◌, ◌*◌, ◌<◌, ◌≤◌, List, [], ◌∷◌, ◌++◌, get_or, length, set, take, Option, Some, None, refl, sym, ◌∙◌, ap, subst, arith, inl, inr}
-use Rattle.std.specs.Prelude.{All, slice_get, ◌⊎◌}
+use Rattle.std.specs.Prelude.{All, slice_get}
 use Rattle.std.proofs.lemmas.Bool.{cases_lt, cases_eq}
 use Rattle.std.proofs.lemmas.List.{length-set, length_push, take_at}
 use Rattle.std.proofs.lemmas.List.Elements.{All-contains}
 use Rattle.pa_lists.proofs.Members.{of_some, not_some}
-use Rattle.pa_lists.proofs.Indexed.{one_at}
+use Rattle.pa_lists.proofs.Indexed.{one_at, push_at, here_is, element_at}
 use Rattle.pa_trace.specs.declared.script.Op.{Op}
 use Rattle.pa_trace.specs.declared.script.Op.TheVariants as ops
 use Rattle.pa_record.specs.declared.entry.Answer.{Answer}
@@ -17,14 +17,14 @@ use Rattle.pa_rules.specs.declared.played.Played.{Played}
 use Rattle.pa_rules.specs.RecordDemands.{IsRecord}
 use Rattle.pa_rules.specs.Rising.{RiseByLine}
 use Rattle.pa_audit_records.specs.Rows.{IsPlayedWithin, NamesRegisters}
-use Rattle.pa_audit_records.proofs.Walking.{here_is, record_among}
+use Rattle.pa_audit_records.proofs.Walking.{record_among}
 use Rattle.pa_audit_order.proofs.Cutting.{set_here, set_other}
 use Rattle.pa_dangle.specs.declared.ways.Way.{Way}
 use Rattle.pa_dangle.specs.declared.ways.Way.TheVariants.{Unknown, Copied, Given}
 use Rattle.pa_dangle.specs.Origins.{put_held, put_found, put_into, HasOrigin}
 use Rattle.pa_dangle.specs.Ways.{IsLastPutAt, register_key, AreLastPuts, PutsInto, IsWayOf, AreWays}
 use Rattle.pa_dangle.proofs.Finding.{at_here}
-use Rattle.pa_dangle.proofs.Tracing.{Ends, ends_of, ends_soon, step_on, step_off, place_below, entry_at}
+use Rattle.pa_dangle.proofs.Tracing.{Ends, ends_of, ends_soon, step_on, step_off, place_below}
 
 abbrev Cells : Type 0
 Cells = ℕ → List CellEntry
@@ -100,15 +100,6 @@ puts_more cells ps f g k v d below same within enters h =
 
 -- ---- the ways, one record on
 
-push_at : {A : Type 0} (xs : List A) (x y : A) (i : ℕ) → slice_get (xs ++ x ∷ []) i ≡ Some y → (slice_get xs i ≡ Some y) ⊎ ((i ≡ length xs) × (x ≡ y))
-push_at [] x y zero at = inr (refl, of_some x y at)
-push_at [] x y (suc i) at = absurd (not_some y at)
-push_at (z ∷ zs) x y zero at = inl at
-push_at (z ∷ zs) x y (suc i) at = elim (push_at zs x y i at) [
-  | inl early ↦ inl early
-  | inr (last, same) ↦ inr (ap suc last, same)
-]
-
 pub ways_more : (cells : Cells) (ps : List Played) (ws : List Way) (w : Way) (k : ℕ) (d : Played) → k < length ps → IsWayOf cells ps (get_or ps k d) w → AreWays cells ps ws k
     → AreWays cells ps (ws ++ w ∷ []) (k + 1)
 ways_more cells ps ws w k d below way h =
@@ -162,7 +153,7 @@ next_end ws (suc n) now j here (i, at, e) =
 goes_more : (cells : Cells) (ps : List Played) (ws : List Way) (at now steps j : ℕ) → RiseByLine ps → AreWays cells ps ws (length ps) → slice_get ws now ≡ Some (Given j)
     → Goes cells ps ws at now steps → Goes cells ps ws at j (steps + 1)
 goes_more cells ps ws at now steps j rising ways here h =
-    let (y, y_here) = entry_at ps now h.below in
+    let (y, y_here) = element_at ps now h.below in
     let (z, there, step) = ways.each now y (Given j) here y_here in
     record {
       below = place_below ps j z there;
@@ -191,13 +182,13 @@ way_here cells ps ws now d w ways below is = let long = ways.long in here_is ws 
 pub end_copied : (cells : Cells) (ps : List Played) (ws : List Way) (at now steps line : ℕ) (d : Way) → AreWays cells ps ws (length ps) → Goes cells ps ws at now steps
     → get_or ws now d ≡ Copied line → (x : Played) → IsRecord ps at x → HasOrigin cells ps x line
 end_copied cells ps ws at now steps line d ways h is x here =
-    let (y, there) = entry_at ps now h.below in
+    let (y, there) = element_at ps now h.below in
     h.back x y line here there (ways.each now y (Copied line) (way_here cells ps ws now d (Copied line) ways h.below is) there)
 
 pub end_unknown : (cells : Cells) (ps : List Played) (ws : List Way) (at now steps : ℕ) (d : Way) → AreWays cells ps ws (length ps) → Goes cells ps ws at now steps
     → get_or ws now d ≡ Unknown → (x : Played) (line : ℕ) → IsRecord ps at x → HasOrigin cells ps x line → ⊥
 end_unknown cells ps ws at now steps d ways h is x line here origin =
-    let (y, there) = entry_at ps now h.below in
+    let (y, there) = element_at ps now h.below in
     ways.each now y Unknown (way_here cells ps ws now d Unknown ways h.below is) there line (h.on x y line here there origin)
 
 pub end_given : (cells : Cells) (ps : List Played) (ws : List Way) (at now steps j : ℕ) (d : Way) → RiseByLine ps → AreWays cells ps ws (length ps) → Goes cells ps ws at now steps
@@ -213,7 +204,7 @@ pub record Shortens (cells : Cells) (ps : List Played) (ws : List Way) (now line
 pub shortens_more : (cells : Cells) (ps : List Played) (ws : List Way) (now line j : ℕ) (d : Way) → RiseByLine ps → get_or ws now d ≡ Given j → Shortens cells ps ws now line
     → Shortens cells ps (set ws now (Copied line)) j line
 shortens_more cells ps ws now line j d rising is h =
-    let (y, there) = entry_at ps now h.below in
+    let (y, there) = element_at ps now h.below in
     let (z, at, step) = h.ways.each now y (Given j) (way_here cells ps ws now d (Given j) h.ways h.below is) there in
     record {
       ways = ways_set cells ps ws now line h.ways h.below h.leads;

@@ -2,11 +2,11 @@
 use Rattle.std.proofs.Common.{◌≡◌, ℕ, ◌<◌, ◌≤◌, List, Some, refl, sym, ◌∙◌, subst, arith, inl, inr}
 use Rattle.std.specs.Prelude.{Contains}
 use Rattle.std.proofs.lemmas.Bool.{cases_lt}
-use Rattle.pa_machine.specs.declared.word.SlotName.{SlotName}
-use Rattle.pa_machine.specs.declared.word.Step.TheVariants.{Free}
-use Rattle.pa_machine.specs.Count.{number_of}
-use Rattle.pa_machine.specs.Run.{Mark, IsFirstAt, IsQuarantined, Slots}
-use Rattle.pa_machine.proofs.Arith.{stepped_is}
+use Rattle.pa_slot.specs.declared.word.SlotName.{SlotName}
+use Rattle.pa_slot.specs.declared.word.Step.TheVariants.{Free}
+use Rattle.pa_slot.specs.Count.{number_of}
+use Rattle.pa_slot.specs.Run.{Mark, IsFirstAt, IsQuarantined, Slots}
+use Rattle.pa_slot.proofs.Arith.{stepped_is}
 use Rattle.pa_rules.proofs.Running.{one_mark, same_word}
 use Rattle.pa_dangle.specs.Uses.{IsUseOf, OwnLines, UsesArePaired}
 use Rattle.pa_dangle.proofs.Waiting.{Run, Waits, comes_of_free, waits_quarantined}

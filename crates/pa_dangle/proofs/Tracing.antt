@@ -3,7 +3,7 @@ use Rattle.std.proofs.Common.{◌≡◌, ◌≢◌, ℕ, zero, suc, ◌+◌, ◌
 use Rattle.std.specs.Prelude.{Contains, AllPairs, slice_get}
 use Rattle.std.proofs.lemmas.Bool.{cases_lt}
 use Rattle.pa_lists.proofs.Members.{not_in_none, in_cases, of_some, not_some, has}
-use Rattle.pa_lists.proofs.Indexed.{in_at, at_in, one_at, none_past}
+use Rattle.pa_lists.proofs.Indexed.{in_at, at_in, one_at, none_past, here_is, element_at}
 use Rattle.pa_lists.proofs.Pairs.{pairs_none, pairs_cons}
 use Rattle.pa_lists.proofs.Different.{length_is, passing_most}
 use Rattle.pa_trace.specs.declared.script.Op.TheVariants as ops
@@ -14,8 +14,7 @@ use Rattle.pa_rules.specs.Cells.{IsExchange}
 use Rattle.pa_rules.specs.RecordDemands.{IsRecord}
 use Rattle.pa_rules.specs.Rising.{RiseByLine}
 use Rattle.pa_rules.proofs.Rising.{rises}
-use Rattle.pa_audit_records.proofs.Walking.{here_is}
-use Rattle.pa_audit_order.proofs.Stamping.{one_place}
+use Rattle.pa_audit_records.proofs.Exchanging.{one_line}
 use Rattle.pa_dangle.specs.declared.ways.Way.{Way}
 use Rattle.pa_dangle.specs.declared.ways.Way.TheVariants.{Unknown, Copied, Given}
 use Rattle.pa_dangle.specs.Origins.{first_register, IsLastPut, IsCopy, IsGivenBy, HasOrigin, ByCopy, ByExchange}
@@ -23,14 +22,6 @@ use Rattle.pa_dangle.specs.Ways.{IsWayBack, IsLastPutAt, IsPutFor, IsStepBack, I
 
 abbrev Cells : Type 0
 Cells = ℕ → List CellEntry
-
--- records of one line are one, and lines rise with places
-pub same_record : (ps : List Played) (x y : Played) → RiseByLine ps → Contains ps x → Contains ps y → x.line ≡ y.line → x ≡ y
-same_record ps x y rising a b same =
-    let (i, at) = in_at ps x a in
-    let (j, at') = in_at ps y b in
-    let place = one_place ps i j x y rising at at' same in
-    one_at ps j x y (subst (λ k. slice_get ps k ≡ Some x) place at) at'
 
 before : (ps : List Played) (i j : ℕ) (x y : Played) → RiseByLine ps → IsRecord ps i x → IsRecord ps j y → x.line < y.line → i < j
 before ps i j x y rising at at' less = elim (cases_lt i j) [
@@ -51,11 +42,11 @@ one_put cells ps x y z reg rising a b = elim (cases_lt y.line z.line) [
   | inl less ↦ absurd (a.last z b.among b.thread less b.before b.puts)
   | inr most ↦ elim (cases_lt z.line y.line) [
     | inl less ↦ absurd (b.last y a.among a.thread less a.before a.puts)
-    | inr least ↦ same_record ps y z rising a.among b.among (omega (arith, most, least))
+    | inr least ↦ one_line ps y z rising a.among b.among (omega (arith, most, least))
   ]
 ]
 
--- so is the record that gave
+-- only one record gave what a record found
 pub one_giver : (cells : Cells) (ps : List Played) (y z w : Played) → RiseByLine ps → IsGivenBy cells ps y z → IsGivenBy cells ps y w → z ≡ w
 one_giver cells ps y z w rising a b =
     let op : ops.Swap a.cell a.reg ≡ ops.Swap b.cell b.reg = sym a.op ∙ b.op in
@@ -65,7 +56,7 @@ one_giver cells ps y z w rising a b =
     let index : a.index ≡ b.index = omega (arith, next) in
     let here : IsExchange cells b.cell b.index a.entry = subst (λ k. IsExchange cells k b.index a.entry) cell (subst (λ i. IsExchange cells a.cell i a.entry) index a.exchange) in
     let entry = one_at (cells b.cell) b.index a.entry b.entry here b.exchange in
-    same_record ps z w rising a.giver b.giver (a.line ∙ ap (λ (e : CellEntry). e.line) entry ∙ sym b.line)
+    one_line ps z w rising a.giver b.giver (a.line ∙ ap (λ (e : CellEntry). e.line) entry ∙ sym b.line)
 
 -- the table's entry for a register is the last put before a record
 pub put_is : (cells : Cells) (ps : List Played) (k i reg : ℕ) (x : Played) → RiseByLine ps → IsRecord ps k x → IsLastPutAt cells ps x.thread reg k (Some i)
@@ -165,11 +156,6 @@ abbrev pub Ends : List Way → ℕ → ℕ → Type 0
 Ends ws zero i = (line : ℕ) × (slice_get ws i ≡ Some (Copied line))
 Ends ws (suc n) i = (j : ℕ) × (slice_get ws i ≡ Some (Given j)) × Ends ws n j
 
-pub entry_at : {A : Type 0} (xs : List A) (i : ℕ) → i < length xs → (x : A) × (slice_get xs i ≡ Some x)
-entry_at [] i below = absurd (omega arith)
-entry_at (x ∷ xs) zero below = (x, refl)
-entry_at (x ∷ xs) (suc i) below = entry_at xs i (omega arith)
-
 ends_from : (cells : Cells) (ps : List Played) (ws : List Way) → RiseByLine ps → AreWays cells ps ws (length ps) → (i : ℕ) (x : Played) (line : ℕ) (w : Way) → slice_get ws i ≡ Some w
     → IsRecord ps i x → HasOrigin cells ps x line
     → (n : ℕ) × Ends ws n i
@@ -185,7 +171,7 @@ ends_from cells ps ws rising ways i x line (Given j) here at (ByExchange y w reg
     let one = one_giver cells ps step.put w z rising (subst (λ u. IsGivenBy cells ps u w) same given) step.given in
     let long = ways.long in
     let low = place_below ps j z there in
-    let (v, next) = entry_at ws j (omega (arith, long, low)) in
+    let (v, next) = element_at ws j (omega (arith, long, low)) in
     let (n, e) = ends_from cells ps ws rising ways j w line v next (subst (λ u. IsRecord ps j u) (sym one) there) rest in
     (suc n, (j, here, e))
 
@@ -194,7 +180,7 @@ pub ends_of : (cells : Cells) (ps : List Played) (ws : List Way) → RiseByLine 
 ends_of cells ps ws rising ways i x line at origin =
     let long = ways.long in
     let low = place_below ps i x at in
-    let (w, here) = entry_at ws i (omega (arith, long, low)) in
+    let (w, here) = element_at ws i (omega (arith, long, low)) in
     ends_from cells ps ws rising ways i x line w here at origin
 
 ends_one : (ws : List Way) (m n i : ℕ) → Ends ws m i → Ends ws n i → m ≡ n
@@ -239,7 +225,7 @@ ends_below : (ws : List Way) (n i : ℕ) → Ends ws n i → i < length ws
 ends_below ws zero i (line, at) = place_below ws i (Copied line) at
 ends_below ws (suc n) i (j, at, e) = place_below ws i (Given j) at
 
--- it has fewer steps than there are records
+-- a way that ends at a copy has fewer steps than there are records
 pub ends_soon : (ws : List Way) (n i : ℕ) → Ends ws n i → n < length ws
 ends_soon ws n i e =
     let ks = places ws n i e in

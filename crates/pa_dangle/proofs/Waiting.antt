@@ -3,13 +3,13 @@
 use Rattle.std.proofs.Common.{◌≡◌, ℕ, ◌+◌, ◌<◌, List, [], ◌∷◌, Some, sym, ◌∙◌, ap, subst, arith, inl, inr}
 use Rattle.std.specs.Prelude.{Contains, AllPairs}
 use Rattle.std.proofs.lemmas.Bool.{cases_lt, cases_eq}
-use Rattle.pa_machine.specs.declared.word.SlotName.{SlotName}
-use Rattle.pa_machine.specs.declared.word.Step.{Step}
-use Rattle.pa_machine.specs.declared.word.Step.TheVariants.{Issue, Copy, Reset, Free, Write}
-use Rattle.pa_machine.specs.Count.{CanStep, number_of, held_of, refs_of, stepped}
-use Rattle.pa_machine.specs.Run.{Mark, IsFirstAt, IsRunFrom, IsOneRun, IsReturning, IsQuarantined}
-use Rattle.pa_machine.proofs.Arith.{stepped_is}
-use Rattle.pa_machine.proofs.Runs.{number_stepped}
+use Rattle.pa_slot.specs.declared.word.SlotName.{SlotName}
+use Rattle.pa_slot.specs.declared.word.Step.{Step}
+use Rattle.pa_slot.specs.declared.word.Step.TheVariants.{Issue, Copy, Reset, Free, Write}
+use Rattle.pa_slot.specs.Count.{CanStep, number_of, held_of, refs_of, stepped}
+use Rattle.pa_slot.specs.Run.{Mark, IsFirstAt, IsRunFrom, IsOneRun, IsReturning, IsQuarantined}
+use Rattle.pa_slot.proofs.Arith.{stepped_is}
+use Rattle.pa_slot.proofs.Runs.{number_stepped}
 use Rattle.pa_lists.proofs.Members.{first_in, later_in, in_cases, of_some}
 use Rattle.pa_lists.proofs.Elements.{in_one}
 use Rattle.pa_rules.proofs.Running.{OtherLine, run_rises, one_mark, same_word}
@@ -84,7 +84,7 @@ next_waits ms s vs h u m Free among first can so (free, refs) =
     )
 next_waits ms s vs h u m Write among first can so (free, refs) = let (a, b, c, d) = stepped_is Write u can in absurd (omega arith)
 
--- so each quarantined word of the run does
+-- each quarantined word of a slot's run has a free that waits there
 along : (ms : List Mark) (s : SlotName) (ws : List ℕ) → Run ms s ws → (u : ℕ) (vs : List ℕ) → IsRunFrom ms s u vs → ((x : ℕ) → Contains (u ∷ vs) x → Contains (0 ∷ ws) x) →
     (IsQuarantined u → (f : Mark) × Waits ms s (number_of u) f) → (w : ℕ) → Contains (u ∷ vs) w → IsQuarantined w → (f : Mark) × Waits ms s (number_of w) f
 along ms s ws h u [] run whole so w among q =

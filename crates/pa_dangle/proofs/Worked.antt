@@ -3,13 +3,13 @@ use Rattle.std.proofs.Common.{◌≡◌, ◌≢◌, ℕ, ◌+◌, ◌<◌, List,
 use Rattle.std.specs.Prelude.{Contains}
 use Rattle.std.specs.List.{AllByRecursion}
 use Rattle.std.proofs.lemmas.List.Elements.{All-from_recursion, All-contains, Contains-push_cases}
-use Rattle.pa_machine.specs.declared.word.SlotName.{SlotName}
-use Rattle.pa_machine.specs.declared.word.Step.{Step}
-use Rattle.pa_machine.specs.declared.word.Step.TheVariants.{Free}
-use Rattle.pa_machine.specs.Count.{CanStep, stepped, refs_of}
-use Rattle.pa_machine.specs.Run.{Mark, Slots, IsQuarantined, same_slot}
-use Rattle.pa_machine.specs.Runs.{HasRuns}
-use Rattle.pa_machine.proofs.Runs.{runs_none, runs_same, runs_look, runs_step, slots_of_runs, same_slot_yes, same_slot_no, same_slot_cases}
+use Rattle.pa_slot.specs.declared.word.SlotName.{SlotName}
+use Rattle.pa_slot.specs.declared.word.Step.{Step}
+use Rattle.pa_slot.specs.declared.word.Step.TheVariants.{Free}
+use Rattle.pa_slot.specs.Count.{CanStep, stepped, refs_of}
+use Rattle.pa_slot.specs.Run.{Mark, Slots, IsQuarantined, same_slot}
+use Rattle.pa_slot.specs.Runs.{HasRuns}
+use Rattle.pa_slot.proofs.Runs.{runs_none, runs_same, runs_look, runs_step, slots_of_runs, same_slot_yes, same_slot_no, same_slot_cases}
 use Rattle.pa_lists.proofs.Members.{not_in_none, in_cases}
 use Rattle.pa_lists.proofs.Pairs.{pairs_none, pairs_cons}
 use Rattle.pa_dangle.specs.Uses.{IsUseOf, OwnLines}

@@ -1,6 +1,6 @@
 -- The pairs before they are put in order.
 use Rattle.std.specs.Prelude.{◌≡◌, ℕ, ◌+◌, ◌*◌, ◌<◌, List, Some, AllPairs, Contains}
-use Rattle.pa_machine.specs.Run.{Mark, IsQuarantined}
+use Rattle.pa_slot.specs.Run.{Mark, IsQuarantined}
 use Rattle.pa_record.specs.declared.history.CellEntry.{CellEntry}
 use Rattle.pa_rules.specs.declared.played.Played.{Played}
 use Rattle.pa_rules.specs.Played.{mark_of}
@@ -21,7 +21,7 @@ pub record IsPairFrom (cells : ℕ → List CellEntry) (ps : List Played) (x : P
   pub later : p.later ≡ x.line
   pub short : p.later < 4294967296
 
--- by the line of the use, and all on lines below that of record k
+-- these are the pairs of the uses that the records before record k made, in the order of the uses' lines
 pub record AreCollected (cells : ℕ → List CellEntry) (ps : List Played) (pairs : List Pair) (k : ℕ) : Type 0 where
   pub each : (pair : Pair) → Contains pairs pair → (i : ℕ) × (x : Played) × (i < k) × IsRecord ps i x × IsPairFrom cells ps x pair
   pub whole : (i : ℕ) (x : Played) (m : Mark) → i < k → IsRecord ps i x → mark_of x ≡ Some m → IsQuarantined m.found →

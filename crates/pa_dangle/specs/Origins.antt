@@ -1,6 +1,6 @@
 -- Where the raw_ptr in a register comes from: the copy that made it, followed back through the cells by which threads handed it over.
 use Rattle.std.specs.Prelude.{◌≡◌, ℕ, ◌+◌, ◌<◌, List, Option, Some, None, Contains, slice_get}
-use Rattle.pa_machine.specs.Run.{Mark, IsQuarantined}
+use Rattle.pa_slot.specs.Run.{Mark, IsQuarantined}
 use Rattle.pa_trace.specs.declared.script.Op.{Op}
 use Rattle.pa_trace.specs.declared.script.Op.TheVariants as ops
 use Rattle.pa_record.specs.declared.entry.Answer.{Answer}

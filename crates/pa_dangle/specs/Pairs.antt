@@ -1,9 +1,9 @@
 -- The pairs of a run: a free that found raw_ptrs, and a use of what it freed.
 use Rattle.std.specs.Prelude.{◌≡◌, ℕ, ◌<◌, ◌≤◌, ◌⊎◌, ◌==◌, if◌then◌else◌, nat_lt, Bool, false, List, Some, AllPairs, Contains, length, filter, sum_by}
-use Rattle.pa_machine.specs.declared.word.SlotName.{SlotName}
-use Rattle.pa_machine.specs.declared.word.Step.TheVariants.{Issue}
-use Rattle.pa_machine.specs.Count.{number_of, refs_of}
-use Rattle.pa_machine.specs.Run.{Mark}
+use Rattle.pa_slot.specs.declared.word.SlotName.{SlotName}
+use Rattle.pa_slot.specs.declared.word.Step.TheVariants.{Issue}
+use Rattle.pa_slot.specs.Count.{number_of, refs_of}
+use Rattle.pa_slot.specs.Run.{Mark}
 use Rattle.pa_trace.specs.declared.script.Op.{Op}
 use Rattle.pa_trace.specs.declared.script.Op.TheVariants as ops
 use Rattle.pa_record.specs.declared.entry.Answer.{Answer}
@@ -26,7 +26,8 @@ pub record IsLastIssue (ms : List Mark) (s : SlotName) (k : ℕ) (i : Mark) : Ty
   pub last : (j : Mark) → Contains ms j → j.slot ≡ s → j.step ≡ Some Issue → number_of j.found < k →
       number_of j.found ≤ number_of i.found
 
--- how an op uses the slot of the register that it names first; allocations, exchanges and purges look at no slot
+-- How an op uses the slot of the register that it names first. Allocations, exchanges and purges look at no slot, and count as reads
+-- here.
 abbrev pub use_by : Op → Use
 use_by (ops.Copy from to) = Copied
 use_by (ops.Reset reg) = WasReset
@@ -34,8 +35,8 @@ use_by (ops.Free reg) = WasFreed
 use_by (ops.Write reg value) = Written
 use_by op = WasRead
 
--- The pair is of the free f and its use u, by their lines; it has the line on which the object was made, the op of the use, and the
--- line of the copy from which the raw_ptr of that op came.
+-- The pair is of the free f and its use u, by their lines. It has the line on which the object was made, the op of the use, and the line
+-- of the copy from which the raw_ptr of that op came.
 pub record IsPairOf (cells : ℕ → List CellEntry) (ps : List Played) (f u : Mark) (pair : Pair) : Type 0 where
   pub uses : IsUseOf (marks_of ps) f u
   pub freed : pair.free ≡ f.line
@@ -54,7 +55,7 @@ abbrev pub keeps_slot : Op → Answer → Bool
 keeps_slot (ops.Free reg) (Done seen) = nat_lt 0 (refs_of seen.found.0)
 keeps_slot op answer = false
 
--- by the line of the free, and then by that of the use
+-- pair p is above pair q, by the line of the free and then by that of the use
 abbrev pub StandsAbove : Pair → Pair → Type 0
 StandsAbove p q = (p.free < q.free) ⊎ ((p.free ≡ q.free) × (p.later ≤ q.later))
 

@@ -1,10 +1,10 @@
 -- The issues and the frees of the slots, each by its slot and the number that it found.
 use Rattle.std.specs.Prelude.{◌≡◌, ℕ, ◌<◌, ◌≤◌, List, Option, Some, None, Contains}
-use Rattle.pa_machine.specs.declared.word.SlotName.{SlotName}
-use Rattle.pa_machine.specs.declared.word.Step.{Step}
-use Rattle.pa_machine.specs.declared.word.Step.TheVariants as steps
-use Rattle.pa_machine.specs.Count.{number_of}
-use Rattle.pa_machine.specs.Run.{Mark, IsQuarantined}
+use Rattle.pa_slot.specs.declared.word.SlotName.{SlotName}
+use Rattle.pa_slot.specs.declared.word.Step.{Step}
+use Rattle.pa_slot.specs.declared.word.Step.TheVariants as steps
+use Rattle.pa_slot.specs.Count.{number_of}
+use Rattle.pa_slot.specs.Run.{Mark, IsQuarantined}
 use Rattle.pa_record.specs.declared.entry.Seen.{Seen}
 use Rattle.pa_record.specs.declared.entry.Answer.{Answer}
 use Rattle.pa_record.specs.declared.entry.Answer.TheVariants.{Made, Done, Value, Dangling, SecondFree, NotOwner, StaleUse, Shared}
@@ -20,7 +20,7 @@ abbrev pub step_of_kind : Kind → Step
 step_of_kind Issued = steps.Issue
 step_of_kind Freed = steps.Free
 
--- what an answer reports of a slot
+-- what an answer reports that its op saw of a slot
 abbrev pub seen_by_answer : Answer → Option Seen
 seen_by_answer (Made seen usable) = Some seen
 seen_by_answer (Done seen) = Some seen
@@ -57,7 +57,7 @@ pub record IsLastStep (kind : Kind) (ms : List Mark) (s : SlotName) (high n k : 
   pub below : k < high
   pub last : (j : Mark) → Contains ms j → j.slot ≡ s → j.step ≡ Some (step_of_kind kind) → number_of j.found < high → number_of j.found ≤ k
 
--- there is none
+-- no step of the kind of the slot is below the number
 abbrev pub NoStepBelow : Kind → List Mark → SlotName → ℕ → Type 0
 NoStepBelow kind ms s below =
     (j : Mark) → Contains ms j → j.slot ≡ s → j.step ≡ Some (step_of_kind kind) → number_of j.found < below → ⊥

@@ -1,11 +1,11 @@
 -- The uses of a slot that was freed while raw_ptrs pointed to it. They are known by the marks of a run alone: the words that were found
 -- and the steps that were made.
 use Rattle.std.specs.Prelude.{◌≡◌, ◌≢◌, ℕ, ◌<◌, ◌≤◌, ◌↔◌, List, Some, Contains, AllPairs}
-use Rattle.pa_machine.specs.declared.word.SlotName.{SlotName}
-use Rattle.pa_machine.specs.declared.word.Step.{Step}
-use Rattle.pa_machine.specs.declared.word.Step.TheVariants.{Free}
-use Rattle.pa_machine.specs.Count.{number_of, refs_of, held_of}
-use Rattle.pa_machine.specs.Run.{Mark, Slots, IsReturning, IsQuarantined}
+use Rattle.pa_slot.specs.declared.word.SlotName.{SlotName}
+use Rattle.pa_slot.specs.declared.word.Step.{Step}
+use Rattle.pa_slot.specs.declared.word.Step.TheVariants.{Free}
+use Rattle.pa_slot.specs.Count.{number_of, refs_of, held_of}
+use Rattle.pa_slot.specs.Run.{Mark, Slots, IsReturning, IsQuarantined}
 
 -- a free that found raw_ptrs: the slot is kept
 pub record IsKeptFree (f : Mark) : Type 0 where

@@ -28,11 +28,11 @@ IsLastPutAt cells ps t reg k (Some i) =
     (x : Played) × IsRecord ps i x × (i < k) × (x.thread ≡ t) × (put_into cells x.op x.answer ≡ Some reg)
     × ((j : ℕ) (y : Played) → i < j → j < k → IsRecord ps j y → y.thread ≡ t → put_into cells y.op y.answer ≡ Some reg → ⊥)
 
--- the number of a thread's register; a thread has 64
+-- the number of a thread's register, of which each thread has 64
 abbrev pub register_key : ℕ → ℕ → ℕ
 register_key t reg = 64 * t + reg
 
--- the table has the last such record of each register
+-- the table has for each register the last of the records before index k that put a raw_ptr into it
 abbrev pub AreLastPuts : (ℕ → List CellEntry) → List Played → (ℕ → Option ℕ) → ℕ → Type 0
 AreLastPuts cells ps at k = (t reg : ℕ) → reg < 64 → IsLastPutAt cells ps t reg k (at (register_key t reg))
 
@@ -41,7 +41,7 @@ abbrev pub PutsInto : (f g : ℕ → Option ℕ) → ℕ → Option ℕ → ℕ 
 PutsInto f g t None v = (q : ℕ) → g q ≡ f q
 PutsInto f g t (Some reg) v = Puts f g (register_key t reg) v
 
--- the last such record of the register that record k's op names first
+-- of the records before index k, the last one that put a raw_ptr into the register that x's op names first, if there is such a record
 abbrev pub IsPutFor : (ℕ → List CellEntry) → List Played → Played → ℕ → Option ℕ → Option ℕ → Type 0
 IsPutFor cells ps x k None o = o ≡ None
 IsPutFor cells ps x k (Some reg) o = IsLastPutAt cells ps x.thread reg k o

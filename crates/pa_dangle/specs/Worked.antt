@@ -1,16 +1,16 @@
 -- Marks that were worked out by hand: a slot that is freed while a raw_ptr points to it, read and reset through that raw_ptr, issued
 -- again and freed with no raw_ptr.
 use Rattle.std.specs.Prelude.{ℕ, List, [], ◌∷◌, Option, Some, None}
-use Rattle.pa_machine.specs.declared.word.Step.{Step}
-use Rattle.pa_machine.specs.declared.word.Step.TheVariants.{Issue, Copy, Reset, Free}
-use Rattle.pa_machine.specs.Run.{Mark, Slots}
+use Rattle.pa_slot.specs.declared.word.Step.{Step}
+use Rattle.pa_slot.specs.declared.word.Step.TheVariants.{Issue, Copy, Reset, Free}
+use Rattle.pa_slot.specs.Run.{Mark, Slots}
 use Rattle.pa_dangle.specs.Uses.{IsUseOf, OwnLines}
 
 -- a mark of the slot that starts at byte 16,384
 abbrev pub worked_mark : ℕ → ℕ → Option Step → Mark
 worked_mark line found step = record { line = line; slot = record { start = 16384; born = 0 }; found = found; step = step }
 
--- the look before the free, the free that found a raw_ptr, the two uses, the look at the next object, and its free
+-- line 4: the look before the free, while one raw_ptr points to the slot
 abbrev pub early_look : Mark
 early_look = worked_mark 4 0x2000003 None
 

@@ -5,11 +5,11 @@ pub enum Use {
     Copied,
     /// A `raw_ptr` was reset, as it ends or is given another object.
     WasReset,
-    /// It was to be freed once more.
+    /// The slot was to be freed once more.
     WasFreed,
-    /// It was to be written.
+    /// The slot was to be written.
     Written,
-    /// It was read, and gave poison.
+    /// The slot was read, and gave poison.
     WasRead,
 }
 
@@ -25,8 +25,8 @@ pub struct Pair {
     pub origin: u32,
 }
 
-/// The pairs of a run, by the line of the free and then of the use; how many frees found `raw_ptr`s, with or without a use; and how
-/// many slots are left in quarantine at the end.
+/// The pairs of a run, by the line of the free and then of the use, the number of frees that found `raw_ptr`s, with or without a use, and
+/// the number of slots that are left in quarantine at the end.
 #[derive(Debug, Drop)]
 pub struct Found {
     pub pairs: Vec<Pair>,

@@ -2,7 +2,7 @@ ghost use Rattle.std.specs.Prelude.{◌≡◌, ◌↔◌, ℕ, ◌<◌, ◌^◌,
 ghost use Rattle.std.specs.List.Sorted.{IsPermutation, IsNonDecreasingBy};
 ghost use Rattle.std.specs.Ordering.{nat_cmp};
 ghost use Rattle.std.specs.BTreeMap.{get};
-ghost use Rattle.pa_machine.specs.Run.{Mark, IsQuarantined, Slots};
+ghost use Rattle.pa_slot.specs.Run.{Mark, IsQuarantined, Slots};
 ghost use Rattle.pa_rules.specs.declared.played.Played.{Played};
 ghost use Rattle.pa_rules.specs.Cells.{history_at};
 ghost use Rattle.pa_rules.specs.Played.{mark_of, marks_of};
@@ -20,9 +20,9 @@ ghost use Rattle.pa_dangle.specs.Ways.{AreWays};
 use crate::found::{Found, Pair, Use};
 use crate::numbers::{Kind, last_step, steps_by_number};
 use crate::ways::{Way, origin, ways_of};
-use pa_machine::{OutOfMemory, Word, held, number, refs};
 use pa_record::{Answer, History, Seen};
 use pa_rules::Played;
+use pa_slot::{OutOfMemory, Word, held, number, refs};
 use pa_trace::Op;
 use std::alloc::Global;
 use std::collections::BTreeMap;
@@ -40,7 +40,7 @@ fn keeps(told: Played) -> bool
     }
 }
 
-// How many records are of such a free.
+// How many records are of a free that found raw_ptrs.
 fn kept(records: &[Played]) -> u32
     requires few { length records.now < 2 ^ 32 }
     ensures { result ≡ length (filter (λ (x : Played). keeps_slot x.op x.answer) records.now) }

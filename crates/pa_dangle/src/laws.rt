@@ -2,8 +2,8 @@ ghost use Rattle.pa_dangle.specs.Origins.{UsesHaveOrigins};
 ghost use Rattle.pa_dangle.specs.Uses.{UsesArePaired};
 ghost use Rattle.pa_dangle.specs.Worked.{WorkedUses};
 
-/// The law that a mark of a slot is a use of what one free left there, and of no other free's, if its word is that of a
-/// quarantined slot, and of none otherwise; that free is the slot's last one below it.
+/// The law that a mark of a slot is a use of what one free left there, and of no other free's, if its word is that of a quarantined slot,
+/// and of none otherwise. That free is the slot's last one below it.
 pub fn uses_are_paired()
     ensures { UsesArePaired }
 {}

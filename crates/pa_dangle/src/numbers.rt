@@ -1,15 +1,15 @@
 ghost use Rattle.std.specs.Prelude.{◌≡◌, ℕ, ◌<◌, ◌+◌, ◌^◌, Contains, IfOk, IfSome, IfNone, length};
 ghost use Rattle.std.specs.Ordering.{nat_cmp};
 ghost use Rattle.std.specs.BTreeMap.{get};
-ghost use Rattle.pa_machine.specs.Count.{number_of};
-ghost use Rattle.pa_machine.specs.Run.{Mark, Slots};
+ghost use Rattle.pa_slot.specs.Count.{number_of};
+ghost use Rattle.pa_slot.specs.Run.{Mark, Slots};
 ghost use Rattle.pa_rules.specs.Played.{marks_of};
 ghost use Rattle.pa_rules.specs.Rising.{RiseByLine};
 ghost use Rattle.pa_dangle.specs.Steps.{AreStepsOf, IsLastStep, NoStepBelow};
 
 use pa_audit_order::{by_number, greatest, key};
-use pa_machine::{OutOfMemory, SlotName, number};
 use pa_rules::Played;
+use pa_slot::{OutOfMemory, SlotName, number};
 use std::alloc::Global;
 use std::collections::BTreeMap;
 

@@ -9,11 +9,11 @@ use crate::found::Found;
 use crate::gather::pairs_of;
 use pa_audit_records::{records_are_within, records_of};
 use pa_dense::DenseRun;
-use pa_machine::OutOfMemory;
+use pa_slot::OutOfMemory;
 use pa_trace::Trace;
 use std::alloc::Global;
 
-/// The pairs of a run that is legal for the trace; `left` is how many slots are in quarantine at the end, as the last report says.
+/// The pairs of a run that is legal for the trace. `left` is how many slots are in quarantine at the end, as the last report says.
 pub fn pairs_dense(
     alloc: Global,
     trace: &Trace,

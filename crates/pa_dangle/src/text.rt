@@ -4,7 +4,7 @@ ghost use Rattle.std.specs.List.{flat_map};
 ghost use Rattle.pa_dangle.specs.Text.{use_text, pair_text, dangling_text};
 
 use crate::found::{Found, Pair, Use};
-use pa_machine::OutOfMemory;
+use pa_slot::OutOfMemory;
 use pa_text::{Text, push_bytes, push_number};
 use std::alloc::Global;
 

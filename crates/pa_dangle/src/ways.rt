@@ -10,9 +10,9 @@ ghost use Rattle.pa_dangle.specs.Origins.{first_register, put_held, put_into, Ha
 ghost use Rattle.pa_dangle.specs.Ways.{register_key, IsGiverAt, IsWayBack, IsPutFor, AreLastPuts, PutsInto, IsWayOf, AreWays};
 
 use pa_audit_records::{exchange, record_on};
-use pa_machine::OutOfMemory;
 use pa_record::{Answer, Held, History};
 use pa_rules::Played;
+use pa_slot::OutOfMemory;
 use pa_trace::Op;
 use std::alloc::Global;
 use std::collections::BTreeMap;
@@ -206,7 +206,7 @@ fn end_of(records: &[Played], cells: &[History], ways: &[Way], at: u32) -> Optio
     None
 }
 
-// Enters that copy for each record on the way to it, so that no way is gone twice.
+// Enters the line of the copy for each record on the way to it, so that no way is gone twice.
 fn shorten(records: &[Played], cells: &[History], ways: &mut [Way], at: u32, line: u32)
     requires rising { RiseByLine records.now }
     requires at { at < length records.now }

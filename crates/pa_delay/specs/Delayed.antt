@@ -1,9 +1,9 @@
 -- A delayed run: each slot of a class that a step returned waits in a queue of its thread, first in, first out and within a limit in
 -- bytes, before the thread's list sees it. All else is as in a run without queues.
 use Rattle.std.specs.Prelude.{◌≡◌, ℕ, ◌+◌, ◌<◌, ◌==◌, if◌then◌else◌, ◌⊎◌, List, [], ◌∷◌, ◌++◌, length, Option, Some, None}
-use Rattle.pa_machine.specs.declared.word.Step.{Step}
-use Rattle.pa_machine.specs.Count.{number_of}
-use Rattle.pa_machine.specs.Run.{IsReturning}
+use Rattle.pa_slot.specs.declared.word.Step.{Step}
+use Rattle.pa_slot.specs.Count.{number_of}
+use Rattle.pa_slot.specs.Run.{IsReturning}
 use Rattle.pa_buckets.specs.Limits.{class_count}
 use Rattle.pa_buckets.specs.Table.{slot_of}
 use Rattle.pa_record.specs.declared.entry.Seen.{Seen}
@@ -22,11 +22,11 @@ pub record Waiting : Type 0 where
   pub lists : Cache
   pub queue : List Numbered
 
--- all threads' queues; with one of them changed
+-- the queue of each thread, by the thread's number
 abbrev pub Queues : Type 0
 Queues = ℕ → List Numbered
 
--- the threads' queues, of which one thread's is now this one
+-- the threads' queues, with this one in place of one thread's
 abbrev pub with_queue : Queues → ℕ → List Numbered → Queues
 with_queue waiting thread queue t = if t == thread then queue else waiting t
 
@@ -54,8 +54,8 @@ AllLeave roots (s ∷ ss) cache acts after =
 abbrev pub StaysWaiting : Waiting → Waiting → Type 0
 StaysWaiting before after = SameLists after.lists before.lists × (after.queue ≡ before.queue)
 
--- A step returned a slot, which it left at this number: the slot becomes the back of the queue, and the front of the queue leaves
--- it, as little as leaves at most as many bytes as the limit says. A direct map goes back at once.
+-- A step returned a slot, which it left at this number. A slot of a class becomes the back of the queue, and at the queue's
+-- front just enough slots leave for the rest to have at most as many bytes as the limit says. A direct map goes back at once.
 abbrev pub DelayedReturn : ℕ → Journals → Played → Numbered → Waiting → Waiting → Type 0
 DelayedReturn bytes roots x slot before after =
     ((p class : ℕ) × (gone : List Numbered) × (acts : ℕ → List RootAct) × IsOfClass roots slot.slot p class
@@ -64,7 +64,8 @@ DelayedReturn bytes roots x slot before after =
     ⊎ ((p asked number : ℕ) × IsDirect roots slot.slot p × OnlyActs roots x.line p (unmap_at asked slot.slot number ∷ [])
     × StaysWaiting before after)
 
--- a step was made: a returning one or another
+-- a step was made: if it is a returning one the slot comes to the queue or goes back, and else lists and queue stay as they
+-- were
 abbrev pub DelayedDone : ℕ → Journals → Played → Option Step → Seen → Waiting → Waiting → Type 0
 DelayedDone bytes roots x None seen before after = NoActs roots x.line × StaysWaiting before after
 DelayedDone bytes roots x (Some step) seen before after =
@@ -93,6 +94,6 @@ DelayedTo bytes partitions roots all waiting (x ∷ xs) after left =
     (next : Waiting) × DelayedRow bytes partitions roots x x.answer (record { lists = all x.thread; queue = waiting x.thread }) next
     × DelayedTo bytes partitions roots (with_cache all x.thread next.lists) (with_queue waiting x.thread next.queue) xs after left
 
--- at the start every queue is empty
+-- the queues at the start, all of which are empty
 abbrev pub no_queues : Queues
 no_queues thread = []

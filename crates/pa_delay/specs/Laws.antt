@@ -10,11 +10,11 @@ use Rattle.pa_rules.specs.Legal.{IsFileRun}
 use Rattle.pa_delay.specs.Delayed.{Queues, no_queues, HaveBytes, DelayedTo}
 use Rattle.pa_delay.specs.Runs.{AreDelayed, IsDelayedRun}
 
--- the slots of a queue have at most as many bytes as the limit says; those of each thread's queue
+-- the slots of a queue have at most this many bytes
 abbrev pub HasAtMost : ℕ → Journals → List Numbered → Type 0
 HasAtMost bytes roots queue = (n : ℕ) × HaveBytes roots queue n × (n ≤ bytes)
 
--- the slots of each thread's queue have at most that many bytes
+-- the slots of each thread's queue have at most this many bytes
 abbrev pub HaveAtMost : ℕ → Journals → Queues → Type 0
 HaveAtMost bytes roots waiting = (t : ℕ) → HasAtMost bytes roots (waiting t)
 

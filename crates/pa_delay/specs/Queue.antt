@@ -19,7 +19,7 @@ freed_bytes (s ∷ ss) = slot_of s.class + freed_bytes ss
 abbrev pub AreBytes : List Freed → ℕ → Type 0
 AreBytes slots n = n ≡ freed_bytes slots
 
--- each is of one of the classes
+-- each of these slots is of one of the classes
 abbrev pub HaveClasses : List Freed → Type 0
 HaveClasses slots = All (λ (s : Freed). s.class < class_count) slots
 

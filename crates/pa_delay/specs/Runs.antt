@@ -1,6 +1,6 @@
 -- The delayed run of a trace: a legal run, but for its caches and what its report counts as cached.
 use Rattle.std.specs.Prelude.{◌≡◌, ℕ, zero, suc, ◌+◌, ◌==◌, if◌then◌else◌, List, [], ◌∷◌, map, All}
-use Rattle.pa_machine.specs.Run.{Slots, IsLive, IsQuarantined}
+use Rattle.pa_slot.specs.Run.{Slots, IsLive, IsQuarantined}
 use Rattle.pa_buckets.specs.Table.{slot_of}
 use Rattle.pa_trace.specs.declared.script.Trace.{Trace}
 use Rattle.pa_record.specs.declared.run.Run.{Run}
@@ -24,7 +24,7 @@ use Rattle.pa_rules.specs.FileOrder.{IsInFileOrder}
 use Rattle.pa_rules.specs.Legal.{phases_in}
 use Rattle.pa_delay.specs.Delayed.{Queues, no_queues, DelayedTo}
 
--- this many slots of a queue are partition p's, with this many bytes; of the first threads' queues
+-- n of these slots of a queue are partition p's, and have b bytes
 abbrev pub QueuedOf : Journals → ℕ → List Numbered → ℕ → ℕ → Type 0
 QueuedOf roots p [] n b = (n ≡ 0) × (b ≡ 0)
 QueuedOf roots p (s ∷ ss) n b =
@@ -58,7 +58,7 @@ pub record IsDelayedReport (bytes phases partitions threads : ℕ) (ps : List Pl
   pub places : map (λ (l : ReportLine). (l.phase, l.partition)) report ≡ phases_of partitions 1 phases
   pub right : All (IsDelayedLine bytes partitions threads ps pools roots) report
 
--- from empty lists and queues, record by record
+-- from empty lists and queues on, the records and these journals lead to some lists and queues
 abbrev pub AreDelayed : ℕ → ℕ → Journals → List Played → Type 0
 AreDelayed bytes partitions roots ps =
     (after : Caches) × (left : Queues) × DelayedTo bytes partitions roots no_caches no_queues ps after left

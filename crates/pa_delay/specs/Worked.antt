@@ -16,7 +16,8 @@ use Rattle.pa_delay.specs.Runs.{AreDelayed, IsDelayedTally}
 abbrev pub later_slot : ℕ → Seen
 later_slot word = record { slot = record { start = 16400; born = 0 }; found = record { 0 = word } }
 
--- its five records, on lines 2 to 6: two slots are made and freed in turn, and then the first slot is made again
+-- the five records of the delayed run, on lines 2 to 6: two slots are made and freed in turn, and then the first slot is made
+-- again
 abbrev pub waiting_records : List Played
 waiting_records =
     of_first_thread 2 (ops.Alloc 0 0 8) (answers.Made (first_slot 0) 8)
@@ -26,7 +27,7 @@ waiting_records =
     ∷ of_first_thread 6 (ops.Alloc 2 0 8) (answers.Made (first_slot 33554432) 8)
     ∷ []
 
--- the eight slots of 16 bytes that its one fill takes
+-- the eight slots of 16 bytes that the one fill of the delayed run takes
 abbrev pub waiting_fill : List Numbered
 waiting_fill = slots 0 0 (16384 ∷ 16400 ∷ 16416 ∷ 16432 ∷ 16448 ∷ 16464 ∷ 16480 ∷ 16496 ∷ [])
 
@@ -34,7 +35,7 @@ waiting_fill = slots 0 0 (16384 ∷ 16400 ∷ 16416 ∷ 16432 ∷ 16448 ∷ 1646
 abbrev pub waiting_journal : List RootEntry
 waiting_journal = fill 2 0 (Some 0) waiting_fill ∷ []
 
--- its journals: that of partition 0 alone
+-- the journals of the delayed run, of which only that of partition 0 has an entry
 abbrev pub waiting_roots : Journals
 waiting_roots = journal_at (waiting_journal ∷ [])
 

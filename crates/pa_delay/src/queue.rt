@@ -2,8 +2,8 @@ ghost use Rattle.std.specs.Prelude.{◌≡◌, ◌↔◌, ◌<◌, ◌≤◌, []
 ghost use Rattle.pa_delay.specs.Queue.{GoesPast, AreBytes, GoesFirst, freed_bytes, with_freed};
 
 use pa_buckets::{Class, rows_have_bounds, slot_size};
-use pa_machine::OutOfMemory;
 use pa_record::Numbered;
+use pa_slot::OutOfMemory;
 use std::alloc::Global;
 use std::collections::VecDeque;
 use std::marker::Model;

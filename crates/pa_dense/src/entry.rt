@@ -2,8 +2,8 @@ ghost use Rattle.std.specs.Prelude.{◌≡◌, ◌≤◌, IfOk, length};
 ghost use Rattle.pa_dense.specs.Act.{act_of};
 
 use crate::kept::Kept;
-use pa_machine::OutOfMemory;
 use pa_record::{Act, ActWith, Batch, LentEntry, Numbered, RootAct, RootEntry};
+use pa_slot::OutOfMemory;
 use std::alloc::Global;
 use std::marker::Model;
 

@@ -1,8 +1,8 @@
 ghost use Rattle.std.specs.Prelude.{◌≡◌, [], ◌∷◌, ◌++◌, IfOk, OnErr, OnOk};
 
 use crate::entry::DenseEntry;
-use pa_machine::OutOfMemory;
 use pa_record::{Journal, LentEntry};
+use pa_slot::OutOfMemory;
 use std::alloc::Global;
 use std::marker::Model;
 

@@ -1,7 +1,7 @@
 ghost use Rattle.std.specs.Prelude.{◌≡◌, ◌≤◌, IfOk, length};
 
-use pa_machine::OutOfMemory;
 use pa_record::{LentSlots, Numbered};
+use pa_slot::OutOfMemory;
 use smallvec::SmallVec;
 use std::alloc::Global;
 use std::marker::Model;
@@ -24,7 +24,7 @@ impl Model for Kept {
 }
 
 impl Kept {
-    // These slots.
+    // These slots, at most 16, in a list of their own.
     pub(crate) fn of(alloc: Global, slots: &[Numbered]) -> Result<Kept, OutOfMemory>
         requires few { length slots.now ≤ 16 }
         ensures slots { IfOk result (λ kept. kept ≡ slots.now) }

@@ -2,8 +2,8 @@ ghost use Rattle.std.specs.Prelude.{◌≡◌, IfOk};
 ghost use Rattle.pa_dense.specs.Lists.{HasListsOf};
 
 use crate::journal::DenseJournal;
-use pa_machine::OutOfMemory;
 use pa_record::{CellEntry, Entry, History, Journal, PoolEntry, ReportLine, Run};
+use pa_slot::OutOfMemory;
 use std::alloc::Global;
 use std::marker::Model;
 
@@ -116,7 +116,7 @@ fn dense_of(alloc: Global, journals: &[Journal]) -> Result<Vec<DenseJournal>, Ou
     Ok(dense)
 }
 
-// The histories once more.
+// A copy of these histories.
 fn histories_of(alloc: Global, cells: &[History]) -> Result<Vec<History>, OutOfMemory>
     ensures { IfOk result (λ histories. histories.items ≡ cells.now) }
 {

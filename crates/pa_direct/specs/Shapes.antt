@@ -16,7 +16,7 @@ slot_for raw = 4096 * quotient_up raw 4096
 abbrev pub shape_of : ℕ → Shape
 shape_of size = record { slot = slot_for (size + 8); supers = supers_for (slot_for (size + 8)) }
 
--- the greatest request that is served, in bytes, and the greatest that a class serves
+-- the greatest request that is served, in bytes
 abbrev pub greatest_size : ℕ
 greatest_size = 33521656
 
@@ -32,8 +32,8 @@ IsDirectSize size = (greatest_in_class < size) × (size ≤ greatest_size)
 abbrev pub IsShape : Shape → Type 0
 IsShape shape = (size : ℕ) × IsDirectSize size × (shape ≡ shape_of size)
 
--- the shape serves a request of that many bytes: the slot and a guard at both ends lie in the super pages, and one
--- super page less or one system page less wouldn't do
+-- the shape serves a request of this many bytes: the slot and a guard at both ends lie in the super pages, and one super page
+-- less or one system page less wouldn't do
 pub record Serves (shape : Shape) (size : ℕ) : Type 0 where
   pub system_pages : shape.slot % 4096 ≡ 0
   pub usable : size ≤ shape.slot - 8
@@ -43,6 +43,6 @@ pub record Serves (shape : Shape) (size : ℕ) : Type 0 where
   pub guards : shape.slot + 32768 ≤ 2097152 * shape.supers
   pub least : 2097152 * (shape.supers - 1) < shape.slot + 32768
 
--- the shape of each such request serves it
+-- the shape of each request for a direct map serves it
 abbrev pub ShapesLeaveRoom : Type 0
 ShapesLeaveRoom = (size : ℕ) → IsDirectSize size → Serves (shape_of size) size

@@ -1,7 +1,7 @@
 -- Two runs that were worked out by hand, which the definitions of a legal run must let through.
 use Rattle.std.specs.Prelude.{◌≡◌, ℕ, List, [], ◌∷◌, map, Some}
 use Rattle.std.specs.Global.{Global}
-use Rattle.pa_machine.specs.Titles.{poison}
+use Rattle.pa_slot.specs.Titles.{poison}
 use Rattle.pa_trace.specs.declared.script.Trace.{Trace}
 use Rattle.pa_trace.specs.Limits.{IsWithinLimits}
 use Rattle.pa_trace.specs.declared.script.Line.TheVariants.{Phase, Do}
@@ -39,7 +39,7 @@ pub record IsTold (t : Trace) (told : List Entry) (journals : List (List RootEnt
   pub limits : IsWithinLimits t
   pub run : (heap : Global) → (r : Run) × RunInBits r × IsRunOf r told journals pools exchanged lines
 
--- a slot that begins there, of this entry of the pool, with this word
+-- what was seen of the slot that begins at this byte, of this entry of the pool: this word
 abbrev pub seen_at : ℕ → ℕ → ℕ → Seen
 seen_at start born word = record { slot = record { start = start; born = born }; found = record { 0 = word } }
 
@@ -85,7 +85,7 @@ direct_map_trace =
           ∷ [];
     }
 
--- its records beside their ops
+-- the records of the run of direct maps, beside their ops
 abbrev pub direct_map_records : List Played
 direct_map_records =
     record { line = 2; thread = 0; phase = 1; op = ops.Alloc 0 0 2000000; answer = answers.Made (seen_at 16384 0 0) 2002936 }
@@ -98,16 +98,16 @@ direct_map_records =
     ∷ record { line = 9; thread = 0; phase = 1; op = ops.Alloc 2 0 2000000; answer = answers.Made (seen_at 16384 5 0) 2002936 }
     ∷ []
 
--- its report: one line, with a live map of 2002944 bytes, nothing quarantined and nothing cached
+-- the report of the run of direct maps: one line, with a live map of 2002944 bytes, nothing quarantined and nothing cached
 abbrev pub direct_map_report : List ReportLine
 direct_map_report = report_line 1 (tally 1 2002944) (tally 0 0) (tally 0 0) direct_map_again_census ∷ []
 
--- the trace is within the limits and has a run with these lists
+-- the trace of direct maps is within the limits and has a run with the lists that were worked out
 abbrev pub DirectMapIsTold : Type 0
 DirectMapIsTold = IsTold direct_map_trace (map entry_of direct_map_records)
     (direct_map_again_journal ∷ []) direct_map_again_pool [] direct_map_report
 
--- a run with these lists is the one in the order of the lines
+-- a run of direct maps with these lists is the one in the order of the lines
 abbrev pub DirectMapIsFiled : Type 0
 DirectMapIsFiled =
     (r : Run) → IsRunOf r (map entry_of direct_map_records) (direct_map_again_journal ∷ []) direct_map_again_pool [] direct_map_report →
@@ -136,7 +136,7 @@ two_threads_trace =
           ∷ [];
     }
 
--- its eight records beside their ops
+-- the eight records of the run of two threads, beside their ops
 abbrev pub two_threads_records : List Played
 two_threads_records =
     record { line = 2; thread = 0; phase = 1; op = ops.Alloc 0 0 8; answer = answers.Made (seen_at 16384 0 0) 8 }
@@ -149,26 +149,27 @@ two_threads_records =
     ∷ record { line = 11; thread = 1; phase = 3; op = ops.Reset 0; answer = answers.Done (seen_at 16384 0 0x3000002) }
     ∷ []
 
--- its root's journal: on line 2 a fill of eight slots, 16 bytes apart from byte 16384 on
+-- the root's journal in the run of two threads: on line 2 a fill of eight slots, 16 bytes apart from byte 16384 on
 abbrev pub two_threads_journal : List RootEntry
 two_threads_journal = fill 2 0 (Some 0) (slots 0 0 (16384 ∷ 16400 ∷ 16416 ∷ 16432 ∷ 16448 ∷ 16464 ∷ 16480 ∷ 16496 ∷ [])) ∷ []
 
--- the pool's one entry: on line 2 partition 0 took super page 0
+-- the pool's one entry in the run of two threads: on line 2 partition 0 took super page 0
 abbrev pub two_threads_pool : List PoolEntry
 two_threads_pool = pool_take 2 0 1 (Some 0) ∷ []
 
--- the cell's history: on line 4 the raw_ptr is put in, on line 7 it is taken out
+-- the history of the cell in the run of two threads: on line 4 the raw_ptr is put in, on line 7 it is taken out
 abbrev pub two_threads_history : List CellEntry
 two_threads_history =
     record { line = 4; gave = held.Ref (record { start = 16384; born = 0 }); found = held.Nothing }
     ∷ record { line = 7; gave = held.Nothing; found = held.Ref (record { start = 16384; born = 0 }) }
     ∷ []
 
--- what the root has: 248 slots, 3968 bytes in all, 4096 bytes committed of 2097152 reserved, and one active span
+-- what the root of the run of two threads has: 248 slots, 3968 bytes in all, 4096 bytes committed of 2097152 reserved, and one active
+-- span
 abbrev pub two_threads_census : Census
 two_threads_census = census_of 248 3968 4096 2097152 0 1 0 0
 
--- a line for each phase: the slot is live, then quarantined, then cached, and seven others are cached all along
+-- a line of the report for each phase: the slot is live, then quarantined, then cached, and seven others are cached all along
 abbrev pub two_threads_report : List ReportLine
 two_threads_report =
     report_line 1 (tally 1 16) (tally 0 0) (tally 7 112) two_threads_census
@@ -176,12 +177,12 @@ two_threads_report =
     ∷ report_line 3 (tally 0 0) (tally 0 0) (tally 8 128) two_threads_census
     ∷ []
 
--- the trace is within the limits and has a run with these lists
+-- the trace of two threads is within the limits and has a run with the lists that were worked out
 abbrev pub TwoThreadsAreTold : Type 0
 TwoThreadsAreTold = IsTold two_threads_trace (map entry_of two_threads_records) (two_threads_journal ∷ []) two_threads_pool
     (two_threads_history ∷ []) two_threads_report
 
--- a run with these lists is legal
+-- a run of two threads with these lists is legal
 abbrev pub TwoThreadsAreLegal : Type 0
 TwoThreadsAreLegal =
     (r : Run) → IsRunOf r (map entry_of two_threads_records) (two_threads_journal ∷ []) two_threads_pool

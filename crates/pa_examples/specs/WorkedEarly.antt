@@ -1,7 +1,7 @@
 -- A run that was worked out by hand, in which poison is read early: before the free, by the order of threads, phases and
 -- hand-overs.
 use Rattle.std.specs.Prelude.{List, [], ◌∷◌, map}
-use Rattle.pa_machine.specs.Titles.{poison}
+use Rattle.pa_slot.specs.Titles.{poison}
 use Rattle.pa_trace.specs.declared.script.Trace.{Trace}
 use Rattle.pa_trace.specs.declared.script.Line.TheVariants.{Phase, Do}
 use Rattle.pa_trace.specs.declared.script.Op.TheVariants as ops
@@ -37,7 +37,7 @@ early_read_trace =
           ∷ [];
     }
 
--- its eight records beside their ops
+-- the eight records of the run with an early read, beside their ops
 abbrev pub early_read_records : List Played
 early_read_records =
     record { line = 2; thread = 0; phase = 1; op = ops.Alloc 0 0 8; answer = answers.Made (seen_at 16384 0 0) 8 }
@@ -50,7 +50,7 @@ early_read_records =
     ∷ record { line = 10; thread = 0; phase = 2; op = ops.Free 0; answer = answers.Done (seen_at 16384 0 0x2000003) }
     ∷ []
 
--- the raw_ptr goes through the first cell, and back through the second
+-- the first cell's history: on line 4 the raw_ptr is put in, on line 6 it is taken out
 abbrev pub there_history : List CellEntry
 there_history =
     record { line = 4; gave = held.Ref (record { start = 16384; born = 0 }); found = held.Nothing }
@@ -64,7 +64,7 @@ back_history =
     ∷ record { line = 9; gave = held.Nothing; found = held.Ref (record { start = 16384; born = 0 }) }
     ∷ []
 
--- a line for each phase: the slot is live after the first and quarantined after the second, and seven others are cached
+-- a line of the report for each phase: the slot is live after the first and quarantined after the second, and seven others are cached
 abbrev pub early_read_report : List ReportLine
 early_read_report =
     report_line 1 (tally 1 16) (tally 0 0) (tally 7 112) two_threads_census

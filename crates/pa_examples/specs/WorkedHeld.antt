@@ -1,6 +1,6 @@
 -- Two runs that were worked out by hand, and the words that their regions have at the end.
 use Rattle.std.specs.Prelude.{◌≡◌, ℕ, ◌<◌, ◌≤◌, List, [], ◌∷◌, map, length, slice_index, Some}
-use Rattle.pa_machine.specs.Titles.{poison}
+use Rattle.pa_slot.specs.Titles.{poison}
 use Rattle.pa_trace.specs.declared.script.Trace.{Trace}
 use Rattle.pa_trace.specs.declared.script.Line.TheVariants.{Do}
 use Rattle.pa_trace.specs.declared.script.Op.TheVariants as ops
@@ -36,7 +36,7 @@ held_trace =
 abbrev pub second_slot : ℕ → Seen
 second_slot word = record { slot = record { start = 16400; born = 0 }; found = record { 0 = word } }
 
--- its five records beside their ops
+-- the five records of the run that is held, beside their ops
 abbrev pub held_records : List Played
 held_records =
     of_first_thread 2 (ops.Alloc 0 0 8) (answers.Made (first_slot 0) 8)
@@ -46,11 +46,11 @@ held_records =
     ∷ of_first_thread 6 (ops.Free 1) (answers.Done (second_slot 0x2000003))
     ∷ []
 
--- its root's journal: on line 2 a fill of eight slots, 16 bytes apart from byte 16384 on
+-- the root's journal: on line 2 a fill of eight slots, 16 bytes apart from byte 16384 on
 abbrev pub held_journal : List RootEntry
 held_journal = fill 2 0 (Some 0) (slots 0 0 (16384 ∷ 16400 ∷ 16416 ∷ 16432 ∷ 16448 ∷ 16464 ∷ 16480 ∷ 16496 ∷ [])) ∷ []
 
--- the run's lists: its records, that journal and a take of super page 0, with no exchanges and no report
+-- the run's lists: its records, its journal and a take of super page 0, with no exchanges and no report
 abbrev pub held_told : Told
 held_told =
     record {

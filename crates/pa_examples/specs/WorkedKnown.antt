@@ -7,13 +7,13 @@ use Rattle.pa_rules.specs.Told.{told_by, records_of}
 use Rattle.pa_legal.specs.Known.{IsKnown}
 use Rattle.pa_examples.specs.Worked.{IsRunOf, direct_map_trace, direct_map_records, direct_map_report, two_threads_trace, two_threads_records, two_threads_journal, two_threads_pool, two_threads_history, two_threads_report}
 
--- one thread, with direct maps that come and go
+-- what is required of a run to be legal is known of the run of direct maps
 abbrev pub DirectMapIsKnown : Type 0
 DirectMapIsKnown =
     (r : Run) → IsRunOf r (map entry_of direct_map_records) (direct_map_again_journal ∷ []) direct_map_again_pool [] direct_map_report →
     IsKnown direct_map_trace (told_by r) (records_of direct_map_trace (told_by r))
 
--- two threads, with a read while the slot is freed
+-- what is required of a run to be legal is known of the run of two threads, with its read while the slot is freed
 abbrev pub TwoThreadsAreKnown : Type 0
 TwoThreadsAreKnown =
     (r : Run) → IsRunOf r (map entry_of two_threads_records) (two_threads_journal ∷ []) two_threads_pool

@@ -15,7 +15,7 @@ use Rattle.pa_examples.specs.WorkedWrites.{writes_trace, writes_records, writes_
 use Rattle.pa_examples.specs.WorkedPurge.{purge_trace, purge_report}
 use Rattle.pa_core_run.specs.Playing.{HasCoreRun}
 
--- there is a run with just these lists, of one partition and no cell, and it has a run of the core; its vectors are of any heap
+-- there is a run with just these lists, of one partition and no cell, whose vectors are of any heap, and it has a run of the core
 abbrev pub IsPlayedRun : Trace → List Played → List RootEntry → List PoolEntry → List ReportLine → Type 0
 IsPlayedRun t ps journal pools lines = (heap : Global) → (r : Run) × IsRunOf r (map entry_of ps) (journal ∷ []) pools [] lines × HasCoreRun t r
 

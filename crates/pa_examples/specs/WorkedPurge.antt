@@ -26,7 +26,7 @@ purge_trace =
           ∷ [];
     }
 
--- its report: one line, with one live slot of 16 bytes, none quarantined and seven cached
+-- the report of the run with a purge: one line, with one live slot of 16 bytes, none quarantined and seven cached
 abbrev pub purge_report : List ReportLine
 purge_report = report_line 1 (tally 1 16) (tally 0 0) (tally 7 112) purge_census ∷ []
 

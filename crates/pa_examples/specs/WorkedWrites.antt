@@ -34,7 +34,7 @@ writes_trace =
           ∷ [];
     }
 
--- its records beside their ops
+-- the records of the run with writes, beside their ops
 abbrev pub writes_records : List Played
 writes_records =
     record { line = 2; thread = 0; phase = 1; op = ops.Alloc 0 0 8; answer = answers.Made (seen_at 16384 0 0) 8 }
@@ -47,7 +47,7 @@ writes_records =
     ∷ record { line = 9; thread = 0; phase = 1; op = ops.Read 0 1; answer = answers.OutOfRange }
     ∷ []
 
--- The fill of eight slots and the take of the pool are those of the worked run of two threads.
+-- the root's journal: the fill of eight slots of the worked run of two threads
 abbrev pub writes_journal : List RootEntry
 writes_journal = two_threads_journal
 
@@ -55,7 +55,7 @@ writes_journal = two_threads_journal
 abbrev pub writes_pool : List PoolEntry
 writes_pool = two_threads_pool
 
--- its report: one line, with one live slot of 16 bytes, none quarantined and seven cached
+-- the report of the run with writes: one line, with one live slot of 16 bytes, none quarantined and seven cached
 abbrev pub writes_report : List ReportLine
 writes_report = report_line 1 (tally 1 16) (tally 0 0) (tally 7 112) (census_of 248 3968 4096 2097152 0 1 0 0) ∷ []
 

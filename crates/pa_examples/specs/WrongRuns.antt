@@ -17,7 +17,7 @@ use Rattle.pa_rules.specs.Cells.{history_at}
 use Rattle.pa_rules.specs.Verdicts.{Holds, FailsAt}
 use Rattle.pa_examples.specs.Worked.{seen_at}
 
--- a record of thread 0 that made a slot, and one of a step
+-- a record of thread 0 that made a slot
 abbrev pub made : ℕ → Seen → ℕ → Entry
 made line seen usable = record { line = line; thread = 0; answer = answers.Made seen usable }
 
@@ -29,8 +29,8 @@ stepped line seen = record { line = line; thread = 0; answer = answers.Done seen
 abbrev pub telling : List Entry → List (List RootEntry) → List PoolEntry → Told
 telling es journals pools = record { entries = es; roots = journal_at journals; pools = pools; cells = history_at []; report = [] }
 
--- A direct map is made, freed and unmapped at a number that isn't the one that it was left at; a second request of that
--- size says that it got the same slot, with no entry of the journal.
+-- A direct map is made, freed and unmapped at a number that isn't the one that it was left at. A second request of that size says that it
+-- got the same slot, with no entry of the journal.
 abbrev pub maps_trace : Trace
 maps_trace = record {
   region = 1;
@@ -68,7 +68,7 @@ refused_told =
     ((fill 2 0 (Some 0) (slots 0 0 first_slots) ∷ full 2 (Some 0) 7 ∷ full 2 (Some 0) 7 ∷ []) ∷ [])
     (pool_take 2 0 1 (Some 0) ∷ [])
 
--- roots fails at the first of the two, and pool holds
+-- roots fails at the first of the two refusals, and pool holds
 abbrev pub RefusedFails : Type 0
 RefusedFails =
     (r : Run) → told_by r ≡ refused_told → Holds clauses.Pool refused_trace r × FailsAt clauses.Roots refused_trace r 5
@@ -89,7 +89,7 @@ astray_told =
     ((fill 2 0 (Some 0) (slots 0 0 first_slots) ∷ []) ∷ (fill 3 0 (Some 1) (slots 1 0 second_slots) ∷ []) ∷ [])
     (pool_take 2 0 1 (Some 0) ∷ pool_take 3 1 1 (Some 1) ∷ [])
 
--- caches fails at that record, and holders holds: its thread has the slot
+-- caches fails at the record of the second allocation, and holders holds, since its thread has the slot
 abbrev pub AstrayFails : Type 0
 AstrayFails =
     (r : Run) → told_by r ≡ astray_told → Holds clauses.Holders astray_trace r × FailsAt clauses.Caches astray_trace r 3

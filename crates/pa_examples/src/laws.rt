@@ -73,7 +73,7 @@ pub fn worked_runs_are_known()
     ensures threads { TwoThreadsAreKnown }
 {}
 
-/// Three runs of one thread, which were worked out by hand, have one.
+/// Three runs of one thread, which were worked out by hand, have a run of the core.
 pub fn worked_runs_are_played()
     ensures { WorkedRunsArePlayed }
 {}
@@ -137,14 +137,13 @@ pub fn threads_say()
     ensures { ThreadsSay }
 {}
 
-/// So all that is required of annotated records is met with each of them, and each is legal: poison while the free is under way, the
-/// content, and that the slot was freed.
+/// With each of the three answers of its read, the run of two threads meets all that is required of annotated records, and is legal:
+/// poison while the free is under way, the content, and that the slot was freed.
 pub fn other_reads_are_legal()
     ensures { OtherReadsAreLegal }
 {}
 
-/// The seat that closes the run of two threads is as required, with each answer of the read; so the words at the end
-/// hold the run.
+/// The seat that closes the run of two threads is as required, with each answer of the read. So the words at the end hold the run.
 pub fn threads_close()
     ensures { ThreadsClose }
 {}
@@ -155,7 +154,8 @@ pub fn purge_closes()
     ensures { PurgeIsClosed }
 {}
 
-/// So does the run of direct maps: the seat that closes it owns the last map, and uncut the two that went back.
+/// The run of direct maps meets the obligations of all layers at once, and the seat that closes it is as required: it owns the last map,
+/// and uncut the two that went back. So the words at the end hold the run.
 pub fn direct_map_closes()
     ensures { DirectMapIsClosed }
 {}

@@ -1,5 +1,5 @@
-//! Runs that were worked out by hand: legal ones, what annotated records and logs say of them, and wrong ones. Only laws; nothing is on
-//! them, and nothing here runs.
+//! Runs that were worked out by hand: legal ones, what annotated records and logs say of them, and wrong ones. There are only laws:
+//! nothing is on them, and nothing here runs.
 #![tactic(auto)]
 
 mod laws;

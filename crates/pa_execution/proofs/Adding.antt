@@ -3,7 +3,7 @@ use Rattle.std.proofs.Common.{◌≡◌, ℕ, zero, suc, ◌+◌, ◌<◌, ◌�
 use Rattle.std.specs.List.{sum_by}
 use Rattle.std.proofs.lemmas.Bool.{cases_lt, cases_eq, eq-eqb, ne_eqb}
 use Rattle.std.proofs.lemmas.List.Sums.{sum_by-cons}
-use Rattle.pa_machine.specs.Holdings.{one}
+use Rattle.pa_slot.specs.Holdings.{one}
 use Rattle.pa_region.specs.declared.view.Entry.{Entry}
 use Rattle.pa_region.specs.declared.view.Stake.{Stake}
 use Rattle.pa_region.specs.declared.view.View.{View}
@@ -87,7 +87,7 @@ pub logged_by_log : (v : View) (weight : Entry → ℕ) → ((k : ℕ) → stake
     logged_of v weight ≡ sum_over (λ k. sum_by weight (log_of k v)) 16
 logged_by_log v weight once small = by_log weight v.stakes 16 once small
 
--- so seats with the same stakes and logs say the same of a totals word
+-- seats with the same stakes and logs say the same of a totals word
 pub added_same : (v w : View) → IsAware v → ((k : ℕ) → stake_of w k ≡ stake_of v k) → ((k : ℕ) → log_of k w ≡ log_of k v) → (k : ℕ) → added_in w k ≡ added_in v k
 added_same v w aware stakes logs k =
     let a = logged_by_log v (added_to k) aware.stake_once aware.stake_small in
@@ -96,7 +96,7 @@ added_same v w aware stakes logs k =
     let c = sum_same (λ r. sum_by (added_to k) (log_of r v)) (λ r. sum_by (added_to k) (log_of r w)) 16 (λ r low. ap (sum_by (added_to k)) (logs r)) in
     b ∙ (c ∙ sym a)
 
--- and if no thread past the first has a log, it is what these logs add up to
+-- if no thread past the first ones has a log, a totals word is what their logs add up to
 pub added_by_threads : (v : View) (threads k : ℕ) → IsAware v → threads ≤ 16 → ((r : ℕ) → threads ≤ r → log_of r v ≡ []) →
     added_in v k ≡ sum_over (λ r. sum_by (added_to k) (log_of r v)) threads
 added_by_threads v threads k aware few idle =

@@ -5,7 +5,7 @@ use Rattle.std.specs.List.{sum_by, AllByRecursion as Each}
 use Rattle.std.proofs.lemmas.Bool.{cases_lt, cases_eq, eq-eqb, ne_eqb}
 use Rattle.std.proofs.lemmas.List.Concat.{flat_map-append}
 use Rattle.std.proofs.lemmas.List.Sums.{sum_by-cons}
-use Rattle.pa_machine.specs.Holdings.{one}
+use Rattle.pa_slot.specs.Holdings.{one}
 use Rattle.pa_lists.proofs.Members.{not_in_none, first_in, later_in, in_cases}
 use Rattle.pa_region.specs.declared.view.Stake.{Stake}
 use Rattle.pa_region.specs.declared.view.View.{View}
@@ -98,7 +98,7 @@ module _ (t : Trace) (c : Course) (limits : IsWithinLimits t) (course : IsCourse
         many = ap (λ (w : WorkerValue). w.stock.partitions) heard.same ∙ before.many;
       }
 
-  -- its log at the end of a phase is that of its records so far
+  -- the log of a thread at the end of a phase is that of its records so far
   pub log_after : (k n : ℕ) → suc n ≤ phases_in t.lines → k < t.threads → log_of k (c.ends (suc n) k).stock.view ≡ stretches (so_far c.plays k (suc n))
   log_after k zero high few =
       let begins = course.begins k few in
@@ -115,14 +115,14 @@ module _ (t : Trace) (c : Course) (limits : IsWithinLimits t) (course : IsCourse
 
   -- ---- the main seat
 
-  -- its logs are those of the records so far
+  -- the logs of the main seat at the end of a phase are those of the records so far
   seat_logs : (n k : ℕ) → suc n ≤ phases_in t.lines → log_of k (c.seats (suc n)) ≡ told_log k (told_until (suc n) (told_in t c))
   seat_logs n k high = elim (cases_lt k t.threads) [
     | inl few ↦ (course.tells (suc n) (omega arith) high).logs k few ∙ (log_after k n high few ∙ sym (ap stretches (thread_until t c limits course (suc n) k high few)))
     | inr past ↦ (course.tells (suc n) (omega arith) high).idle k past ∙ sym (ap stretches (no_thread t c limits course (suc n) k past))
   ]
 
-  -- it forgets nothing
+  -- the main seat forgets nothing from phase to phase
   pub sees_until : (n m : ℕ) → 1 ≤ n → n ≤ m → m ≤ phases_in t.lines → HasSeenAll (c.seats n) (c.seats m)
   sees_until n zero low more high = absurd (omega arith)
   sees_until n (suc m) low more high = elim (cases_lt n (suc m)) [

@@ -6,7 +6,7 @@ use Rattle.std.proofs.lemmas.List.{append-nil}
 use Rattle.std.proofs.lemmas.List.Sums.{sum_by-cons}
 use Rattle.std.proofs.lemmas.Bool.{cases_lt, cases_eq}
 use Rattle.std.proofs.lemmas.Bool.Decides.{eqb_tells}
-use Rattle.pa_machine.specs.Holdings.{one}
+use Rattle.pa_slot.specs.Holdings.{one}
 use Rattle.pa_region.specs.declared.view.Stake.{Stake}
 use Rattle.pa_region.specs.declared.view.View.{View}
 use Rattle.pa_region.specs.Views.{stake_of, seen_of}
@@ -34,7 +34,7 @@ use Rattle.pa_execution.proofs.Playing.{sees_itself, sees_then}
 abbrev pub how_often : ℕ → List Stake → ℕ
 how_often k ss = sum_by (λ (s : Stake). one (eqb s.number k)) ss
 
--- a number that no stake has, has no log; and a stake of the first list has its log
+-- a number that no stake has, has no log
 pub none_logged : (k : ℕ) (ss : List Stake) → how_often k ss ≡ 0 → log_among k ss ≡ []
 none_logged k [] none = refl
 none_logged k (s ∷ ss) none =
@@ -80,7 +80,7 @@ module _ (k : ℕ) (seat v : View) where
   still_clean : unclean_of seat ≡ 0 → unclean_of (united seat note) ≡ 0
   still_clean clean = let e = (united_parts seat note).unclean in omega arith
 
--- ---- tell
+-- ---- stakes are lent
 
 tell_none : (threads : ℕ) (ends : ℕ → WorkerValue) (seat : View) → IsMain threads seat → HasHeardSome threads 0 ends seat seat
 tell_none threads ends seat main = record {
@@ -136,7 +136,7 @@ tell_all threads ends first seat heard aware = record {
 pub workers_tell : WorkersTell
 workers_tell = record { none = tell_none; next = tell_next; all = tell_all }
 
--- ---- hear
+-- ---- stakes come back
 
 module _ (threads k : ℕ) (whole seat : View) (answered : HasAnswered threads k whole seat) where
   can_hand : CanHand (stake_parcel k) seat

@@ -1,7 +1,7 @@
 -- If the rows of a worker's registers and lists lead, in a run that fits.
 use Rattle.std.proofs.Common.{◌≡◌, ℕ, List, [], ◌∷◌, ◌++◌, sym, ◌∙◌, ap, subst}
 use Rattle.std.specs.Prelude.{Contains}
-use Rattle.pa_machine.specs.declared.word.SlotName.{SlotName}
+use Rattle.pa_slot.specs.declared.word.SlotName.{SlotName}
 use Rattle.pa_rules.specs.declared.played.Played.{Played}
 use Rattle.pa_rules.specs.Registers.{Regs, Facts, Row}
 use Rattle.pa_rules.specs.Roots.{Journals}

@@ -3,8 +3,8 @@ use Rattle.std.proofs.Common.{◌≡◌, ℕ, zero, suc, ◌<◌, ◌≤◌, Lis
 use Rattle.std.specs.Prelude.{Contains}
 use Rattle.std.proofs.lemmas.Bool.{cases_lt, cases_eq}
 use Rattle.std.proofs.lemmas.List.Elements.{Contains-append_left, Contains-append_right, Contains-append_cases}
-use Rattle.pa_machine.specs.declared.title.Title.{Title}
-use Rattle.pa_machine.specs.declared.word.SlotName.{SlotName}
+use Rattle.pa_slot.specs.declared.title.Title.{Title}
+use Rattle.pa_slot.specs.declared.word.SlotName.{SlotName}
 use Rattle.pa_buckets.specs.Table.{slot_of}
 use Rattle.pa_buckets.proofs.Facts.{IsRow-of}
 use Rattle.pa_record.specs.declared.pool.PoolEntry.{PoolEntry}
@@ -142,7 +142,7 @@ module _ (partitions : ℕ) (pools : List PoolEntry) (roots : Journals) (journal
       length_is (titles_of pools roots partitions) t (all_listed partitions p t (is_partition p t by) by)
       (λ u among same. let (q, by') = listed_all partitions u among in one_length p q t u by by' same)
 
-  -- so has one that an entry hands out
+  -- a slot that an entry hands out has the length that the journals say
   pub handed_out : (p : ℕ) (e : RootEntry) (class : Option ℕ) (t : Title) → Contains (roots p) e → HandsOut class t e.act → lengths_by partitions pools roots (name_of t) ≡ t.len
   handed_out p e (Some class) t among (asked, slots, act, member, size) =
       let (u, by, name, len) = title_of pools (roots p) e (name_of t) (journals p) among (subst (λ a. Contains (leaves_by a) (name_of t)) (sym act) member) in
@@ -159,7 +159,7 @@ module _ (partitions : ℕ) (pools : List PoolEntry) (roots : Journals) (journal
       home_is pools roots partitions p (name_of t) t (is_partition p t by) by refl
       (λ q u by' named. owned q p u t by' by (ap (λ (s : SlotName). s.born) named))
 
-  -- so is that of a slot that an entry hands out
+  -- a slot that an entry hands out has the partition that the journals say
   pub handed_home : (p : ℕ) (e : RootEntry) (class : Option ℕ) (t : Title) → Contains (roots p) e → HandsOut class t e.act → homes_by partitions pools roots (name_of t) ≡ p
   handed_home p e (Some class) t among (asked, slots, act, member, size) =
       let (u, by, name, len) = title_of pools (roots p) e (name_of t) (journals p) among (subst (λ a. Contains (leaves_by a) (name_of t)) (sym act) member) in

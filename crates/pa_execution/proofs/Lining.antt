@@ -4,8 +4,8 @@ use Rattle.std.proofs.Common.{◌≡◌, ℕ, zero, suc, ◌+◌, ◌*◌, ◌<�
 use Rattle.std.specs.Prelude.{Contains}
 use Rattle.std.specs.List.{sum_by}
 use Rattle.std.proofs.lemmas.Bool.{lt-ltb}
-use Rattle.pa_machine.specs.declared.word.SlotName.{SlotName}
-use Rattle.pa_machine.specs.declared.word.Step.{Step}
+use Rattle.pa_slot.specs.declared.word.SlotName.{SlotName}
+use Rattle.pa_slot.specs.declared.word.Step.{Step}
 use Rattle.pa_record.specs.declared.report.ReportLine.{ReportLine}
 use Rattle.pa_record.specs.declared.report.Tally.{Tally}
 use Rattle.pa_lists.proofs.Joined.{map_in}
@@ -18,7 +18,7 @@ use Rattle.pa_rules.specs.Played.{marks_of}
 use Rattle.pa_rules.specs.Caches.{Cache, listed_slots}
 use Rattle.pa_rules.specs.Report.{listed_bytes, cached_slots, cached_bytes, until}
 use Rattle.pa_rules.specs.Told.{Told}
-use Rattle.pa_machine.specs.Kinds.{issues, frees, enters, leaves}
+use Rattle.pa_slot.specs.Kinds.{issues, frees, enters, leaves}
 use Rattle.pa_legal.specs.Tallies.{weight_of, one_of, bytes_of}
 use Rattle.pa_logs.specs.Told.{played_in}
 use Rattle.pa_logs.specs.Rows.{records_by}

@@ -3,7 +3,7 @@ use Rattle.std.proofs.Common.{◌≡◌, ℕ, ◌<◌, ◌≤◌, List, [], ◌�
 use Rattle.std.specs.Prelude.{Contains}
 use Rattle.std.proofs.lemmas.Bool.{eq-eqb}
 use Rattle.std.proofs.lemmas.List.{append-nil, append_assoc}
-use Rattle.pa_machine.specs.declared.title.Title.{Title}
+use Rattle.pa_slot.specs.declared.title.Title.{Title}
 use Rattle.pa_lists.proofs.Members.{not_in_none, in_cases}
 use Rattle.pa_lists.proofs.Pairs.{pairs_head, pairs_tail}
 use Rattle.pa_region.specs.declared.view.Entry.{Entry}
@@ -45,7 +45,7 @@ sees_all w v (x ∷ xs) (next, one, more) = sees_then w.stock.view next.stock.vi
 
 -- ---- one record among those that were played
 
--- it was played between these, after the first and before the last
+-- the record was played between these workers, after the first and before the last
 pub record HasPlayed (w v : WorkerValue) (x : ToldRecord) : Type 0 where
   pub before : WorkerValue
   pub after : WorkerValue

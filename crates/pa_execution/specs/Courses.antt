@@ -1,6 +1,6 @@
 -- How a run of several workers went, phase after phase: what they played, and when they lent their stakes and got them back.
 use Rattle.std.specs.Prelude.{◌≡◌, ℕ, ◌+◌, ◌<◌, ◌≤◌, ◌==◌, ◌&&◌, Bool, List, [], map, filter}
-use Rattle.pa_machine.specs.declared.title.Title.{Title}
+use Rattle.pa_slot.specs.declared.title.Title.{Title}
 use Rattle.pa_region.specs.declared.view.View.{View}
 use Rattle.pa_region.specs.Views.{seen_of, HasEveryStake}
 use Rattle.pa_region.specs.Lists.{list_of, IsBeginning}
@@ -16,19 +16,19 @@ use Rattle.pa_op_specs.specs.Stocks.{listed_in}
 use Rattle.pa_op_specs.specs.Workers.{WorkerValue, IsNewWorker, worker_with_view}
 use Rattle.pa_op_specs.specs.Plays.{PlaysAll}
 
--- How a run went. For each phase, from 1 on, and each thread: its worker as it began, the records of its lines, and its worker as
--- it ended, before it lent its stake; and the main seat at the phase's end, when all had lent theirs.
+-- How a run went. For each phase, from 1 on, and each thread it has the worker as it began, the records of its lines, and the worker
+-- as it ended, before it lent its stake. For each phase it has the main seat at the end, when all had lent theirs.
 pub record Course : Type 0 where
   pub starts : ℕ → ℕ → WorkerValue
   pub plays : ℕ → ℕ → List ToldRecord
   pub ends : ℕ → ℕ → WorkerValue
   pub seats : ℕ → View
 
--- the line is thread k's, in phase n; all such lines of a trace, in order
+-- the op line is thread k's, in phase n
 abbrev pub is_line_of : ℕ → ℕ → OpLine → Bool
 is_line_of n k o = (o.phase == n) && (o.thread == k)
 
--- the ops of thread k in phase n, in order; the trace's ops are on lines from 2 on, in phases from 1 on
+-- The ops of thread k in phase n, in order. The trace's ops are on lines from 2 on, in phases from 1 on.
 abbrev pub lines_in : List Line → ℕ → ℕ → List OpLine
 lines_in ls n k = filter (is_line_of n k) (op_lines 2 1 ls)
 
@@ -44,8 +44,8 @@ pub record BeginsNew (k partitions : ℕ) (w : WorkerValue) : Type 0 where
   pub new : IsNewWorker k partitions lines view w
   pub log : log_of k view ≡ []
 
--- At a phase's end each worker has lent its stake to the main seat. That has every stake, each with its worker's log, or an empty
--- log if the run has no such thread; and it has seen what each worker has.
+-- At a phase's end each worker has lent its stake to the main seat. That has every stake, each with its worker's log, or an empty log
+-- if the run has no such thread. It has seen what each worker has.
 pub record HasHeardAll (threads : ℕ) (ends : ℕ → WorkerValue) (seat : View) : Type 0 where
   pub aware : IsAware seat
   pub every : HasEveryStake seat
@@ -54,7 +54,7 @@ pub record HasHeardAll (threads : ℕ) (ends : ℕ → WorkerValue) (seat : View
   pub sees : (k : ℕ) → k < threads → HasSeenAll (ends k).stock.view seat
 
 -- If a phase follows, the worker of thread k gets its stake back. It is as it was but for its view, which has the same log and has
--- seen what the main seat has; and its lists are the same, each title at its number.
+-- seen what the main seat has. Its lists are the same, each title at its number.
 pub record Hears (k : ℕ) (seat : View) (before after : WorkerValue) : Type 0 where
   pub view : View
   pub same : after ≡ worker_with_view view before
@@ -65,7 +65,7 @@ pub record Hears (k : ℕ) (seat : View) (before after : WorkerValue) : Type 0 w
 -- The first `phases` phases of the trace went so.
 --   begins: at the start each worker is new
 --   plays, lines: in each phase each plays its lines, in order
---   settled: and owes nothing to the totals words at its end
+--   settled: at the end of a phase each owes nothing to the totals words
 --   tells, hears: then all lend their stakes to the main seat, and if a phase follows they get them back
 --   keeps: the main seat forgets nothing
 pub record IsCourse (t : Trace) (phases : ℕ) (c : Course) : Type 0 where

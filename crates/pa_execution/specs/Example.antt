@@ -22,7 +22,7 @@ use Rattle.pa_execution.specs.Merged.{told_in, lists_at}
 use Rattle.pa_execution.specs.Telling.{IsWholeRun}
 use Rattle.pa_execution.specs.Lines.{IsLineBy}
 
--- its trace: one super page, one partition and one thread, with a copy in each of two phases
+-- the trace of the small run: one super page, one partition and one thread, with a copy in each of two phases
 abbrev pub small_trace : Trace
 small_trace = record {
   region = 1;
@@ -57,7 +57,7 @@ small_stock = record { thread = 0; partitions = 1; view = small_view; registers 
 abbrev pub small_worker : List Entry → WorkerValue
 small_worker es = record { stock = small_stock; records = es; room = 2; stopped = false; counts = []; owed = none_owed }
 
--- the line of phase 1, and that of phase 2; the record of each
+-- the line of the op in phase n
 abbrev pub small_line : ℕ → ℕ
 small_line n = if n == 1 then 2 else 4
 
@@ -74,7 +74,7 @@ small_record n = record {
   gives = λ u. seen_of small_view u;
 }
 
--- the records of the phases before, and those up to a phase
+-- the records of the phases before phase n: none, or one
 abbrev pub small_before : ℕ → List Entry
 small_before n = if n == 1 then [] else small_entry 1 ∷ []
 
@@ -112,7 +112,7 @@ small_report n = record {
   decommitted = 0;
 }
 
--- the output of it
+-- the output of the small run
 abbrev pub small_told : Told
 small_told = record {
   entries = small_entry 1 ∷ small_entry 2 ∷ [];
@@ -122,8 +122,8 @@ small_told = record {
   report = small_report 1 ∷ small_report 2 ∷ [];
 }
 
--- It is a whole run's execution, and its report's lines are what its worker counted and the totals words say; so these are right,
--- all layers meet their obligations, and the run is legal.
+-- The small course is a whole run's execution, and its report's lines are what its worker counted and the totals words say. So these
+-- are right, all layers meet their obligations, and the run is legal.
 pub record SmallCourseFits : Type 0 where
   pub run : IsWholeRun small_trace small_told small_course small_seat []
   pub counted : (l : ReportLine) → Contains small_told.report l → IsLineBy small_trace small_course small_seat l

@@ -51,8 +51,8 @@ pub record WorkersTell : Type 0 where
   pub all : (threads : ℕ) (ends : ℕ → WorkerValue) (first seat : View) → HasHeardSome threads threads ends first seat → IsAware seat →
       HasHeardAll threads ends seat
 
--- The next worker gets its stake back: the seat can hand it over, and it fits the worker; then the seat has served one more.
--- And when it has served all threads it is a main seat again.
+-- The next worker gets its stake back: the seat can hand it over, and it fits the worker. The seat has then served one more. When it
+-- has served all threads it is a main seat again.
 pub record WorkersHear : Type 0 where
   pub none : (threads : ℕ) (ends : ℕ → WorkerValue) (first whole : View) → HasHeardSome threads threads ends first whole →
       HasAnswered threads 0 whole whole

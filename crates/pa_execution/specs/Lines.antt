@@ -33,7 +33,7 @@ pub record IsLeftOf (into out : Count → ℕ) (i j p threads : ℕ) (workers : 
       - sum_over (λ k. out (counted_in (workers k).counts p)) threads
   pub bytes : tally.bytes ≡ added_in seat (4 * p + i) - added_in seat (4 * p + j)
 
--- so the tallies of live and of quarantined slots are
+-- the tally of partition p's live slots is what was issued there less what was freed
 abbrev pub IsLiveOf : (p threads : ℕ) → (ℕ → WorkerValue) → View → Tally → Type 0
 IsLiveOf p threads workers seat tally =
     IsLeftOf (λ (n : Count). n.issued) (λ (n : Count). n.freed) 0 1 p threads workers seat tally
@@ -55,7 +55,7 @@ pub record IsLineBy (t : Trace) (c : Course) (v : View) (l : ReportLine) : Type 
   pub cached : IsCachedBy l.partition t.threads (c.ends l.phase) l.cached
   pub root : IsCensusBy (list_of l.partition (c.seats l.phase)) (list_of 4 v) (census_of l)
 
--- Then the line says what all layers require of it.
+-- A line of the report that agrees with the workers and the main seat says what all layers require of it.
 abbrev pub CoursesTellLines : Type 0
 CoursesTellLines =
     (t : Trace) (r : Told) (c : Course) (v : View) (xs : List Exchange) → IsWholeRun t r c v xs →

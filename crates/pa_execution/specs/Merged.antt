@@ -38,7 +38,7 @@ merged_by_lines plays (o ∷ os) = take 1 (plays o.phase o.thread) ++ merged_by_
 abbrev pub told_in : Trace → Course → List ToldRecord
 told_in t c = merged_by_lines c.plays (op_lines 2 1 t.lines)
 
--- the threads' lists at the end of a phase; a thread that the run hasn't has none
+-- The threads' lists at the end of a phase. A thread that the run doesn't have has none.
 abbrev pub lists_at : Trace → Course → ℕ → Caches
 lists_at t c n k = if nat_lt k t.threads then listed_in (c.ends n k).stock else no_caches k
 
@@ -53,12 +53,12 @@ abbrev pub outcome_of : Trace → Told → Outcome
 outcome_of t r =
     record { partitions = t.partitions; roots = r.roots; pools = r.pools; cells = r.cells; sizes = sizes_in t r; homes = homes_in t r }
 
--- The output is what the execution left; `v` is the seat that closes and `xs` are the exchanges.
---   limits: the trace is within its limits
+-- The output is what the execution left. `v` is the seat that closes and `xs` are the exchanges.
+--   limits: the trace is within the limits
 --   entries: the records are those of the execution
 --   pool, fits: the pool's list is its entries in numbers, and they replay
---   lists, journals, past, numbers: so are the roots' lists, each a journal that replays, and there are four; and a root gives a slot
---     out at the number at which it has it
+--   lists, journals, past: so are the roots' lists, each a journal that replays, and there are four
+--   numbers: a root gives a slot out at the number at which it has it
 --   exchanges, cells, chain: the cells' list is the exchanges in numbers, each cell's history is those with it, and each found what
 --     the one before gave
 --   places: the report has one line for each phase and partition, in order

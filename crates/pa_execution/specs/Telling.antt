@@ -17,13 +17,13 @@ use Rattle.pa_cells.specs.Cells.{Exchange}
 use Rattle.pa_execution.specs.Courses.{Course, IsCourse, Closes}
 use Rattle.pa_execution.specs.Merged.{told_in, lists_at, swaps_of, IsLeftBehind}
 
--- A whole run: its execution through all phases, the seat that closes it, and the output is what they left.
+-- A whole run: its execution through all phases, the seat that closes it, and the output that they left.
 pub record IsWholeRun (t : Trace) (r : Told) (c : Course) (v : View) (xs : List Exchange) : Type 0 where
   pub course : IsCourse t (phases_in t.lines) c
   pub closes : Closes (c.seats (phases_in t.lines)) v
   pub left : IsLeftBehind t r v (told_in t c) xs
 
--- Then each layer meets its obligations: the ops of workers, the runner, the pool, the roots and the cells.
+-- the ops of workers meet their obligations in each whole run
 abbrev pub CoursesTellHeap : Type 0
 CoursesTellHeap =
     (t : Trace) (r : Told) (c : Course) (v : View) (xs : List Exchange) → IsWholeRun t r c v xs →
@@ -57,25 +57,25 @@ CoursesLeaveNonePast =
     (t : Trace) (c : Course) (v : View) → IsWithinLimits t → IsCourse t (phases_in t.lines) c → Closes (c.seats (phases_in t.lines)) v →
     (p : ℕ) → t.partitions ≤ p → p < most_partitions → list_of p v ≡ []
 
--- Each worker has the records of its thread so far, in order; and a title that a log segment says was uncut goes back by an
--- entry of the same record. That asks nothing of the close, so the records can be merged before it.
+-- Each worker has the records of its thread so far, in order. A title that a log segment says was uncut goes back by an entry of the
+-- same record. That asks nothing of the close, so the records can be merged before it.
 pub record HaveTheirs (t : Trace) (c : Course) : Type 0 where
   pub records : (n k : ℕ) → 1 ≤ n → n ≤ phases_in t.lines → k < t.threads →
       (c.ends n k).records ≡ map entry_of (played_in (filter (is_of_thread k) (told_until n (told_in t c))))
   pub unmaps : OnlyUnmapsUncut (told_in t c)
 
--- so it is in each execution through all phases of a trace that is within the limits
+-- workers have their records in each execution through all phases of a trace that is within the limits
 abbrev pub WorkersHaveTheirs : Type 0
 WorkersHaveTheirs = (t : Trace) (c : Course) → IsWithinLimits t → IsCourse t (phases_in t.lines) c → HaveTheirs t c
 
--- And if each line of the report is right, by the workers' counts and lists and by the roots, all layers meet all of them.
+-- If each line of the report is right, by the workers' counts and lists and by the roots, all layers meet all their obligations.
 abbrev pub CoursesTellAll : Type 0
 CoursesTellAll =
     (t : Trace) (r : Told) (c : Course) (v : View) (xs : List Exchange) → IsWholeRun t r c v xs →
     ((l : ReportLine) → Contains r.report l → IsLineSaid t r v (told_in t c) (lists_at t c l.phase) (c.seats l.phase) l) →
     LayersSay t r v (told_in t c)
 
--- Then the run has a timeline, if the closing seat has no Own that isn't clean.
+-- A whole run with a right report has a timeline, if the closing seat has no Own that isn't clean.
 abbrev pub CoursesTellTimeline : Type 0
 CoursesTellTimeline =
     (t : Trace) (r : Told) (c : Course) (v : View) (xs : List Exchange) → IsWholeRun t r c v xs →

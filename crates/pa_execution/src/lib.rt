@@ -1,5 +1,5 @@
-//! How a run of several workers went, phase after phase, and that then each layer meets its obligations. Only definitions and
-//! laws; nothing here runs.
+//! How a run of several workers went, phase after phase, and that then each layer meets its obligations. There are only
+//! definitions and laws, and nothing here runs.
 #![tactic(auto)]
 
 mod laws;

@@ -3,8 +3,8 @@ use Rattle.std.proofs.Common.{◌≡◌, ℕ, zero, suc, ◌*◌, ◌<◌, ◌�
 use Rattle.std.specs.Prelude.{All}
 use Rattle.std.proofs.lemmas.List.Elements.{All-weaker}
 use Rattle.std.proofs.lemmas.Bool.{cases_lt}
-use Rattle.pa_machine.specs.declared.title.Title.{Title}
-use Rattle.pa_machine.specs.declared.word.SlotName.{SlotName}
+use Rattle.pa_slot.specs.declared.title.Title.{Title}
+use Rattle.pa_slot.specs.declared.word.SlotName.{SlotName}
 use Rattle.pa_record.specs.declared.history.CellEntry.{CellEntry}
 use Rattle.pa_record.specs.declared.history.Held.TheVariants.{Nothing}
 use Rattle.pa_record.specs.declared.pool.PoolEntry.{PoolEntry}
@@ -106,7 +106,7 @@ root_of l v (suc (suc zero)) roots below = roots.third
 root_of l v (suc (suc (suc zero))) roots below = roots.fourth
 root_of l v (suc (suc (suc (suc p)))) roots below = absurd (omega arith)
 
--- so all lists are what is left
+-- all lists agree with what is left
 pub lists_left : (words : ℕ) (l : Left) (v : View) → JournalsFitPool → LeavesPool words l.pool.items v → LeavesRoots l v →
     LeavesCells l.cells.items v → LeavesLists words v l
 lists_left words l v law pool roots cells =
@@ -128,7 +128,7 @@ lists_left words l v law pool roots cells =
       chain = λ k. cells_chain l.cells.items v k cells;
     }
 
--- and a slot that was made and is with its root is free
+-- a slot that was made and is with its root is free in the closing seat
 pub slots_left : (words : ℕ) (l : Left) (v : View) (p : ℕ) (u : Title) → JournalsFitPool → LeavesPool words l.pool.items v → LeavesRoots l v →
     IsMade (root_left l p) u → (IsNameOut (root_left l p) (name_of u) → ⊥) → 0 < free_of v u
 slots_left words l v p u law pool roots made stays = elim (cases_lt p 4) [
@@ -139,7 +139,7 @@ slots_left words l v p u law pool roots made stays = elim (cases_lt p 4) [
     no_slot : IsMade new_root u → 0 < free_of v u
     no_slot made = let below : made.1.0 < 0 = made.1.1 in absurd (omega arith)
 
--- and the words of the region have each root, as its journal replays
+-- the words of the region have each root, as its journal replays
 pub spans_left : (words : ℕ) (l : Left) (v : View) → JournalsFitPool → LeavesPool words l.pool.items v → LeavesRoots l v → IsEnd l.region v →
     AreSpansIn l.pool.items (journal_left l) l.region
 spans_left words l v law pool roots ends p below =
@@ -147,7 +147,7 @@ spans_left words l v law pool roots ends p below =
     subst (λ (r : Root). HasSpans l.region r) (root_fits p (journal_left l p) l.pool.items v law (pool_list words l.pool.items v pool) left).1
     (spans_stay left.root.view.words l.region left.root.root (keeps_spans p left.root left.kept v l.region left.within ends) left.spans)
 
--- a seat that has every stake still has it after it takes in more; and what it took in, all together
+-- a seat that has every stake still has it after it takes in more
 pub every_on : (v w : View) → TakesOthersIn v w → HasEveryStake v → HasEveryStake w
 every_on v w takes every k below = let has = every k below in let same = takes.stakes k in omega arith
 

@@ -1,7 +1,7 @@
 -- A copy of a handle: what it says.
 use Rattle.std.proofs.Common.{◌≡◌, ℕ, ◌<◌, [], ◌∷◌, length, Some, refl, sym, ap, subst, arith, inl, inr}
 use Rattle.std.specs.Prelude.{slice_set}
-use Rattle.pa_machine.specs.declared.word.Step.TheVariants as steps
+use Rattle.pa_slot.specs.declared.word.Step.TheVariants as steps
 use Rattle.pa_trace.specs.declared.script.Op.TheVariants as ops
 use Rattle.pa_record.specs.declared.entry.Seen.{Seen}
 use Rattle.pa_record.specs.declared.entry.Answer.{Answer}
@@ -33,7 +33,7 @@ use Rattle.pa_op_specs.proofs.Quiet.{quiet_does}
 use Rattle.pa_op_specs.proofs.Refusing.{plain_does}
 use Rattle.pa_thread_state.proofs.Copying.{can_copy, copied}
 
--- the rows: of the first register, by its handle; of the second, which has none
+-- the row of a copy from a register with a handle
 copy_row : (r : StockRegister) (h : Handle) (regs : Regs) (to : ℕ) (answer : Answer) (after : Regs) → HasHandleTo h r →
     CopyToRow (regs to) (name_of h.title) regs to answer after → CopyRow (as_reg r) regs to answer after
 copy_row r h regs to answer after (inl own) row = subst (λ x. CopyRow (as_reg x) regs to answer after) (sym own) row

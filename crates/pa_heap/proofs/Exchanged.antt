@@ -3,8 +3,8 @@ use Rattle.std.proofs.Common.{◌≡◌, ℕ, ◌<◌, ◌≤◌, Bool, true, fa
 use Rattle.std.specs.Prelude.{◌==◌, Contains, nat_lt, filter, slice_get, slice_set, if◌then◌else◌}
 use Rattle.std.proofs.lemmas.List.{append_assoc, length-set, get_or-set_same}
 use Rattle.std.proofs.lemmas.Bool.Decides.{nat_tests}
-use Rattle.pa_machine.specs.declared.title.Title.{Title}
-use Rattle.pa_machine.specs.declared.word.Step.{Step}
+use Rattle.pa_slot.specs.declared.title.Title.{Title}
+use Rattle.pa_slot.specs.declared.word.Step.{Step}
 use Rattle.pa_trace.specs.declared.script.Op.TheVariants as ops
 use Rattle.pa_record.specs.declared.entry.Answer.TheVariants as answers
 use Rattle.pa_record.specs.declared.entry.Seen.{Seen}
@@ -60,7 +60,7 @@ none_given (Ref h) is = absurd is
 none_given Freed is = refl
 none_given Cleared is = refl
 
--- and the register has what was found
+-- the register that has what was found is what the history says
 pub found_is : (found : Option ParkedHandle) → as_reg (found_register found) ≡ reg_of (held_as found)
 found_is None = refl
 found_is (Some p) = go p.own
@@ -98,7 +98,7 @@ entered_is q m n among = go (5 == q) among
     go true among = elim (in_cases m n [] among) [ inl same ↦ sym same | inr none ↦ absurd (not_in_none n none) ]
     go false among = absurd (not_in_none n among)
 
--- it is no step, no look and no uncut of a title, and no addition; and its answer is no other
+-- an entry of the cells' list is no step
 no_step : (m : Made) (t : Title) (step : Step) (found value : ℕ) → Entered 5 m ≡ Counted t step found value → ⊥
 no_step m t step found value e = cc
 
@@ -291,7 +291,7 @@ register_taken : (b d : StockValue) (reg k : ℕ) (found : Option ParkedHandle) 
 register_taken b d reg k found within takes =
     ap (λ (z : StockValue). register_in z.registers k) (takes_is b d reg found takes).1 ∙ set_at b.registers reg k (found_register found) Empty within
 
--- so an exchange does what it should
+-- an exchange does what it should
 pub exchange_does : GiversLackHandles → BeginningsJoin → SeenJoins → FreeNumbersStay → (line cell reg index : ℕ) (given found : Option ParkedHandle)
     (s a b d : StockValue) → IsStock s → reg < 64 → IsAware a.view → IsAware b.view → IsAware d.view → Parks reg given s a →
     SwapsHandles line cell given found index a b → TakesIn reg found b d → DoesOp line (ops.Swap cell reg) (answers.Swapped index) s d
@@ -329,7 +329,7 @@ parks_none s a reg (Some p) within parks =
     subst (λ (z : StockValue). HasNoHandle (register_in z.registers reg)) (sym parks.2)
     (subst HasNoHandle (sym (get_or-set_same s.registers reg Empty Empty within)) tt)
 
--- and the seat has its stake
+-- a thread state that handed a handle over has its stake
 pub parks_stake : GiversLackHandles → (s a : StockValue) (reg : ℕ) (given : Option ParkedHandle) → IsStock s → reg < 64 → HasItsStake s → Parks reg given s a → HasItsStake a
 parks_stake law s a reg given is below stake parks =
     let rests = parks_rests law s a reg given is below parks in

@@ -154,7 +154,7 @@ full_does line size r p j count class s w full is aware now inner bare few makes
         subst (λ n. slice_get o.pools n ≡ Some (take_entry line p count None)) at.index
         (sees.pools at.earlier at.stands.0 full.enters.pool (take_entry line p count None) (at.stands.1 ∙ append_assoc at.earlier (full.enters.pool ∷ []) at.stands.0) at.says)
 
--- so for a class with an empty list
+-- what a refusal does for a class with an empty list
 pub full_class_does : (line size r p j c : ℕ) (s after : StockValue) → FindsNone line p 1 (Some c) s after (Full j) → IsStock s → IsAware s.view → IsAware after.view →
     p < s.partitions → HasNoHandle (register_in s.registers r) → size ≤ greatest_size → IsClassOf (max size 1 + 8) c → titles_in s.caches p c ≡ [] →
     DoesOp line (ops.Alloc r p size) (answers.Full j) s after
@@ -163,7 +163,7 @@ full_class_does line size r p j c s after (full, same) is aware now inner bare f
     (full_does line size r p j 1 (Some c) s after.view full is aware now inner bare few (λ o stands. (r, size, refl, class))
     (λ roots x later is_op only lists. inl (p, c, full.asked, (r, size, is_op, class), ap (numbered_by s.view) empty, only, lists)))
 
--- and for a direct map
+-- what a refusal does for a direct map
 pub full_map_does : (line size r p j : ℕ) (s after : StockValue) → FindsNone line p (shape_of size).supers None s after (Full j) → IsStock s → IsAware s.view → IsAware after.view →
     p < s.partitions → HasNoHandle (register_in s.registers r) → IsDirectSize size → DoesOp line (ops.Alloc r p size) (answers.Full j) s after
 full_map_does line size r p j s after (full, same) is aware now inner bare direct =

@@ -1,13 +1,13 @@
 -- A purge does what it should: partition after partition, and what the op says then.
-use Rattle.std.proofs.Common.{◌≡◌, ℕ, zero, suc, ◌+◌, ◌-◌, ◌<◌, ◌≤◌, Bool, true, false, List, [], ◌∷◌, ◌++◌, length, map, filter, flat_map, None, append_assoc, refl, sym, ◌∙◌, ap, subst, arith, inl, inr}
+use Rattle.std.proofs.Common.{◌≡◌, ℕ, zero, suc, ◌+◌, ◌-◌, ◌<◌, ◌≤◌, Bool, true, false, List, [], ◌∷◌, ◌++◌, length, map, filter, flat_map, append_assoc, refl, sym, ◌∙◌, ap, subst, arith, inl, inr}
 use Rattle.std.specs.Prelude.{◌==◌, nat_lt, if◌then◌else◌, Contains}
 use Rattle.std.specs.List.{filter_map, range_with_len}
 use Rattle.std.proofs.lemmas.List.{append-nil, map-append}
 use Rattle.std.proofs.lemmas.List.Elements.{Contains-append_cases, filter-append, filter_map-append}
 use Rattle.std.proofs.lemmas.Bool.{le-ltb}
 use Rattle.std.proofs.lemmas.Bool.Decides.{nat_tests, eqb_tells}
-use Rattle.pa_machine.specs.declared.title.Title.{Title}
-use Rattle.pa_machine.specs.Titles.{IsWellFormed}
+use Rattle.pa_slot.specs.declared.title.Title.{Title}
+use Rattle.pa_slot.specs.Titles.{IsWellFormed}
 use Rattle.pa_trace.specs.declared.script.Op.TheVariants as ops
 use Rattle.pa_record.specs.declared.entry.Answer.TheVariants as answers
 use Rattle.pa_record.specs.declared.entry.Seen.{Seen}
@@ -17,7 +17,6 @@ use Rattle.pa_record.specs.declared.root.RootAct.{RootAct}
 use Rattle.pa_record.specs.declared.root.RootAct.TheVariants.{Purge}
 use Rattle.pa_record.specs.declared.root.RootEntry.{RootEntry}
 use Rattle.pa_record.specs.Numbers.{root_numbers}
-use Rattle.pa_record.specs.Root.{asked_by}
 use Rattle.pa_lists.proofs.Members.{in_cases, not_in_none, first_in, not_some}
 use Rattle.pa_region.specs.declared.view.Entry.{Entry}
 use Rattle.pa_region.specs.declared.view.Entry.TheVariants.{Entered, Uncut}
@@ -26,6 +25,7 @@ use Rattle.pa_region.specs.Views.{free_of, seen_of, stake_of}
 use Rattle.pa_region.specs.Lists.{entered_in}
 use Rattle.pa_rules.specs.Caches.{gives, purge_acts, listed_slots, all_listed, acts_of}
 use Rattle.pa_rules.specs.Roots.{MakesEntry}
+use Rattle.pa_rules.proofs.Batches.{purge_names_none}
 use Rattle.pa_logs.specs.Touches.{is_touch, touches}
 use Rattle.pa_logs.specs.Indices.{Enters, asks}
 use Rattle.pa_root.specs.Handing.{root_entry, numbered_by}
@@ -42,7 +42,7 @@ use Rattle.pa_op_specs.proofs.Quiet.{same_titles, quiet_record}
 use Rattle.pa_op_specs.proofs.Entered.{Entering, acts_in, entering_none, entering_both, entered_here, entered_elsewhere, makes_each, entered_does}
 use Rattle.pa_op_specs.proofs.Batches.{in_gives, gives_ask_none, acts_back, act_among}
 use Rattle.pa_thread_state.proofs.HandedBack.{gives_enters}
-use Rattle.pa_heap.proofs.Given.{numbers_again, gives_name_none}
+use Rattle.pa_heap.proofs.Given.{numbers_again}
 use Rattle.pa_logs.proofs.Listing.{entered_append}
 
 -- ---- entries of lists are no touches
@@ -61,7 +61,7 @@ no_uncut p (m ∷ ms) t among = elim (in_cases (Entered p m) (Uncut t) (map (Ent
     differ : (m : Made) → Entered p m ≡ Uncut t → ⊥
     differ m e = cc
 
--- the same lists, the same acts
+-- purges of the same lists have the same acts
 acts_same : (xs ys : ℕ → List Numbered) (i n : ℕ) → ((c : ℕ) → xs c ≡ ys c) → purge_acts xs i n ≡ purge_acts ys i n
 acts_same xs ys i zero same = refl
 acts_same xs ys i (suc n) same = ap (λ ms. gives ms ++ purge_acts xs (i + 1) n) (same i) ∙ ap (λ acts. gives (ys i) ++ acts) (acts_same xs ys (i + 1) n same)
@@ -155,17 +155,6 @@ range_same : {A : Type 0} (f g : ℕ → List A) (a n : ℕ) → ((p : ℕ) → 
 range_same f g a zero same = refl
 range_same f g a (suc n) same =
     ap (λ ys. ys ++ flat_map f (range_with_len (a + 1) n)) (same a (omega arith)) ∙ ap (λ ys. g a ++ ys) (range_same f g (a + 1) n (λ p low. same p (omega arith)))
-
--- a purge names no entry of the pool
-purge_names_none : (lists : ℕ → List Numbered) (i n : ℕ) (act : RootAct) → Contains (purge_acts lists i n) act → asked_by act ≡ None
-purge_names_none lists i zero act among = elim (in_cases Purge act [] among) [
-  | inl same ↦ ap asked_by (sym same)
-  | inr none ↦ absurd (not_in_none act none)
-]
-purge_names_none lists i (suc n) act among = elim (Contains-append_cases (gives (lists i)) (purge_acts lists (i + 1) n) act among) [
-  | inl first ↦ gives_name_none (lists i) act first
-  | inr later ↦ purge_names_none lists (i + 1) n act later
-]
 
 pub purging_more : (line n slots more : ℕ) (s now next : StockValue) → IsStock now → Purging line n slots s now → PurgesRoot line n more now next →
     n < s.partitions → n < 4 → Purging line (n + 1) (slots + more) s next

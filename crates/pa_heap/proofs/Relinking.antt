@@ -1,6 +1,6 @@
 -- Stores of links leave what was said of a view: what an op made in logs and lists, and what it gave a register's slot.
 use Rattle.std.proofs.Common.{◌≡◌, ℕ, ◌<◌, List, refl, sym, ap, subst, arith}
-use Rattle.pa_machine.specs.declared.title.Title.{Title}
+use Rattle.pa_slot.specs.declared.title.Title.{Title}
 use Rattle.pa_record.specs.declared.root.RootAct.{RootAct}
 use Rattle.pa_region.specs.declared.view.Entry.{Entry}
 use Rattle.pa_region.specs.declared.view.Entry.TheVariants.{Counted, Looked, Read, Added, Entered, Uncut}

@@ -1,4 +1,4 @@
--- Ops that run out of memory: an allocation that asks a root, a purge that purged so many partitions, and what the worker is then.
+-- Ops that run out of memory: an allocation that asks a root, a purge that purged the first partitions, and what the worker is then.
 use Rattle.std.proofs.Common.{◌≡◌, ℕ, ◌+◌, ◌≤◌, List, [], true, max, refl, sym, ◌∙◌, ap, subst, add-one}
 use Rattle.pa_buckets.specs.Classes.{IsClassOf}
 use Rattle.pa_direct.specs.Shapes.{greatest_size, IsDirectSize}

@@ -3,9 +3,9 @@ use Rattle.std.proofs.Common.{◌≡◌, ℕ, ◌/◌, ◌<◌, List, [], ◌++�
 use Rattle.std.specs.List.{sum_by}
 use Rattle.std.specs.Prelude.{◌==◌}
 use Rattle.std.proofs.lemmas.List.Sums.{sum_by-append}
-use Rattle.pa_machine.specs.declared.title.Title.{Title}
-use Rattle.pa_machine.specs.Titles.{same_title, IsWellFormed}
-use Rattle.pa_machine.specs.Holdings.{one}
+use Rattle.pa_slot.specs.declared.title.Title.{Title}
+use Rattle.pa_slot.specs.Titles.{same_title, IsWellFormed}
+use Rattle.pa_slot.specs.Holdings.{one}
 use Rattle.pa_region.specs.declared.view.Keeper.{Keeper}
 use Rattle.pa_region.specs.declared.view.OwnTitle.{OwnTitle}
 use Rattle.pa_region.specs.declared.view.Stake.{Stake}
@@ -25,7 +25,7 @@ use Rattle.pa_region.proofs.TakeLaws.{left_begins, right_begins, left_known, rig
 use Rattle.pa_heap.specs.Closing.{IsWithin, TakesOthersIn, LeavesPool, LeavesRoot, LeavesWorker}
 use Rattle.pa_thread_state.proofs.Parking.{no_stakes}
 
--- a view has what it has; and what a view has, a view that contains it has
+-- a view has what it has
 pub within_same : (v : View) → IsWithin v v
 within_same v = record {
   frees = λ t. omega arith;
@@ -86,7 +86,7 @@ right_within v w aware both long = record {
       (knows_less (united v w) w q (λ x. let e = (united_parts v w).things x in omega arith) knows, right_known v w q both long knows);
 }
 
--- so a note without stakes is taken in
+-- a note without stakes is taken in
 pub joins : (v w after : View) → after ≡ united v w → CanHost w → IsAware v → IsAware w → IsAware after → length v.words ≡ length w.words →
     TakesOthersIn v after × IsWithin w after
 joins v w after is host aware other both long =

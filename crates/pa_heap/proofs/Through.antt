@@ -1,6 +1,6 @@
 -- A free and a write through a raw_ptr, which only look.
 use Rattle.std.proofs.Common.{◌≡◌, ℕ, ◌<◌, Some, refl, sym, ap, subst, ◌⊎◌, inl, inr}
-use Rattle.pa_machine.specs.Count.{held_of}
+use Rattle.pa_slot.specs.Count.{held_of}
 use Rattle.pa_trace.specs.declared.script.Op.TheVariants as ops
 use Rattle.pa_record.specs.declared.entry.Seen.{Seen}
 use Rattle.pa_record.specs.declared.entry.Answer.{Answer}

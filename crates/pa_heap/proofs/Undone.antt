@@ -31,7 +31,7 @@ undone_none s = record {
   budget = refl;
 }
 
--- it has its stake still
+-- the thread state has its stake still after a handle went out and came back
 pub undone_keeps : (s d : StockValue) → IsUndone s d → HasItsStake s → KeepsItsStake s d
 undone_keeps s d undone stake = record {
   thread = undone.thread;

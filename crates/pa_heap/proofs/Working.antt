@@ -46,7 +46,7 @@ worker_plays line op answer w after records counts owed thread room stopped item
     plays_op line op answer w (record { stock = after; records = records; room = room; stopped = stopped; counts = counts; owed = owed })
     (items ∙ ap (λ k. w.records ++ record { line = line; thread = k; answer = answer } ∷ []) (at ∙ done.same.0)) does counted
 
--- and it goes on
+-- a worker that played an op goes on
 pub worker_goes_on : (line : ℕ) (op : Op) (answer : Answer) (w : WorkerValue) (after : StockValue) (records : List Entry) (counts : List Count)
     (owed : List Owed) (e : Entry) → records ≡ w.records ++ e ∷ [] → CanPlayOp w → DoesOp line op answer w.stock after →
     KeepsOn w (record { stock = after; records = records; room = w.room; stopped = w.stopped; counts = counts; owed = owed })
@@ -77,7 +77,7 @@ covered_after line op answer before after os ps rs does owes less stake covered 
     (λ q. subst (λ (y : Played). owed_in q rs ≤ owed_in q os + owed_by q (step_by y) (bytes_stepped before.registers y.op y.answer)) (sym is) (less q))
     stake covered)
 
--- so if it owes no more than before
+-- a worker that owes no more than before may still add it
 pub covered_still : (line : ℕ) (op : Op) (answer : Answer) (before after : StockValue) (os : List Owed) → DoesOp line op answer before after →
     HasItsStake before → IsCovered os before → IsCovered os after
 covered_still line op answer before after os does stake covered =

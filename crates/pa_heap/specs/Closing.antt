@@ -1,7 +1,7 @@
 -- What a heap leaves when it is closed: one seat has what its parts had, and what they made is listed.
 use Rattle.std.specs.Prelude.{◌≡◌, ℕ, ◌*◌, ◌<◌, ◌≤◌, List, [], length, slice_index, slice_index_or, All}
-use Rattle.pa_machine.specs.declared.title.Title.{Title}
-use Rattle.pa_machine.specs.Links.{AreLinked}
+use Rattle.pa_slot.specs.declared.title.Title.{Title}
+use Rattle.pa_slot.specs.Links.{AreLinked}
 use Rattle.pa_record.specs.declared.history.CellEntry.{CellEntry}
 use Rattle.pa_record.specs.declared.history.Held.TheVariants.{Nothing}
 use Rattle.pa_record.specs.declared.pool.PoolEntry.{PoolEntry}
@@ -56,7 +56,7 @@ pub record LeavesPool (words : ℕ) (entries : List PoolEntry) (after : View) : 
   pub kept : IsPoolKept pool
   pub within : IsWithin pool.view after
 
--- This is the journal of the root of partition p, and the root's seat was taken in. The words that this knew have the root.
+-- This is the journal of the root of partition p, and the root's seat was taken in. The words that this seat knew have the root.
 pub record LeavesRoot (p : ℕ) (journal : List RootEntry) (after : View) : Type 0 where
   pub root : RootState
   pub journal_is : root.journal ≡ journal
@@ -71,21 +71,21 @@ pub record LeavesCells (histories : List (List CellEntry)) (after : View) : Type
   pub kept : IsCells cells
   pub within : IsWithin cells.view after
 
--- a worker that handed its stake over, and its seat was taken in; its lists are linked in the words that this knew
+-- A worker's seat was taken in. The worker's lists are linked in the words that this seat knew.
 pub record LeavesWorker (after : View) (w : WorkerValue) : Type 0 where
   pub stock : IsStock w.stock
   pub links : (p class : ℕ) → AreLinked w.stock.view.words (slot_names (titles_in w.stock.caches p class))
   pub within : IsWithin w.stock.view after
 
--- a worker that handed its stake over has none
+-- the worker handed its stake over and has none
 abbrev pub HasTold : WorkerValue → Type 0
 HasTold w = (k : ℕ) → stake_of w.stock.view k ≡ 0
 
--- the journal of partition p, and the history of cell k; one that isn't there is empty
+-- the journal of partition p, empty if the partition isn't there
 abbrev pub journal_left : Left → ℕ → List RootEntry
 journal_left l p = slice_index_or l.roots p []
 
--- the history of cell k at the end; empty if the cell isn't there
+-- the history of cell k at the end, empty if the cell isn't there
 abbrev pub history_left : Left → ℕ → List CellEntry
 history_left l k = slice_index_or l.cells.items k []
 
@@ -110,7 +110,7 @@ pub record LeavesLists (words : ℕ) (last : View) (left : Left) : Type 0 where
   pub exchanges : (xs : List Exchange) × AreExchanges (list_of 5 last) left.cells.items xs
   pub chain : (k : ℕ) → IsChain Nothing (history_left left k)
 
--- A heap of a region of this many words was closed by a seat that had this view, with these workers; this is left.
+-- A heap of a region of this many words was closed by a seat that had this view, with these workers, and this is left.
 --   last: the view of the seat at the end, into which all others were taken
 --   aware, every, logs, within: it has every stake with the log that the seat had, and has seen what the seat had
 --   ends, long: the region's words are what it knows of them

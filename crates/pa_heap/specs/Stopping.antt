@@ -1,6 +1,6 @@
 -- When an allocation may run out of memory, and what is left of a worker's thread state after a reset, a free or a purge that did.
 use Rattle.std.specs.Prelude.{◌≡◌, ℕ, zero, suc, ◌+◌, ◌<◌, ◌≤◌, [], max}
-use Rattle.pa_machine.specs.declared.word.Step.TheVariants as steps
+use Rattle.pa_slot.specs.declared.word.Step.TheVariants as steps
 use Rattle.pa_buckets.specs.Classes.{IsClassOf}
 use Rattle.pa_direct.specs.Shapes.{greatest_size}
 use Rattle.pa_quarantine.specs.Filling.{poisoned}
@@ -35,7 +35,7 @@ PurgesFirst line zero before after = after ≡ before
 PurgesFirst line (suc n) before after =
     (between : StockValue) × (slots : ℕ) × PurgesFirst line n before between × PurgesRoot line n slots between after
 
--- A purge stopped in a partition of the run; those before it were purged whole.
+-- A purge stopped in a partition of the run. The partitions before it were purged whole.
 pub record StopsPurge (line : ℕ) (before after : StockValue) : Type 0 where
   pub partition : ℕ
   pub among : partition < before.partitions

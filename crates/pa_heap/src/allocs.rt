@@ -16,10 +16,10 @@ use crate::worker::{Worker, enter};
 use pa_buckets::{Class, class_of, raw_of};
 use pa_cells::Handle;
 use pa_direct::{GREATEST_SIZE, shape};
-use pa_machine::{OutOfMemory, Step};
 use pa_record::Answer;
 use pa_region::{Name, counted_steps_leave};
 use pa_root::FillFault;
+use pa_slot::{OutOfMemory, Step};
 use pa_thread_state::{Heap, Stock};
 use std::sync::Wait;
 
@@ -167,7 +167,7 @@ fn alloc_slot<N: Name, R: Wait>(
     }
 }
 
-// The same if the list is empty: it is filled first.
+// An allocation of a slot of a class from an empty list, which is filled first.
 fn alloc_filled<N: Name, R: Wait>(
     stock: &mut Stock<N>,
     rt: &R,

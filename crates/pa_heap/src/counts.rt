@@ -5,10 +5,10 @@ ghost use Rattle.pa_totals.specs.Settled.{none_owed};
 ghost use Rattle.pa_op_specs.specs.Counts.{AreOfSteps, IsOwedBySteps, after_step, owed_after_step, counts_after, owed_after, done_seen, made_seen, owned_in, pointed_in};
 
 use pa_cells::Handle;
-use pa_machine::{Step, Word, refs, returns};
 use pa_op_specs::Count;
 use pa_record::{Answer, Seen};
 use pa_rules::Register;
+use pa_slot::{Step, Word, refs, returns};
 use pa_totals::Owed;
 use pa_trace::MOST_PARTITIONS;
 

@@ -11,11 +11,11 @@ ghost use Rattle.pa_op_specs.specs.Plays.{DoesOp, PlaysOp};
 use crate::counts::owed_none;
 use crate::worker::{Worker, enter};
 use pa_cells::{givers_lack_handles, takers_have_handles};
-use pa_machine::OutOfMemory;
 use pa_record::Answer;
 use pa_region::{
     Name, beginnings_join, free_numbers_stay, kept_numbers_stay, seen_lists_join, seen_numbers_join,
 };
+use pa_slot::OutOfMemory;
 use pa_thread_state::{Heap, Stock};
 use std::sync::Wait;
 

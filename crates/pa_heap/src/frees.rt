@@ -11,10 +11,10 @@ ghost use Rattle.pa_heap.specs.Stopping.{StopsFree};
 use crate::counts::{count_step, done, owe_step, owed_none, owned};
 use crate::worker::{Worker, enter};
 use pa_cells::slots_stay_seen;
-use pa_machine::{OutOfMemory, Step};
 use pa_record::Answer;
 use pa_region::{Name, counted_steps_leave, looks_leave, owns_change, states_are_owns};
 use pa_rules::{Next, looked_free};
+use pa_slot::{OutOfMemory, Step};
 use pa_thread_state::{Heap, Stock};
 use std::sync::Wait;
 
@@ -59,7 +59,7 @@ impl<N: Name> Worker<N> {
     }
 }
 
-// A free of what the register owns, on this line; through a `raw_ptr` it only looks. A slot that its step returns goes to the
+// A free of what the register owns, on this line. Through a `raw_ptr` it only looks. A slot that its step returns goes to the
 // front of its list, which may spill, or back to its root. If it runs out of memory the step remains made.
 fn play_free<N: Name, R: Wait>(
     stock: &mut Stock<N>,

@@ -1,7 +1,7 @@
 //! The workers of a heap, and what they play: each op makes one record, and its contract says what its seat's log and lists got.
 //!
 //! A worker has its thread's state, its records and what it counted of its steps. What an op says of its own seat alone is an
-//! annotated record; the run is legal by the laws over all of them.
+//! annotated record. The run is legal by the laws over all of them.
 #![tactic(auto)]
 
 mod allocs;

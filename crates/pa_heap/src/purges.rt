@@ -9,9 +9,9 @@ ghost use Rattle.pa_heap.specs.Stopping.{StopsPurge};
 
 use crate::counts::owed_none;
 use crate::worker::{Worker, enter};
-use pa_machine::OutOfMemory;
 use pa_record::Answer;
 use pa_region::Name;
+use pa_slot::OutOfMemory;
 use pa_thread_state::{Heap, Stock};
 use std::sync::Wait;
 

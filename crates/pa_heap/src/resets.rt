@@ -11,9 +11,9 @@ ghost use Rattle.pa_heap.specs.Stopping.{StopsReset};
 use crate::counts::{count_step, done, owe_step, owed_none, pointed};
 use crate::worker::{Worker, enter};
 use pa_cells::slots_stay_seen;
-use pa_machine::{OutOfMemory, Step};
 use pa_record::Answer;
 use pa_region::{Name, counted_steps_leave};
+use pa_slot::{OutOfMemory, Step};
 use pa_thread_state::{Heap, Stock};
 use std::sync::Wait;
 

@@ -6,7 +6,7 @@ ghost use Rattle.pa_region.specs.Hands.{left_after, given_after, united};
 ghost use Rattle.pa_region.specs.Lending.{CanHost, stake_parcel};
 ghost use Rattle.pa_rules.specs.Caches.{SameLists, listed_slots};
 ghost use Rattle.pa_rules.specs.Report.{listed_bytes};
-ghost use Rattle.pa_machine.specs.Links.{AreLinked};
+ghost use Rattle.pa_slot.specs.Links.{AreLinked};
 ghost use Rattle.pa_link.specs.Chains.{slot_names};
 ghost use Rattle.pa_op_specs.specs.Stocks.{IsForThread, listed_in, titles_in};
 ghost use Rattle.pa_totals.specs.Settled.{none_owed};
@@ -15,10 +15,10 @@ ghost use Rattle.pa_op_specs.specs.Settling.{settled_worker};
 ghost use Rattle.pa_heap.specs.Closing.{HasTold};
 
 use crate::counts::{START, owed_none};
-use pa_machine::OutOfMemory;
 use pa_op_specs::Count;
 use pa_record::{Answer, Entry, Tally};
 use pa_region::{Name, Note};
+use pa_slot::OutOfMemory;
 use pa_thread_state::{Heap, Stock};
 use pa_totals::Owed;
 use pa_trace::MOST_PARTITIONS;
@@ -108,7 +108,7 @@ impl<N: Name> Worker<N> {
         self.stock.kept();
     }
 
-    /// Adds what it owes to the totals words, in bytes; then it owes nothing.
+    /// Adds what the worker owes to the totals words, in bytes. It owes nothing then.
     pub fn settle(&mut self, heap: &Heap<N>)
         requires stake { HasItsStake self.old.stock }
         ensures settled { self.new ≡ settled_worker self.old }
@@ -117,7 +117,7 @@ impl<N: Name> Worker<N> {
         self.stock.settle_totals(heap.region(), &mut self.owed);
     }
 
-    /// What the type keeps; and its lists are linked in the words that its seat knows. It costs nothing.
+    /// What the worker's type keeps. Its lists are linked in the words that its seat knows. It costs nothing.
     pub fn kept(&self)
         ensures worker { IsWorker self.now }
         ensures links { (p class : ℕ) → AreLinked self.now.stock.view.words (slot_names (titles_in self.now.stock.caches p class)) }
@@ -132,14 +132,14 @@ impl<N: Name> Worker<N> {
         self.stopped
     }
 
-    /// Its records so far, in the order of its lines.
+    /// The worker's records so far, in the order of its lines.
     pub fn records(&self) -> &[Entry]
         ensures { result.now ≡ self.now.records }
     {
         &self.records
     }
 
-    // Its seat, after it handed its stake over.
+    // The worker's seat, after it handed its stake over.
     pub(crate) fn into_note(self) -> Note
         requires { HasTold self }
         ensures region { result.region ≡ N.region }

@@ -9,13 +9,13 @@ ghost use Rattle.pa_op_specs.specs.Plays.{DoesOp, PlaysOp};
 
 use crate::worker::{Worker, enter};
 use pa_cells::Handle;
-use pa_machine::refs;
 use pa_record::Answer;
 use pa_region::{
     Name, Region, counted_steps_leave, filled_words_have_the_value, looks_leave, owns_change,
     states_are_owns,
 };
 use pa_rules::{Next, looked_write};
+use pa_slot::refs;
 use pa_thread_state::{Heap, Stock};
 
 impl<N: Name> Worker<N> {
@@ -32,8 +32,8 @@ impl<N: Name> Worker<N> {
     }
 }
 
-// A write of a value to each word of the slot that the register owns, if no `raw_ptr` points to it; through a
-// `raw_ptr` it only looks. It waits for nobody.
+// A write of a value to each word of the slot that the register owns, if no `raw_ptr` points to it. Through a `raw_ptr` it only
+// looks. It waits for nobody.
 fn write<N: Name>(stock: &mut Stock<N>, region: &Region, reg: u32, value: u64) -> Answer
     requires region { region.now ≡ N.region }
     requires stake { HasItsStake stock.old }

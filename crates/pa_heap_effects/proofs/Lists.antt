@@ -3,8 +3,8 @@ use Rattle.std.proofs.Common.{◌≡◌, ◌≢◌, ℕ, zero, suc, ◌+◌, ◌
 use Rattle.std.specs.Prelude.{Contains, All, AllPairs}
 use Rattle.std.proofs.lemmas.Bool.{cases_eq}
 use Rattle.std.proofs.lemmas.List.{map-append}
-use Rattle.std.proofs.lemmas.List.Elements.{All-tail, All-contains}
-use Rattle.pa_machine.specs.declared.word.SlotName.{SlotName}
+use Rattle.std.proofs.lemmas.List.Elements.{All-contains}
+use Rattle.pa_slot.specs.declared.word.SlotName.{SlotName}
 use Rattle.pa_record.specs.declared.numbered.Numbered.{Numbered}
 use Rattle.pa_record.specs.Root.{Root, names, all_returned, returned, IsOut}
 use Rattle.pa_record.specs.Sound.{IsSound}
@@ -16,7 +16,7 @@ use Rattle.pa_record.proofs.Leaving.{once_or_not}
 use Rattle.pa_rules.proofs.Counted.{times_cons}
 use Rattle.pa_rules.proofs.Totals.{some_times}
 use Rattle.pa_heap_effects.specs.Ops.{AreOut, PartsAreOut, all_of}
-use Rattle.pa_lists.proofs.Elements.{all_front, all_from_members}
+use Rattle.pa_lists.proofs.Elements.{all_front, all_from_members, all_back}
 
 -- ---- slots that differ, by how often each is in the list
 
@@ -55,10 +55,6 @@ names_append xs ys = map-append (λ (n : Numbered). n.slot) xs ys
 parts_out : (r : Root) (xs ys : List Numbered) → AreOut r (xs ++ ys) → All (IsOut r) (names xs ++ names ys) × AllPairs ◌≢◌ (names xs ++ names ys)
 parts_out r xs ys h = (subst (λ z. All (IsOut r) z) (names_append xs ys) h.0, subst (λ z. AllPairs ◌≢◌ z) (names_append xs ys) h.1)
 
-All-right : {A : Type 0} (P : A → Type 0) (xs ys : List A) → All P (xs ++ ys) → All P ys
-All-right P [] ys h = h
-All-right P (x ∷ xs) ys h = All-right P xs ys (All-tail P x (xs ++ ys) h)
-
 front : (r : Root) (xs ys : List Numbered) → AreOut r (xs ++ ys) → AreOut r xs
 front r xs ys h =
     let (out, differ) = parts_out r xs ys h in (
@@ -69,7 +65,7 @@ front r xs ys h =
 behind : (r : Root) (xs ys : List Numbered) → AreOut r (xs ++ ys) → AreOut r ys
 behind r xs ys h =
     let (out, differ) = parts_out r xs ys h in (
-      All-right (IsOut r) (names xs) (names ys) out,
+      all_back (IsOut r) (names xs) (names ys) out,
       once_differ (names ys) (λ s. let a = times_append s (names xs) (names ys) in let b = differ_once s (names xs ++ names ys) differ in omega arith),
     )
 

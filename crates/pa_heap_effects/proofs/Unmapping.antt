@@ -3,8 +3,8 @@ use Rattle.std.proofs.Common.{◌≡◌, ℕ, zero, suc, ◌+◌, ◌<◌, ◌�
 use Rattle.std.specs.Prelude.{Contains, slice_get, option_map}
 use Rattle.std.proofs.lemmas.List.{append-nil}
 use Rattle.std.proofs.lemmas.List.Elements.{Contains-append_left, Contains-append_right, Contains-append_cases}
-use Rattle.pa_machine.specs.declared.title.Title.{Title}
-use Rattle.pa_machine.specs.declared.word.SlotName.{SlotName}
+use Rattle.pa_slot.specs.declared.title.Title.{Title}
+use Rattle.pa_slot.specs.declared.word.SlotName.{SlotName}
 use Rattle.pa_layout.specs.Pages.{page_place, super_page_at, supers_for}
 use Rattle.pa_record.specs.declared.numbered.Numbered.{Numbered}
 use Rattle.pa_record.specs.declared.taken.Taken.{Taken}
@@ -43,7 +43,7 @@ use Rattle.pa_heap_effects.proofs.First.{page_super}
 use Rattle.pa_heap_effects.proofs.Runs.{Moment, WasGiven, run_of, one_first, taken_or_given}
 use Rattle.pa_lists.proofs.Indexed.{slice_get_at}
 use Rattle.pa_rules.proofs.FourPlaces.{left_member}
-use Rattle.pa_machine.proofs.Runs.{slot_parts}
+use Rattle.pa_slot.proofs.Runs.{slot_parts}
 
 -- ---- parts of a journal
 

@@ -1,7 +1,7 @@
 -- What a line of a trace does to the roots and the caches: the run so far, and the effect of the line.
 use Rattle.std.specs.Prelude.{◌≡◌, ℕ, ◌<◌, ◌≤◌, List, [], ◌∷◌, ◌++◌, map, Some, Contains, AllPairs}
 use Rattle.std.specs.List.Sorted.{IsNonDecreasingBy}
-use Rattle.pa_machine.specs.declared.word.SlotName.{SlotName}
+use Rattle.pa_slot.specs.declared.word.SlotName.{SlotName}
 use Rattle.pa_trace.specs.declared.script.Op.TheVariants as ops
 use Rattle.pa_record.specs.declared.entry.Answer.TheVariants as answers
 use Rattle.pa_record.specs.declared.pool.PoolEntry.{PoolEntry}
@@ -16,7 +16,7 @@ use Rattle.pa_rules.specs.Caches.{Cache, Caches, CacheRow, CachesTo, no_caches}
 use Rattle.pa_legal.specs.Numbers.{moves_of, at_end, IsNumbered, AreNumbered}
 use Rattle.pa_legal.specs.Known.{UnmapsNext}
 
--- The acts of a line, by partition; its entries, and the journals with them.
+-- the acts of a line, by partition
 abbrev pub Acts : Type 0
 Acts = ℕ → List RootAct
 
@@ -32,7 +32,7 @@ grown roots line acts p = roots p ++ entries_at line (acts p)
 abbrev pub root_at : List PoolEntry → Journals → ℕ → Root
 root_at pools roots p = root_replayed pools (roots p) new_root
 
--- The root after some acts. They fit if each fits the root after those before it, and names a later entry of the pool.
+-- the root after these acts
 abbrev pub root_after : List PoolEntry → List RootAct → Root → Root
 root_after pools [] r = r
 root_after pools (a ∷ acts) r = root_after pools acts (root_next pools a r)

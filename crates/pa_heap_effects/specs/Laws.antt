@@ -15,7 +15,7 @@ pub record StartsEmpty : Type 0 where
   pub placed : (partitions n : ℕ) → IsPlacedTo partitions n [] [] (λ p. []) (λ t p class. [])
   pub pooled : (supers n : ℕ) → IsPooledTo supers n [] (λ p. [])
 
--- the run with one more line, whose effect this is
+-- a run so far and the effect of its next line make the run up to the line after that
 abbrev pub LineExtends : Type 0
 LineExtends =
     (partitions n : ℕ) (ps : List Played) (x : Played) (pools more : List PoolEntry) (roots : Journals) (acts : Acts) (all : Caches)
@@ -23,7 +23,7 @@ LineExtends =
     IsPlacedTo partitions n ps pools roots all → IsDeed partitions n x pools more roots acts (all x.thread) next →
     IsPlacedTo partitions (n + 1) (ps ++ x ∷ []) (pools ++ more) (grown roots n acts) (with_cache all x.thread next)
 
--- the pool with the entries of one more line
+-- the pool before a line and the line's entries of it make the pool before the next line
 abbrev pub PoolExtends : Type 0
 PoolExtends =
     (supers n : ℕ) (pools more : List PoolEntry) (roots : Journals) (acts : Acts) → IsPooledTo supers n pools roots →

@@ -1,10 +1,10 @@
 -- The effect of each op: what a call of the placement and a change of lists are for the run so far.
 use Rattle.std.specs.Prelude.{◌≡◌, ℕ, zero, suc, ◌+◌, ◌<◌, ◌==◌, ◌≢◌, nat_lt, if◌then◌else◌, List, [], ◌∷◌, ◌++◌, map, length, Option, Some, None, All, AllPairs, Contains}
-use Rattle.pa_machine.specs.declared.title.Title.{Title}
-use Rattle.pa_machine.specs.declared.word.SlotName.{SlotName}
-use Rattle.pa_machine.specs.declared.word.Step.{Step}
-use Rattle.pa_machine.specs.Count.{number_of}
-use Rattle.pa_machine.specs.Run.{IsReturning}
+use Rattle.pa_slot.specs.declared.title.Title.{Title}
+use Rattle.pa_slot.specs.declared.word.SlotName.{SlotName}
+use Rattle.pa_slot.specs.declared.word.Step.{Step}
+use Rattle.pa_slot.specs.Count.{number_of}
+use Rattle.pa_slot.specs.Run.{IsReturning}
 use Rattle.pa_layout.specs.Pages.{super_page_at, supers_for}
 use Rattle.pa_buckets.specs.Limits.{class_count}
 use Rattle.pa_buckets.specs.Bands.{fill_of}
@@ -36,7 +36,7 @@ use Rattle.pa_place.specs.Placed.{FillDid, MapDid}
 use Rattle.pa_heap_effects.specs.Deeds.{Acts, grown, root_at, IsPlacedTo}
 use Rattle.pa_heap_effects.specs.Pooled.{pool_at, IsPooledTo, IsDone, IsSoFar}
 
--- no acts; those of one partition
+-- no acts in any partition
 abbrev pub no_acts : Acts
 no_acts q = []
 
@@ -62,14 +62,14 @@ KeepsLists op (answers.Purged slots) = ⊥
 KeepsLists op (answers.Done seen) = (step : Step) → step_of op ≡ Some step → IsReturning step seen.found.0 → ⊥
 KeepsLists op answer = Unit {0}
 
--- such an answer makes no act and no entry of the pool, and the lists of its thread stay
+-- a line with an answer that keeps the lists makes no act and no entry of the pool, and the lists of its thread stay
 abbrev pub NothingMoves : Type 0
 NothingMoves =
     (supers partitions n : ℕ) (ps : List Played) (x : Played) (pools : List PoolEntry) (roots : Journals) (all : Caches) →
     IsPlacedTo partitions n ps pools roots all → x.line ≡ n → KeepsLists x.op x.answer →
     IsDone supers partitions n x pools [] roots no_acts (all x.thread) (all x.thread)
 
--- the front of a list that isn't empty
+-- an allocation that takes the front of a list that isn't empty makes no act and no entry of the pool
 abbrev pub FrontLeaves : Type 0
 FrontLeaves =
     (supers partitions n p class usable : ℕ) (ps : List Played) (x : Played) (pools : List PoolEntry) (roots : Journals) (all : Caches)
@@ -80,7 +80,7 @@ FrontLeaves =
 
 -- ---- fills and direct maps
 
--- the first of the super pages that a call got, by its slots; the entry of the pool that it made if it asked for `count`
+-- the first of the super pages that a call got, by the first of its slots, or none if it got no slot
 abbrev pub found_by : List Title → Option ℕ
 found_by [] = None
 found_by (t ∷ ts) = Some (super_page_at t.start)
@@ -95,7 +95,7 @@ asked_for n p count titles (Some asked) = record { line = n; partition = p; act 
 abbrev pub HasNumbers : Journals → ℕ → List Numbered → Type 0
 HasNumbers roots p xs = (m : Numbered) (k : ℕ) → Contains xs m → at_end (Some 0) (moves_of (roots p) m.slot) ≡ Some k → m.number ≡ k
 
--- an allocation that finds its list empty, and fills it
+-- an allocation that finds its list empty, and whose fill gets slots, makes one Fill, and takes the front of what it got
 abbrev pub FillIsDone : Type 0
 FillIsDone =
     (supers partitions n p class usable : ℕ) (ps : List Played) (x : Played) (pools : List PoolEntry) (roots : Journals) (all : Caches)
@@ -109,7 +109,7 @@ FillIsDone =
     (all x.thread)
     (with_list (all x.thread) p class rest) after plan
 
--- and one that got none
+-- an allocation that finds its list empty, and whose fill gets no slot, makes one Full, and the lists of its thread stay
 abbrev pub FullIsDone : Type 0
 FullIsDone =
     (supers partitions n p class asked j : ℕ) (ps : List Played) (x : Played) (pools : List PoolEntry) (roots : Journals) (all : Caches)
@@ -121,7 +121,7 @@ FullIsDone =
     IsCalled supers partitions n x pools (asked_for n p 1 [] (Some asked)) roots p (Full (Some class) asked ∷ []) (all x.thread)
     (all x.thread) after plan
 
--- a direct map, and one that got no room
+-- an allocation for which a direct map is made makes one Map, and the lists of its thread stay
 abbrev pub MapIsDone : Type 0
 MapIsDone =
     (supers partitions n p size usable asked : ℕ) (ps : List Played) (x : Played) (pools : List PoolEntry) (roots : Journals)
@@ -163,7 +163,7 @@ pub record Returns (ps : List Played) (x : Played) (seen : Seen) : Type 0 where
 abbrev pub AreOut : Root → List Numbered → Type 0
 AreOut r xs = All (IsOut r) (names xs) × AllPairs ◌≢◌ (names xs)
 
--- a slot of a class becomes the front of its list, and what doesn't stay goes back
+-- a step that returns a slot of a class makes it the front of its list, and what doesn't stay goes back to the root
 abbrev pub ReturnIsDone : Type 0
 ReturnIsDone =
     (supers partitions n p class : ℕ) (ls : List Line) (ps : List Played) (x : Played) (pools : List PoolEntry) (roots : Journals)
@@ -181,12 +181,12 @@ MapsAreTaken =
     IsPlacedTo partitions n ps pools roots all → IsPooledTo supers n pools roots → Contains (root_at pools roots p).maps t →
     (u : Taken) × IsOneTake (pool_at supers pools) (super_page_at t.start) (supers_for t.len) u × IsPartitions pools p u
 
--- a direct map goes back at once
+-- the entry of the pool by which line n gives the super pages of a direct map of partition p back
 abbrev pub unmap_made : ℕ → ℕ → Title → PoolEntry
 unmap_made n p t = record { line = n; partition = p; act = pool.Give (supers_for t.len) (super_page_at t.start) }
 
--- a step that returns a direct map makes one Unmap, at the number that it left, and one give of its super pages to the pool;
--- the lists of its thread stay
+-- a step that returns a direct map makes one Unmap, at the number that it left, and one give of its super pages to the pool,
+-- and the lists of its thread stay
 abbrev pub UnmapIsDone : Type 0
 UnmapIsDone =
     (supers partitions n p : ℕ) (ps : List Played) (x : Played) (pools : List PoolEntry) (roots : Journals) (all : Caches) (seen : Seen)

@@ -1,7 +1,7 @@
 -- What a line does to the pool: at most one entry more, which its only act names.
 use Rattle.std.specs.Prelude.{◌≡◌, ℕ, ◌<◌, List, [], ◌∷◌, length, Some, None, Contains, slice_get}
 use Rattle.std.specs.List.Sorted.{IsNonDecreasingBy}
-use Rattle.pa_machine.specs.Run.{Slots}
+use Rattle.pa_slot.specs.Run.{Slots}
 use Rattle.pa_trace.specs.declared.script.Line.{Line}
 use Rattle.pa_record.specs.declared.pool.PoolEntry.{PoolEntry}
 use Rattle.pa_record.specs.declared.root.RootEntry.{RootEntry}
@@ -32,11 +32,11 @@ pub record IsPooledTo (supers n : ℕ) (pools : List PoolEntry) (roots : Journal
   pub below : (p i j : ℕ) → Names roots p i j → j < length pools
   pub once : (j p q i k : ℕ) → Names roots p i j → Names roots q k j → (p ≡ q) × (i ≡ k)
 
--- no act of the line names an entry of the pool; its only act names the one that was made, which fits
+-- no act of the line names an entry of the pool
 abbrev pub AsksNone : Acts → Type 0
 AsksNone acts = (p : ℕ) (a : RootAct) → Contains (acts p) a → asked_by a ≡ None
 
--- entry e of the pool is the line's and fits; the line has one act in its partition, which names it, and none in any other
+-- Entry e of the pool is the line's and fits. The line has one act in its partition, which names it, and none in any other.
 pub record AsksOnce (supers n : ℕ) (pools : List PoolEntry) (e : PoolEntry) (acts : Acts) : Type 0 where
   pub line : e.line ≡ n
   pub fits : PoolActFits pools e.partition e.act (pool_at supers pools)

@@ -1,6 +1,6 @@
 -- What the roots of all partitions have at once: no two of these titles share a byte.
 use Rattle.std.specs.Prelude.{◌≡◌, ℕ, ◌⊎◌, List, Some, Contains, slice_get}
-use Rattle.pa_machine.specs.declared.title.Title.{Title}
+use Rattle.pa_slot.specs.declared.title.Title.{Title}
 use Rattle.pa_record.specs.declared.pool.PoolEntry.{PoolEntry}
 use Rattle.pa_record.specs.Pool.{IsPool}
 use Rattle.pa_record.specs.Root.{Root, IsJournal, IsTitleOut}

@@ -4,7 +4,7 @@ ghost use Rattle.pa_io.specs.Moves.{Moves, Takes, HasRisen, one_more};
 ghost use Rattle.pa_io.specs.Memory.{SourceState, SinkState};
 
 use crate::traits::{Failed, Sink, Source};
-use pa_machine::OutOfMemory;
+use pa_slot::OutOfMemory;
 use std::alloc::Global;
 use std::marker::Model;
 

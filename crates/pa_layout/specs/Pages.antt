@@ -5,7 +5,7 @@ use Rattle.std.specs.Prelude.{ℕ, ◌+◌, ◌*◌, ◌/◌, ◌%◌}
 abbrev pub super_page_at : ℕ → ℕ
 super_page_at x = x / 2097152
 
--- the partition page of that super page in which it lies
+-- the partition page of its super page in which the byte x of the region lies
 abbrev pub page_at : ℕ → ℕ
 page_at x = x % 2097152 / 16384
 

@@ -4,10 +4,10 @@ use Rattle.std.specs.Prelude.{Contains, AllPairs, ◌==◌}
 use Rattle.std.proofs.lemmas.Bool.{cases_Bool, cases_eq, eq-eqb, ne_eqb, true≢false}
 use Rattle.std.proofs.lemmas.List.Elements.{filter-append}
 use Rattle.std.proofs.lemmas.List.Sums.{sum_by-cons}
-use Rattle.pa_machine.specs.declared.word.SlotName.{SlotName}
-use Rattle.pa_machine.specs.Count.{number_of}
-use Rattle.pa_machine.specs.Run.{Slots, same_slot}
-use Rattle.pa_machine.proofs.Runs.{same_slot_yes}
+use Rattle.pa_slot.specs.declared.word.SlotName.{SlotName}
+use Rattle.pa_slot.specs.Count.{number_of}
+use Rattle.pa_slot.specs.Run.{Slots, same_slot}
+use Rattle.pa_slot.proofs.Runs.{same_slot_yes}
 use Rattle.pa_record.specs.declared.entry.Seen.{Seen}
 use Rattle.pa_record.specs.declared.entry.Answer.TheVariants.{Done}
 use Rattle.pa_record.specs.declared.pool.PoolEntry.{PoolEntry}
@@ -42,7 +42,7 @@ use Rattle.pa_lists.proofs.Indexed.{in_at}
 
 -- ---- ways that fit
 
--- each way has the slot where it needs it
+-- each move finds the slot in the root or away, as it needs it
 abbrev WaysFit : Bool → List Move → Type 0
 WaysFit away [] = Unit {0}
 WaysFit away (m ∷ ms) = (away ≡ not (is_out m.way)) × WaysFit (is_out m.way) ms

@@ -1,7 +1,7 @@
 -- A root's numbers go on when its journal grows.
 use Rattle.std.proofs.Common.{◌≡◌, ℕ, List, [], ◌∷◌, ◌++◌, Option, filter, refl, sym, ◌∙◌, ap, append_assoc, cond, arith}
 use Rattle.std.proofs.lemmas.List.Elements.{filter-append}
-use Rattle.pa_machine.specs.declared.word.SlotName.{SlotName}
+use Rattle.pa_slot.specs.declared.word.SlotName.{SlotName}
 use Rattle.pa_record.specs.declared.root.RootEntry.{RootEntry}
 use Rattle.pa_rules.specs.Holders.{Move, moves_by, Way, Out, Back}
 use Rattle.pa_legal.specs.Numbers.{all_moves, is_of, moves_of, at_after, IsNumbered, at_end, NumbersGrow}

@@ -6,9 +6,9 @@ use Rattle.std.proofs.lemmas.List.{append-nil}
 use Rattle.std.proofs.lemmas.List.Elements.{filter-append}
 use Rattle.std.proofs.lemmas.List.Sums.{sum_by-cons, sum_by-append}
 use Rattle.std.proofs.lemmas.Option.{slice_get-get_or}
-use Rattle.pa_machine.specs.declared.word.SlotName.{SlotName}
-use Rattle.pa_machine.specs.Run.{same_slot}
-use Rattle.pa_machine.proofs.Runs.{same_slot_cases, same_slot_yes, same_slot_no}
+use Rattle.pa_slot.specs.declared.word.SlotName.{SlotName}
+use Rattle.pa_slot.specs.Run.{same_slot}
+use Rattle.pa_slot.proofs.Runs.{same_slot_cases, same_slot_yes, same_slot_no}
 use Rattle.pa_record.specs.declared.numbered.Numbered.{Numbered}
 use Rattle.pa_record.specs.declared.root.RootEntry.{RootEntry}
 use Rattle.pa_record.specs.declared.root.RootAct.{RootAct}
@@ -40,7 +40,7 @@ abbrev pub had : Option ℕ → ℕ
 had None = 0
 had (Some n) = 1
 
--- it goes out and back as its numbers say
+-- a slot goes out and back as its numbers say
 pub walk : (at : Option ℕ) (ms : List Move) → IsNumbered at ms → had at + counted is_back ms ≡ had (at_end at ms) + counted is_out ms
 walk at [] h = refl
 walk at (m ∷ ms) (has, rest) =

@@ -3,8 +3,8 @@ use Rattle.std.proofs.Common.{◌≡◌, ℕ, ◌<◌, ◌≤◌, List, [], Some
 use Rattle.std.specs.Prelude.{Contains}
 use Rattle.std.proofs.lemmas.Bool.{cases_order}
 use Rattle.std.proofs.lemmas.Option.{slice_get-get_or}
-use Rattle.pa_machine.specs.declared.title.Title.{Title}
-use Rattle.pa_machine.specs.declared.word.SlotName.{SlotName}
+use Rattle.pa_slot.specs.declared.title.Title.{Title}
+use Rattle.pa_slot.specs.declared.word.SlotName.{SlotName}
 use Rattle.pa_buckets.specs.Table.{slot_of}
 use Rattle.pa_buckets.proofs.Facts.{IsRow-of, slot_of-rises}
 use Rattle.pa_trace.specs.declared.script.Op.{Op}
@@ -57,7 +57,7 @@ IsMapOf roots p e s len = (asked : ℕ) × Contains (roots p) e × (e.act ≡ Ma
 map_long : (pools : List PoolEntry) (p asked len : ℕ) (s : SlotName) (op : Op) → MakesEntry pools p (Map asked s len) op → 917504 < len
 map_long pools p asked len s op (size, (reg, is, direct), same) = let large = direct.0 in omega arith
 
--- classes whose slots are as long are one
+-- classes with slots of one length are one
 one_length : (c d : ℕ) → c < 59 → d < 59 → slot_of c ≡ slot_of d → c ≡ d
 one_length c d real real' same = elim (cases_order c d) [
   | inl e ↦ e

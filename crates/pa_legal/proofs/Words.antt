@@ -1,13 +1,13 @@
 -- The words of a slot's run are determined by their numbers, and so are its steps.
 use Rattle.std.proofs.Common.{◌≡◌, ℕ, ◌+◌, ◌<◌, List, [], ◌∷◌, Some, refl, sym, ◌∙◌, ap, subst, arith, inl, inr}
 use Rattle.std.specs.Prelude.{Contains, AllPairs}
-use Rattle.pa_machine.specs.declared.word.SlotName.{SlotName}
-use Rattle.pa_machine.specs.declared.word.Step.{Step}
-use Rattle.pa_machine.specs.declared.word.Step.TheVariants.{Issue, Copy, Reset, Free, Write}
-use Rattle.pa_machine.specs.Count.{CanStep, number_of, held_of, refs_of, stepped}
-use Rattle.pa_machine.specs.Run.{Mark, IsFirstAt, IsRunFrom, IsReturning, Slots}
-use Rattle.pa_machine.proofs.Arith.{stepped_is}
-use Rattle.pa_machine.proofs.Runs.{number_stepped}
+use Rattle.pa_slot.specs.declared.word.SlotName.{SlotName}
+use Rattle.pa_slot.specs.declared.word.Step.{Step}
+use Rattle.pa_slot.specs.declared.word.Step.TheVariants.{Issue, Copy, Reset, Free, Write}
+use Rattle.pa_slot.specs.Count.{CanStep, number_of, held_of, refs_of, stepped}
+use Rattle.pa_slot.specs.Run.{Mark, IsFirstAt, IsRunFrom, IsReturning, Slots}
+use Rattle.pa_slot.proofs.Arith.{stepped_is}
+use Rattle.pa_slot.proofs.Runs.{number_stepped}
 use Rattle.pa_lists.proofs.Members.{first_in, later_in, in_cases, of_some}
 use Rattle.pa_rules.specs.declared.played.Played.{Played}
 use Rattle.pa_rules.specs.Played.{mark_of, marks_of}

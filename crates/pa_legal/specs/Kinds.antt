@@ -1,6 +1,6 @@
 -- What a slot is: of one partition, and of one class or a direct map of one length.
 use Rattle.std.specs.Prelude.{◌≡◌, ℕ, List}
-use Rattle.pa_machine.specs.declared.word.SlotName.{SlotName}
+use Rattle.pa_slot.specs.declared.word.SlotName.{SlotName}
 use Rattle.pa_record.specs.declared.pool.PoolEntry.{PoolEntry}
 use Rattle.pa_rules.specs.declared.played.Played.{Played}
 use Rattle.pa_rules.specs.Roots.{Journals, AreRoots, IsPoolOf}

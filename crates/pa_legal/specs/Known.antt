@@ -1,7 +1,7 @@
 -- What is known of a run clause by clause, and what follows from it.
 use Rattle.std.specs.Prelude.{◌≡◌, ◌≢◌, ℕ, ◌+◌, ◌<◌, List, Some, None, Contains, AllPairs}
-use Rattle.pa_machine.specs.Count.{number_of, held_of, refs_of}
-use Rattle.pa_machine.specs.Run.{Mark, Slots}
+use Rattle.pa_slot.specs.Count.{number_of, held_of, refs_of}
+use Rattle.pa_slot.specs.Run.{Mark, Slots}
 use Rattle.pa_trace.specs.declared.script.Trace.{Trace}
 use Rattle.pa_record.specs.declared.entry.Seen.{Seen}
 use Rattle.pa_record.specs.declared.entry.Answer.TheVariants.{Made, Done}
@@ -55,14 +55,14 @@ pub record AreKnown (supers partitions : ℕ) (ps : List Played) (pools : List P
   pub unmaps : (x : Played) → Contains ps x → UnmapsNext roots x
   pub used : (x : Played) → Contains ps x → FindsInUse x
 
--- then each free slot has one holder, as a legal run asks
+-- if what AreKnown asks is known, each free slot has one holder, as a legal run asks
 abbrev pub HoldersFollow : Type 0
 HoldersFollow =
     (supers partitions : ℕ) (ps : List Played) (pools : List PoolEntry) (roots : Journals) →
     AreKnown supers partitions ps pools roots → AreHolders ps roots
 
 -- What is known of a run clause by clause: all that a legal run asks but the titles and the holders, which follow from the
--- rest; and what is said above of a root's numbers, of direct maps that go back and of looks.
+-- rest, and what is said above of a root's numbers, of direct maps that go back and of looks.
 pub record IsKnown (t : Trace) (r : Told) (ps : List Played) : Type 0 where
   pub lines : AreDue t.lines r.entries
   pub cells : AreCells r.cells ps
@@ -78,7 +78,7 @@ pub record IsKnown (t : Trace) (r : Told) (ps : List Played) : Type 0 where
   pub unmaps : (x : Played) → Contains ps x → UnmapsNext r.roots x
   pub used : (x : Played) → Contains ps x → FindsInUse x
 
--- then what the run contains is legal
+-- if what IsKnown asks is known of a run, what the run contains is legal
 abbrev pub LegalFollows : Type 0
 LegalFollows = (t : Trace) (r : Told) → IsKnown t r (records_of t r) → IsLegalTold t r
 
@@ -89,7 +89,7 @@ NewMaps =
     AreRoots partitions ps pools roots → IsPoolOf supers ps pools roots → AllPairs (λ (x y : Played). x.line ≢ y.line) ps →
     Slots (marks_of ps) → AreCaches partitions roots ps → Contains ps x → IsNewMap roots x
 
--- All of this can be met: it is known of each legal run whose looks find words in use.
+-- what IsKnown asks is known of each legal run whose looks find words in use
 abbrev pub LegalIsKnown : Type 0
 LegalIsKnown =
     (t : Trace) (r : Told) → IsLegalTold t r → ((x : Played) → Contains (records_of t r) x → FindsInUse x) →

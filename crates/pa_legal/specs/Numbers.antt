@@ -1,7 +1,7 @@
 -- The numbers at which a root has a slot, by its journal alone.
 use Rattle.std.specs.Prelude.{◌≡◌, ◌≢◌, ℕ, ◌<◌, Bool, List, [], ◌∷◌, ◌++◌, Option, Some, None, Contains, All, AllPairs, filter, flat_map}
-use Rattle.pa_machine.specs.declared.word.SlotName.{SlotName}
-use Rattle.pa_machine.specs.Run.{Slots, same_slot}
+use Rattle.pa_slot.specs.declared.word.SlotName.{SlotName}
+use Rattle.pa_slot.specs.Run.{Slots, same_slot}
 use Rattle.pa_buckets.specs.Limits.{class_count}
 use Rattle.pa_record.specs.declared.numbered.Numbered.{Numbered}
 use Rattle.pa_record.specs.declared.pool.PoolEntry.{PoolEntry}
@@ -17,7 +17,7 @@ use Rattle.pa_rules.specs.Report.{HasWord}
 use Rattle.pa_rules.specs.Flow.{cached_times, busy}
 use Rattle.pa_rules.specs.Holders.{Way, Out, Back, Move, moves_by}
 
--- what a journal does, and what it does with slot s, in order
+-- what a journal does with all slots, in order
 abbrev pub all_moves : List RootEntry → List Move
 all_moves journal = flat_map (λ (e : RootEntry). moves_by e.line e.act) journal
 
@@ -35,7 +35,7 @@ abbrev pub HasAt : Option ℕ → Way → ℕ → Type 0
 HasAt at Out n = at ≡ Some n
 HasAt at Back n = at ≡ None
 
--- the number at which it has the slot after a move: the one at which it came back, none while it is out
+-- the number at which the root has the slot after a move: the one at which it came back, or none while it is out
 abbrev pub at_after : Way → ℕ → Option ℕ
 at_after Out n = None
 at_after Back n = Some n
@@ -45,12 +45,12 @@ abbrev pub IsNumbered : Option ℕ → List Move → Type 0
 IsNumbered at [] = Unit {0}
 IsNumbered at (m ∷ ms) = HasAt at m.way m.number × IsNumbered (at_after m.way m.number) ms
 
--- the number at which it has the slot after these moves
+-- the number at which the root has the slot after these moves
 abbrev pub at_end : Option ℕ → List Move → Option ℕ
 at_end at [] = at
 at_end at (m ∷ ms) = at_end (at_after m.way m.number) ms
 
--- at the start a root has each slot at 0
+-- each slot's moves are numbered in each root, which at the start has the slot at 0
 abbrev pub AreNumbered : Journals → Type 0
 AreNumbered roots = (p : ℕ) (s : SlotName) → IsNumbered (Some 0) (moves_of (roots p) s)
 
@@ -73,7 +73,7 @@ pub record IsCachedOut (pools : List PoolEntry) (roots : Journals) (threads p : 
   pub free : busy w ≡ 0
   pub once : cached_times s all p threads ≡ 1
 
--- This holds for each slot of a list at the end of a run whose records each have a line of its own.
+-- each slot of a list is out of the root, free and nowhere else at the end of a run whose records each have a line of its own
 abbrev pub CachedOut : Type 0
 CachedOut =
     (supers partitions threads p t class w : ℕ) (ps : List Played) (pools : List PoolEntry) (roots : Journals) (all : Caches)

@@ -1,7 +1,7 @@
 -- Handles in registers: which record put them there, and what the owner of a slot finds.
 use Rattle.std.specs.Prelude.{◌≡◌, ◌≢◌, ℕ, ◌<◌, List, Some, Contains}
-use Rattle.pa_machine.specs.Count.{held_of}
-use Rattle.pa_machine.specs.Run.{Mark, Slots}
+use Rattle.pa_slot.specs.Count.{held_of}
+use Rattle.pa_slot.specs.Run.{Mark, Slots}
 use Rattle.pa_trace.specs.declared.script.Trace.{Trace}
 use Rattle.pa_record.specs.declared.history.CellEntry.{CellEntry}
 use Rattle.pa_rules.specs.declared.register.Register.TheVariants.{Empty, Own}
@@ -34,7 +34,7 @@ pub record HaveHandles (cells : ℕ → List CellEntry) (ps : List Played) : Typ
   pub slots : Slots (marks_of ps)
   pub seen : IsSeenInOrder cells ps
 
--- Of each legal run this is known.
+-- what HaveHandles asks is known of each legal run
 abbrev pub LegalHasHandles : Type 0
 LegalHasHandles = (t : Trace) (r : Told) → IsLegalTold t r → HaveHandles r.cells (records_of t r)
 

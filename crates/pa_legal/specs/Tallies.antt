@@ -1,9 +1,9 @@
 -- The tallies of live and quarantined slots, as sums over the steps of some records.
 use Rattle.std.specs.Prelude.{◌≡◌, ◌≢◌, ℕ, ◌+◌, ◌≤◌, ◌==◌, Bool, if◌then◌else◌, List, Contains, AllPairs, sum_by}
-use Rattle.pa_machine.specs.declared.word.SlotName.{SlotName}
-use Rattle.pa_machine.specs.declared.word.Step.{Step}
-use Rattle.pa_machine.specs.Kinds.{issues, frees, enters, leaves}
-use Rattle.pa_machine.specs.Run.{Mark, Slots, IsLive, IsQuarantined}
+use Rattle.pa_slot.specs.declared.word.SlotName.{SlotName}
+use Rattle.pa_slot.specs.declared.word.Step.{Step}
+use Rattle.pa_slot.specs.Kinds.{issues, frees, enters, leaves}
+use Rattle.pa_slot.specs.Run.{Mark, Slots, IsLive, IsQuarantined}
 use Rattle.pa_record.specs.declared.pool.PoolEntry.{PoolEntry}
 use Rattle.pa_record.specs.declared.report.Tally.{Tally}
 use Rattle.pa_rules.specs.declared.played.Played.{Played}
@@ -20,7 +20,7 @@ weight_of test weight ms = sum_by (λ (m : Mark). if at_step test m.found m.step
 abbrev pub AreHomes : Journals → (SlotName → ℕ) → (SlotName → ℕ) → List Mark → Type 0
 AreHomes roots home size ms = (m : Mark) → Contains ms m → HasSize roots (home m.slot) m.slot (size m.slot)
 
--- a slot of partition p weighs 1, or its bytes; any other weighs 0
+-- 1 for a slot of partition p, and 0 for any other
 abbrev pub one_of : (SlotName → ℕ) → ℕ → SlotName → ℕ
 one_of home p s = if home s == p then 1 else 0
 
@@ -45,8 +45,9 @@ pub record IsTallied (supers partitions : ℕ) (ps xs : List Played) (pools : Li
   pub lines : AllPairs (λ (x y : Played). x.line ≢ y.line) xs
   pub slots : Slots (marks_of xs)
 
--- Then a tally is that of the live slots of a partition after these records, or of the quarantined ones. And no more slots were freed
--- than issued, nor left the quarantine than entered it.
+-- If what IsTallied asks is given, what was issued and not freed is the tally of a partition's live slots after these records,
+-- and what entered the quarantine and didn't leave it is that of the quarantined ones. No more slots were freed than issued,
+-- and no more left the quarantine than entered it.
 pub record TalliesFollow : Type 0 where
   pub live : (supers partitions p : ℕ) (ps xs : List Played) (pools : List PoolEntry) (roots : Journals)
       (home size : SlotName → ℕ) (tally : Tally) → IsTallied supers partitions ps xs pools roots →

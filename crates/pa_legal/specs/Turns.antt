@@ -17,7 +17,7 @@ abbrev pub is_with : Holder → Bool
 is_with InRoot = false
 is_with (WithThread t) = true
 
--- the holder that a turn needs, and the one that it makes
+-- the holder that a turn of thread t needs: the root if it takes the slot out, the thread if it gives it back
 abbrev pub needs : Way → ℕ → Holder
 needs Out t = InRoot
 needs Back t = WithThread t
@@ -42,7 +42,7 @@ abbrev pub holder_after : Holder → List Turn → Holder
 holder_after h [] = h
 holder_after h (u ∷ us) = holder_after (makes u.way u.thread) us
 
--- how often a thread has the slot by its holder, once or never; takes it out; and gives it back
+-- 1 if thread t is the holder, and else 0
 abbrev pub has : ℕ → Holder → ℕ
 has t InRoot = 0
 has t (WithThread u) = if u == t then 1 else 0

@@ -64,7 +64,7 @@ pub fn numbers_grow()
     ensures { NumbersGrow }
 {}
 
-/// The law that of each legal run all is known of which the next two laws speak.
+/// The law that all is known of each legal run from which the laws `handles_are_put` and `owners_find_the_bit` follow.
 pub fn legal_has_handles()
     ensures { LegalHasHandles }
 {}

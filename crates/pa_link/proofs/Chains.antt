@@ -6,12 +6,12 @@ use Rattle.std.proofs.lemmas.List.{get_or-set_same, get_or-set_other}
 use Rattle.std.proofs.lemmas.List.Elements.{All-cons, All-head, All-tail, All-map, Contains-get_or}
 use Rattle.pa_lists.proofs.Members.{of_some}
 use Rattle.pa_lists.proofs.Pairs.{pairs_cons, pairs_tail}
-use Rattle.pa_machine.specs.declared.title.Title.{Title}
-use Rattle.pa_machine.specs.declared.word.SlotName.{SlotName}
-use Rattle.pa_machine.specs.Titles.{IsWellFormed}
-use Rattle.pa_machine.specs.Links.{link_number, linked_name, first_word, front_of, link_to, AreLinked}
-use Rattle.pa_machine.proofs.Links.{links_stay, linked_back}
-use Rattle.pa_machine.proofs.Same.{title_is}
+use Rattle.pa_slot.specs.declared.title.Title.{Title}
+use Rattle.pa_slot.specs.declared.word.SlotName.{SlotName}
+use Rattle.pa_slot.specs.Titles.{IsWellFormed}
+use Rattle.pa_slot.specs.Links.{link_number, linked_name, first_word, front_of, link_to, AreLinked}
+use Rattle.pa_slot.proofs.Links.{links_stay, linked_back}
+use Rattle.pa_slot.proofs.Same.{title_is}
 use Rattle.pa_record.specs.Spans.{name_of}
 use Rattle.pa_region.specs.declared.view.View.{View}
 use Rattle.pa_region.specs.Views.{free_of}
@@ -74,7 +74,7 @@ pub elsewhere : LinksElsewhere
 elsewhere words v t u link aware well some has other apart =
     get_or-set_other v.words (t.start / 8) (u.start / 8) link 0 (starts_apart words v t u aware well some has other apart)
 
--- so of all titles of a list in which it isn't
+-- a link that is stored in a title leaves the first words of a list in which that isn't
 pub all_elsewhere : (words : ℕ) (v : View) (t : Title) (link : ℕ) (ts : List Title) → IsAware v → IsWellFormed words t → 0 < free_of v t →
     All (λ (x : Title). x.len ≡ t.len) ts → All (λ x. 0 < free_of v x) ts → (Contains ts t → ⊥) →
     All (λ x. first_word (after_link t link v).words (name_of x) ≡ first_word v.words (name_of x)) ts
@@ -120,7 +120,7 @@ front_is v c (t ∷ rest) name is e =
     let size : t.len ≡ c.slot_len = All-head (λ (x : Title). x.len ≡ c.slot_len) t rest is.sized in
     (rest, ap (λ x. x ∷ rest) (sym (named_again t c.slot_len size) ∙ ap (title_named c.slot_len) same))
 
--- so the seat holds it free
+-- the seat holds the front of a chain free
 pub front_free : (v : View) (c : ChainParts) (ts : List Title) (name : SlotName) → IsChain v c ts → c.head ≡ Some name →
     0 < free_of v (title_named c.slot_len name)
 front_free v c ts name is e =

@@ -4,15 +4,15 @@ use Rattle.std.specs.Prelude.{◌≢◌, ◌↔◌, All, AllPairs, Contains, IsN
 use Rattle.std.specs.Option.{option_to_list}
 use Rattle.std.proofs.lemmas.Bool.{false≢true}
 use Rattle.std.proofs.lemmas.List.{get_or-set_same, get_or-set_other, length-set, length-drop, drop-drop, take_at, drop_at, take_all, drop_all, nil_from_length, map-append, take-append-drop}
-use Rattle.std.proofs.lemmas.List.Elements.{All-head, All-map, All-append, All-drop, All-contains, Contains-append_right}
-use Rattle.pa_lists.proofs.Elements.{all_front, pairs_front, drop_in, all_from_members}
+use Rattle.std.proofs.lemmas.List.Elements.{All-head, All-map, All-append, All-drop, Contains-append_right}
+use Rattle.pa_lists.proofs.Elements.{all_front, pairs_front, drop_in, all_back}
 use Rattle.pa_lists.proofs.Parts.{pairs_across, pairs_after}
 use Rattle.pa_lists.proofs.Members.{first_in}
 use Rattle.pa_lists.proofs.Joined.{pairs_append}
-use Rattle.pa_machine.specs.declared.title.Title.{Title}
-use Rattle.pa_machine.specs.Titles.{IsWellFormed}
-use Rattle.pa_machine.specs.Links.{first_word, front_of, link_to, AreLinked}
-use Rattle.pa_machine.proofs.Links.{links_join}
+use Rattle.pa_slot.specs.declared.title.Title.{Title}
+use Rattle.pa_slot.specs.Titles.{IsWellFormed}
+use Rattle.pa_slot.specs.Links.{first_word, front_of, link_to, AreLinked}
+use Rattle.pa_slot.proofs.Links.{links_join}
 use Rattle.pa_record.specs.Spans.{name_of}
 use Rattle.pa_region.specs.declared.view.View.{View}
 use Rattle.pa_region.specs.Views.{free_of}
@@ -36,7 +36,7 @@ relinked_once t link v has = record {
 pub beside_once : (t : Title) (link : ℕ) (v : View) (ts : List Title) → Contains ts t → SameBeside ts v.words (after_link t link v).words
 beside_once t link v ts inside q others = get_or-set_other v.words (t.start / 8) q link 0 (λ same. others t inside (sym same))
 
--- they leave what is free
+-- links leave what is free
 pub free_same : (v w : View) → Relinked v w → (t : Title) → free_of w t ≡ free_of v t
 free_same v w re t = ap (λ (y : View). free_of y t) re.rest
 
@@ -48,13 +48,9 @@ relinked_more v w x first next = record {
   others = λ q free. next.others q (λ t has. free t (subst (λ n. 0 < n) (free_same v w first t) has)) ∙ first.others q free;
 }
 
--- what a part of a list has
-all_after : {A : Type 0} (P : A → Type 0) (xs ys : List A) → All P (xs ++ ys) → All P ys
-all_after P xs ys all = all_from_members P ys (λ y inside. All-contains P (xs ++ ys) y all (Contains-append_right xs ys y inside))
-
 -- all but the first n of the second part stay
 all_kept : {A : Type 0} (P : A → Type 0) (n : ℕ) (xs ys : List A) → All P (xs ++ ys) → All P (xs ++ drop n ys)
-all_kept P n xs ys all = All-append P xs (drop n ys) (all_front P xs ys all) (All-drop P n ys (all_after P xs ys all))
+all_kept P n xs ys all = All-append P xs (drop n ys) (all_front P xs ys all) (All-drop P n ys (all_back P xs ys all))
 
 pairs_kept : {A : Type 0} (R : A → A → Type 0) (n : ℕ) (xs ys : List A) → AllPairs R (xs ++ ys) → AllPairs R (xs ++ drop n ys)
 pairs_kept R n xs ys all =
@@ -99,7 +95,7 @@ next_of zero xs rest x is = (ap (take 1) is, ap (drop 1) is)
 next_of (suc n) [] rest x is = absurd cc
 next_of (suc n) (y ∷ xs) rest x is = let more = next_of n xs rest x is in (ap (λ zs. y ∷ zs) more.0, more.1)
 
--- so many were taken off the front
+-- `n` titles were taken off the front
 pub record AreTaken (v : View) (c : ChainParts) (n : ℕ) (items ts : List Title) : Type 0 where
   pub batch : items ≡ take n ts
   pub chain : IsChain v c (drop n ts)
@@ -161,11 +157,11 @@ joined words v w c d keep last before rest aware well long is tail size count e 
     after = after_link last (link_to d.head) v
 
     size_last : last.len ≡ c.slot_len
-    size_last = All-head (λ (x : Title). x.len ≡ c.slot_len) last [] (all_after (λ (x : Title). x.len ≡ c.slot_len) before (last ∷ [])
+    size_last = All-head (λ (x : Title). x.len ≡ c.slot_len) last [] (all_back (λ (x : Title). x.len ≡ c.slot_len) before (last ∷ [])
         (all_front (λ (x : Title). x.len ≡ c.slot_len) front rest is.sized))
 
     has : 0 < free_of v last
-    has = All-head (λ x. 0 < free_of v x) last [] (all_after (λ x. 0 < free_of v x) before (last ∷ []) (all_front
+    has = All-head (λ x. 0 < free_of v x) last [] (all_back (λ x. 0 < free_of v x) before (last ∷ []) (all_front
         (λ x. 0 < free_of v x) front rest is.free))
 
     alike : (us : List Title) → All (λ (x : Title). x.len ≡ c.slot_len) us → All (λ (x : Title). x.len ≡ last.len) us
@@ -204,9 +200,9 @@ pub last_free : (v : View) (c e : ChainParts) (keep : ℕ) (last : Title) (ts : 
     IsSkipped v e keep (Some last) ts → 0 < free_of v last
 last_free v c e keep last ts is so =
     let P : Title → Type 0 = λ x. 0 < free_of v x in
-    All-head P last [] (all_after P so.before (last ∷ []) (all_front P (so.before ++ last ∷ []) so.rest (subst (All P) so.parts is.free)))
+    All-head P last [] (all_back P so.before (last ∷ []) (all_front P (so.before ++ last ∷ []) so.rest (subst (All P) so.parts is.free)))
 
--- and no word beside the first one of it is another
+-- the link that ends a skipped part changes no word beside the first one of its last title
 pub cut_beside : (v : View) (c : ChainParts) (keep link : ℕ) (last : Title) (ts : List Title) → IsSkipped v c keep (Some last) ts →
     SameBeside (take keep ts) v.words (after_link last link v).words
 cut_beside v c keep link last ts so =
@@ -232,7 +228,7 @@ cut_some words v w c d e keep last items ts aware well long is so taken size sto
           (λ us. IsChain v c us) so.parts is) off.1 size so.counted stored),
     )
 
--- the same where none was skipped
+-- the titles that are taken off, if none was skipped
 pub cut_none : (v : View) (d e : ChainParts) (keep : ℕ) (items ts : List Title) → IsSkipped v e keep None ts →
     ((us : List Title) → IsChain v e us → (items ≡ take 16 us) × IsChain v d (drop 16 us)) →
     (items ≡ take 16 (drop keep ts)) × IsChain v d (take keep ts ++ drop (keep + 16) ts)

@@ -1,17 +1,17 @@
 -- Chains, as contracts see them: the list of titles that a chain has in a view, and what stores of links leave of a view.
 use Rattle.std.specs.Prelude.{◌≡◌, ◌≢◌, ℕ, zero, suc, ◌/◌, ◌^◌, ◌<◌, List, [], ◌∷◌, ◌++◌, length, map, true, IsNone, All, AllPairs, Contains, Option, Some, None, slice_index, slice_set}
 use Rattle.std.specs.Option.{option_to_list}
-use Rattle.pa_machine.specs.declared.title.Title.{Title}
-use Rattle.pa_machine.specs.declared.word.SlotName.{SlotName}
-use Rattle.pa_machine.specs.Titles.{IsWellFormed}
-use Rattle.pa_machine.specs.Links.{linked_name, first_word, front_of, AreLinked}
+use Rattle.pa_slot.specs.declared.title.Title.{Title}
+use Rattle.pa_slot.specs.declared.word.SlotName.{SlotName}
+use Rattle.pa_slot.specs.Titles.{IsWellFormed}
+use Rattle.pa_slot.specs.Links.{linked_name, first_word, front_of, AreLinked}
 use Rattle.pa_record.specs.Spans.{name_of}
 use Rattle.pa_region.specs.declared.view.View.{View}
 use Rattle.pa_region.specs.Views.{free_of}
 use Rattle.pa_region.specs.Aware.{IsAware}
 use Rattle.pa_link.specs.declared.chain.ChainParts.{ChainParts}
 
--- the title of this many bytes that has this name; the names of titles, in their order
+-- the title of this many bytes that has this name
 abbrev pub title_named : ℕ → SlotName → Title
 title_named slot_len s = record { start = s.start; len = slot_len; born = s.born }
 
@@ -30,8 +30,8 @@ pub record IsChain (v : View) (c : ChainParts) (ts : List Title) : Type 0 where
   pub different : AllPairs ◌≢◌ ts
   pub links : AreLinked v.words (slot_names ts)
 
--- So many titles came off the front of a list, the last of them this one, and the chain has the rest: the list is those
--- before the last one, the last one, and the rest.
+-- `count` titles came off the front of a list, the last of them this one, and the chain has the rest. The list is those before the
+-- last one, the last one, and the rest.
 pub record IsSkipped (v : View) (c : ChainParts) (count : ℕ) (last : Option Title) (ts : List Title) : Type 0 where
   pub before : List Title
   pub rest : List Title

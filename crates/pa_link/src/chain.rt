@@ -1,15 +1,15 @@
 ghost use Rattle.std.specs.Prelude.{◌≡◌, ◌↔◌, ◌+◌, ◌-◌, ◌<◌, ◌≤◌, List, ◌∷◌, ◌++◌, take, drop, Contains, IsNone, Some, None};
 ghost use Rattle.std.specs.Option.{option_to_list};
-ghost use Rattle.pa_machine.specs.declared.title.Title.{Title};
-ghost use Rattle.pa_machine.specs.Links.{link_to, linked_name, first_word};
+ghost use Rattle.pa_slot.specs.declared.title.Title.{Title};
+ghost use Rattle.pa_slot.specs.Links.{link_to, linked_name, first_word};
 ghost use Rattle.pa_record.specs.Spans.{name_of};
 ghost use Rattle.pa_region.specs.Views.{free_of};
 ghost use Rattle.pa_link.specs.Chains.{IsChain, IsSkipped, Relinked, SameBeside, after_link};
 
 use crate::link::{link_of, load_link, store_link};
 use arrayvec::ArrayVec;
-use pa_machine::{SlotName, Title};
 use pa_region::{Region, Seat};
+use pa_slot::{SlotName, Title};
 use std::marker::Model;
 
 // How many titles go back to a root at once.
@@ -23,8 +23,8 @@ pub struct ChainParts {
     pub len: u32,
 }
 
-/// A list of free slots of one size, each of which has the link to the next one in its first content word. Contracts see
-/// it as its parts; which titles it has, a view says (`IsChain`). The seat that is given to its calls holds these free.
+/// A list of free slots of one size, each of which has the link to the next one in its first content word. Contracts see it as
+/// its parts. Which titles it has, a view says (`IsChain`). The seat that is given to its calls holds these free.
 #[derive(Drop)]
 pub struct Chain {
     parts: ChainParts,
@@ -62,7 +62,7 @@ impl Chain {
         self.parts.len
     }
 
-    /// Its parts. It has no front exactly if its length is 0.
+    /// The parts of the chain. It has no front exactly if its length is 0.
     pub fn parts(&self) -> ChainParts
         ensures same { result ≡ self.now }
         ensures none { IsNone result.head ↔ (result.len ≡ 0) }

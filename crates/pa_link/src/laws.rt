@@ -1,5 +1,5 @@
 //! What chains keep, as laws: calls that do nothing, and whose clauses are proved.
-ghost use Rattle.pa_machine.specs.Links.{LinksStay};
+ghost use Rattle.pa_slot.specs.Links.{LinksStay};
 ghost use Rattle.pa_link.specs.Chains.{ChainsAreListed, ChainsStay, LinksElsewhere};
 
 /// A list stays linked in other words that have the same first word for each of its slots.

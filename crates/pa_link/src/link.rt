@@ -1,11 +1,11 @@
 ghost use Rattle.std.specs.Prelude.{◌≡◌, ◌<◌};
-ghost use Rattle.pa_machine.specs.Links.{link_to, linked_name, first_word};
+ghost use Rattle.pa_slot.specs.Links.{link_to, linked_name, first_word};
 ghost use Rattle.pa_record.specs.Spans.{name_of};
 ghost use Rattle.pa_region.specs.Views.{free_of};
 ghost use Rattle.pa_link.specs.Chains.{after_link};
 
-use pa_machine::{SlotName, Title};
 use pa_region::{Region, Seat};
+use pa_slot::{SlotName, Title};
 
 // The link to the front of a list: 0 if there is none.
 pub(crate) fn link_of(front: Option<SlotName>) -> u64

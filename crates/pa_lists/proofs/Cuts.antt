@@ -44,7 +44,7 @@ last_split (x ∷ xs) z (u ∷ us) m vs e =
       | inr (ws, within, back) ↦ inr (ws, ap (λ w. w ∷ xs) same ∙ ap (λ zs. u ∷ zs) within, back)
     ]
 
--- a member of two lists, one behind the other, is in the first of them or in the second
+-- a member of two lists, one after the other, is in the first of them or in the second
 pub append_cut : {A : Type 0} (ws zs before after : List A) (y : A) → ws ++ zs ≡ before ++ y ∷ after →
     ((vs : List A) × (ws ≡ before ++ y ∷ vs)) ⊎ ((us : List A) × (before ≡ ws ++ us) × (zs ≡ us ++ y ∷ after))
 append_cut [] zs before after y e = inr (before, refl, e)
@@ -84,7 +84,7 @@ pairs_cuts S (x ∷ xs) h =
 
 -- ---- first parts that grow
 
--- a list whose map is in two parts is so too
+-- a list whose map is in two parts is in two parts itself
 pub map_front : {A B : Type 0} (f : A → B) (xs : List A) (ys zs : List B) → map f xs ≡ ys ++ zs → (map f (take (length ys) xs) ≡ ys) × (xs ≡ take (length ys) xs ++ drop (length ys) xs)
 map_front f xs [] zs e = (refl, refl)
 map_front f [] (y ∷ ys) zs e = absurd cc

@@ -44,6 +44,11 @@ pub all_front : {A : Type 0} (P : A → Type 0) (xs ys : List A) → All P (xs +
 all_front P [] ys h = All-nil P
 all_front P (x ∷ xs) ys h = All-cons P x xs (All-head P x (xs ++ ys) h) (all_front P xs ys (All-tail P x (xs ++ ys) h))
 
+-- what all of a list have the second part of it has
+pub all_back : {A : Type 0} (P : A → Type 0) (xs ys : List A) → All P (xs ++ ys) → All P ys
+all_back P [] ys h = h
+all_back P (x ∷ xs) ys h = all_back P xs ys (All-tail P x (xs ++ ys) h)
+
 pub pairs_front : {A : Type 0} (R : A → A → Type 0) (xs ys : List A) → AllPairs R (xs ++ ys) → AllPairs R xs
 pairs_front R [] ys h = pairs_none R
 pairs_front R (x ∷ xs) ys h = pairs_cons R x xs (λ y among. pairs_head R x y (xs ++ ys) h (Contains-append_left xs ys y among)) (pairs_front R xs ys (pairs_tail R x (xs ++ ys) h))

@@ -1,5 +1,5 @@
 -- The members of a list by their places, and lists that agree index by index.
-use Rattle.std.proofs.Common.{◌≡◌, ℕ, zero, suc, List, [], ◌∷◌, ◌++◌, take, drop, map, Option, Some, None, refl, sym, ◌∙◌, ap, subst, inl, inr, length, ◌≤◌, ◌+◌}
+use Rattle.std.proofs.Common.{◌≡◌, ℕ, zero, suc, List, [], ◌∷◌, ◌++◌, take, drop, map, Option, Some, None, refl, sym, ◌∙◌, ap, subst, inl, inr, length, ◌≤◌, ◌<◌, ◌+◌, ◌⊎◌, get_or, arith}
 use Rattle.std.specs.Prelude.{Contains, slice_get, option_map}
 use Rattle.std.proofs.lemmas.Option.{slice_get-map, slice_get_past}
 use Rattle.pa_lists.proofs.Members.{not_in_none, first_in, later_in, in_cases, of_some, not_some}
@@ -69,3 +69,25 @@ none_past xs i x past at = not_some x (sym (slice_get_past xs i past) ∙ at)
 pub slice_get_at : {A : Type 0} (xs ys : List A) (x : A) → slice_get (xs ++ x ∷ ys) (length xs) ≡ Some x
 slice_get_at [] ys x = refl
 slice_get_at (z ∷ zs) ys x = slice_get_at zs ys x
+
+-- each place below the length has an element
+pub element_at : {A : Type 0} (xs : List A) (i : ℕ) → i < length xs → (x : A) × (slice_get xs i ≡ Some x)
+element_at [] i below = absurd (omega arith)
+element_at (x ∷ xs) zero below = (x, refl)
+element_at (x ∷ xs) (suc i) below = element_at xs i (omega arith)
+
+-- get_or gives the element at such a place
+pub here_is : {A : Type 0} (xs : List A) (i : ℕ) (d : A) → i < length xs → slice_get xs i ≡ Some (get_or xs i d)
+here_is [] i d below = absurd (omega (arith, below))
+here_is (x ∷ xs) zero d below = refl
+here_is (x ∷ xs) (suc i) d below = here_is xs i d (omega (arith, below))
+
+-- what is at a place of a list with one element more
+pub push_at : {A : Type 0} (xs : List A) (x y : A) (i : ℕ) → slice_get (xs ++ x ∷ []) i ≡ Some y → (slice_get xs i ≡ Some y) ⊎ ((i ≡ length xs) × (x ≡ y))
+push_at [] x y zero at = inr (refl, of_some x y at)
+push_at [] x y (suc i) at = absurd (not_some y at)
+push_at (z ∷ zs) x y zero at = inl at
+push_at (z ∷ zs) x y (suc i) at = elim (push_at zs x y i at) [
+  | inl early ↦ inl early
+  | inr (last, same) ↦ inr (ap suc last, same)
+]

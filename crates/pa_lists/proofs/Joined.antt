@@ -43,6 +43,7 @@ filter_in test (y ∷ ys) x among passes = elim (cases_Bool (test y)) [
   ]
 ]
 
+-- a first member that passes the test is the first that is kept
 pub filter_here : {A : Type 0} (test : A → Bool) (x : A) (xs : List A) → test x ≡ true → filter test (x ∷ xs) ≡ x ∷ filter test xs
 filter_here test x xs is = rw is refl
 

@@ -59,6 +59,7 @@ find_some test (y ∷ ys) x among passes = elim (cases_Bool (test y)) [
 abbrev pub has : ℕ → List ℕ → Bool
 has n xs = list_any (eqb n) xs
 
+-- each member is found
 pub has-true : (n : ℕ) (xs : List ℕ) → Contains xs n → has n xs ≡ true
 has-true n [] among = absurd (not_in_none n among)
 has-true n (x ∷ xs) among = elim (in_cases x n xs among) [

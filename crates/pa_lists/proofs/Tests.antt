@@ -18,6 +18,7 @@ one_more t = omega arith
 pub times_whole : (x n : ℕ) → x % 8 ≡ 0 → (x * n) % 8 ≡ 0
 times_whole x n e = let none : (0 * n) % 8 ≡ 0 = omega arith in sym (mul-mod_first x n 8) ∙ ap (λ k. (k * n) % 8) e ∙ none
 
+-- if two tests are met together, each of them is
 pub both_true : (a b : Bool) → (a && b) ≡ true → (a ≡ true) × (b ≡ true)
 both_true true b e = (refl, e)
 both_true false b e = absurd cc

@@ -57,7 +57,7 @@ lines_due partitions threads n phase (Do thread op ∷ ls) a within among =
           record { thread = again.thread; op = again.op; low = low; high = omega arith }
     ]
 
--- so it is of the records of the trace
+-- a record is within what the trace allows
 pub record IsWithin (t : Trace) (x : Played) : Type 0 where
   pub thread : x.thread < t.threads
   pub op : IsOpWithin t.partitions x.op

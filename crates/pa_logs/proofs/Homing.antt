@@ -3,13 +3,13 @@ use Rattle.std.proofs.Common.{◌≡◌, ℕ, zero, suc, ◌<◌, true, List, []
 use Rattle.std.specs.Prelude.{Contains}
 use Rattle.std.specs.List.{list_any}
 use Rattle.std.proofs.lemmas.Bool.{true≢false, cases_Bool, cases_eq, or_cases, both_ways}
-use Rattle.pa_machine.specs.declared.title.Title.{Title}
-use Rattle.pa_machine.specs.declared.word.SlotName.{SlotName}
-use Rattle.pa_machine.specs.declared.word.Step.{Step}
-use Rattle.pa_machine.specs.declared.word.Step.TheVariants as steps
-use Rattle.pa_machine.specs.Count.{CanStep, number_of, held_of, refs_of}
-use Rattle.pa_machine.specs.Run.{Mark, IsFirstAt, IsRunFrom, IsOneRun, same_slot}
-use Rattle.pa_machine.proofs.Runs.{same_slot_eq, same_slot_yes, issue_first}
+use Rattle.pa_slot.specs.declared.title.Title.{Title}
+use Rattle.pa_slot.specs.declared.word.SlotName.{SlotName}
+use Rattle.pa_slot.specs.declared.word.Step.{Step}
+use Rattle.pa_slot.specs.declared.word.Step.TheVariants as steps
+use Rattle.pa_slot.specs.Count.{CanStep, number_of, held_of, refs_of}
+use Rattle.pa_slot.specs.Run.{Mark, IsFirstAt, IsRunFrom, IsOneRun, same_slot}
+use Rattle.pa_slot.proofs.Runs.{same_slot_eq, same_slot_yes, issue_first}
 use Rattle.pa_buckets.specs.Table.{slot_of}
 use Rattle.pa_record.specs.declared.entry.Seen.{Seen}
 use Rattle.pa_record.specs.declared.entry.Answer.TheVariants as answers

@@ -2,12 +2,12 @@
 use Rattle.std.proofs.Common.{◌≡◌, ℕ, ◌+◌, ◌<◌, Bool, List, [], ◌∷◌, ◌++◌, Option, Some, None, refl, sym, ◌∙◌, ap, subst, inl, inr}
 use Rattle.std.specs.Prelude.{Contains}
 use Rattle.std.proofs.lemmas.List.Elements.{Contains-append_right, Contains-append_cases}
-use Rattle.pa_machine.specs.declared.title.Title.{Title}
-use Rattle.pa_machine.specs.declared.word.SlotName.{SlotName}
-use Rattle.pa_machine.specs.declared.word.Step.{Step}
-use Rattle.pa_machine.specs.declared.word.Step.TheVariants as steps
-use Rattle.pa_machine.specs.Count.{held_of, refs_of}
-use Rattle.pa_machine.specs.Run.{Mark}
+use Rattle.pa_slot.specs.declared.title.Title.{Title}
+use Rattle.pa_slot.specs.declared.word.SlotName.{SlotName}
+use Rattle.pa_slot.specs.declared.word.Step.{Step}
+use Rattle.pa_slot.specs.declared.word.Step.TheVariants as steps
+use Rattle.pa_slot.specs.Count.{held_of, refs_of}
+use Rattle.pa_slot.specs.Run.{Mark}
 use Rattle.pa_region.specs.declared.view.Entry.{Entry}
 use Rattle.pa_region.specs.declared.view.Entry.TheVariants.{Counted, Looked, Read}
 use Rattle.pa_trace.specs.declared.script.Op.{Op}
@@ -62,7 +62,7 @@ look_alone t u found es p w v told among = none_there es (Looked t found ∷ [])
 nothing_there : (u : Title) (es : List Entry) (p : Step) (w v : ℕ) → touches es ≡ [] → Contains es (Counted u p w v) → ⊥
 nothing_there u es p w v is among = none_there es [] u p w v is (λ h. not_in_none _ h) among
 
--- so for a read
+-- a log segment with a read has the look before it
 read_look : (t : Title) (place found value : ℕ) (owned : Bool) (es : List Entry) → IsReadTold t place found value owned es → Contains es (Looked t found)
 read_look t place found value owned es told = rw told.pair (first_in (Looked t found) (Read t place value told.since owned told.unclean ∷ told.rest))
 

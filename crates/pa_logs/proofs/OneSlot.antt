@@ -1,10 +1,10 @@
 -- A slot's steps by its history: each number's step, its record and its mark.
 use Rattle.std.proofs.Common.{◌≡◌, ℕ, ◌+◌, ◌<◌, ◌≤◌, List, ◌∷◌, length, Option, Some, None, IsSome, refl, sym, ◌∙◌, ap, subst, arith, rules}
 use Rattle.std.specs.Prelude.{Contains}
-use Rattle.pa_machine.specs.declared.word.SlotName.{SlotName}
-use Rattle.pa_machine.specs.declared.word.Step.{Step}
-use Rattle.pa_machine.specs.Count.{CanStep, number_of}
-use Rattle.pa_machine.specs.Run.{Mark, IsFirstAt}
+use Rattle.pa_slot.specs.declared.word.SlotName.{SlotName}
+use Rattle.pa_slot.specs.declared.word.Step.{Step}
+use Rattle.pa_slot.specs.Count.{CanStep, number_of}
+use Rattle.pa_slot.specs.Run.{Mark, IsFirstAt}
 use Rattle.pa_lists.proofs.Members.{of_some}
 use Rattle.pa_region.specs.History.{Done, IsLegal}
 use Rattle.pa_region.specs.Contents.{up_to, word_at_number}

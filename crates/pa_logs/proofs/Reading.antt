@@ -3,15 +3,16 @@ use Rattle.std.proofs.Common.{◌≡◌, ℕ, ◌+◌, ◌<◌, ◌≤◌, Bool,
 use Rattle.std.specs.Prelude.{Contains}
 use Rattle.std.specs.List.{sum_by}
 use Rattle.std.proofs.lemmas.Bool.{cases_lt, cases_Bool, le-leb, leb-true}
-use Rattle.pa_machine.specs.declared.word.SlotName.{SlotName}
-use Rattle.pa_machine.specs.declared.word.Step.{Step}
-use Rattle.pa_machine.specs.declared.word.Step.TheVariants.{Issue, Free}
-use Rattle.pa_machine.specs.Count.{number_of, held_of}
-use Rattle.pa_machine.specs.Titles.{poison}
+use Rattle.pa_slot.specs.declared.word.SlotName.{SlotName}
+use Rattle.pa_slot.specs.declared.word.Step.{Step}
+use Rattle.pa_slot.specs.declared.word.Step.TheVariants.{Issue, Free}
+use Rattle.pa_slot.specs.Count.{number_of, held_of}
+use Rattle.pa_slot.specs.Titles.{poison}
 use Rattle.pa_trace.specs.declared.script.Op.TheVariants as ops
 use Rattle.pa_record.specs.declared.entry.Seen.{Seen}
 use Rattle.pa_record.specs.declared.entry.Answer.TheVariants as answers
 use Rattle.pa_lists.proofs.Joined.{map_cases, map_in, filter_cases, filter_in}
+use Rattle.pa_legal.proofs.owners.Using.{free_op}
 use Rattle.pa_region.specs.declared.view.Entry.{Entry}
 use Rattle.pa_region.specs.declared.view.Entry.TheVariants.{Counted, Looked, Read}
 use Rattle.pa_region.specs.declared.view.Stake.{Stake}
@@ -40,7 +41,7 @@ use Rattle.pa_logs.proofs.Histories.{histories_follow}
 use Rattle.pa_logs.proofs.Logs.{logs_are_told}
 use Rattle.pa_logs.proofs.Marks.{tells_its_mark}
 use Rattle.pa_logs.proofs.Places.{each_at, filter_less, stretch_at, log_from, stake_at}
-use Rattle.pa_logs.proofs.StepMarks.{mark_made, step_mark, done_is, free_op}
+use Rattle.pa_logs.proofs.StepMarks.{mark_made, step_mark, done_is}
 use Rattle.pa_logs.proofs.Sums.{told_in, counted_self, as_entry, entry_slot, entry_step}
 use Rattle.pa_region.proofs.OneRead.{quiet_handed}
 

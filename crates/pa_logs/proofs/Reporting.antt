@@ -1,12 +1,10 @@
 -- The lines of the report are right.
-use Rattle.std.proofs.Common.{◌≡◌, ℕ, zero, suc, ◌+◌, ◌<◌, ◌≤◌, Bool, leb, List, [], ◌∷◌, ◌++◌, filter, map, Option, Some, None, refl, sym, ◌∙◌, ap, subst, arith, inl, inr}
+use Rattle.std.proofs.Common.{◌≡◌, ℕ, zero, suc, ◌+◌, ◌<◌, ◌≤◌, Bool, leb, List, [], ◌∷◌, ◌++◌, filter, map, refl, sym, ◌∙◌, ap, subst, arith, inl, inr}
 use Rattle.std.specs.Prelude.{◌≢◌, Contains, AllPairs, length, if◌then◌else◌}
 use Rattle.std.proofs.lemmas.Bool.{cases_lt, cases_eq, eq-eqb, ne_eqb, le-leb, leb-true}
-use Rattle.std.proofs.lemmas.List.Sums.{sum_by-cons}
 use Rattle.std.proofs.lemmas.List.Elements.{filter-append, Contains-append_right}
-use Rattle.pa_machine.specs.declared.word.SlotName.{SlotName}
-use Rattle.pa_machine.specs.declared.word.Step.{Step}
-use Rattle.pa_machine.specs.Run.{Mark}
+use Rattle.pa_slot.specs.declared.word.SlotName.{SlotName}
+use Rattle.pa_slot.specs.declared.word.Step.{Step}
 use Rattle.pa_record.specs.declared.pool.PoolEntry.{PoolEntry}
 use Rattle.pa_record.specs.declared.root.RootEntry.{RootEntry}
 use Rattle.pa_record.specs.declared.report.ReportLine.{ReportLine}
@@ -23,14 +21,14 @@ use Rattle.pa_lists.proofs.Pairs.{pairs_none, pairs_cons, pairs_tail, pairs_head
 use Rattle.pa_region.specs.declared.view.Made.{Made}
 use Rattle.pa_rules.specs.declared.played.Played.{Played}
 use Rattle.pa_rules.specs.Played.{mark_of, marks_of}
-use Rattle.pa_rules.specs.Flow.{at_step}
 use Rattle.pa_rules.specs.Roots.{Journals}
 use Rattle.pa_rules.specs.Caches.{Cache, Caches, CachesTo, with_cache, no_caches, listed_slots}
 use Rattle.pa_rules.specs.Report.{InPhases, PastPhases, HasCensus, IsReportLine, IsCached, listed_bytes, cached_slots, cached_bytes, census_of, until}
 use Rattle.pa_rules.proofs.Phases.{runs_until, within as until_mark}
-use Rattle.pa_machine.specs.Kinds.{issues, frees, enters, leaves}
+use Rattle.pa_slot.specs.Kinds.{issues, frees, enters, leaves}
 use Rattle.pa_legal.specs.Tallies.{weight_of, one_of, bytes_of, AreHomes, IsLeft, WentIn, IsTallied}
 use Rattle.pa_legal.proofs.tallies.Adding.{tallies_follow}
+use Rattle.pa_legal.proofs.tallies.Sums.{one_weight, weight_first}
 use Rattle.pa_logs.specs.Told.{ToldRecord, played_in, is_until, told_until}
 use Rattle.pa_logs.specs.Listed.{first_of, line_of, is_on, AreRising}
 use Rattle.pa_logs.specs.Rows.{records_by}
@@ -131,21 +129,6 @@ module _ (p phase : ℕ) (lists : ℕ → List Made) (pools : List PoolEntry) (r
   )
 
 -- what the threads count is what all records count
-abbrev one_weight : (Step → ℕ → Bool) → (SlotName → ℕ) → Option Mark → ℕ
-one_weight test weight None = 0
-one_weight test weight (Some m) = if at_step test m.found m.step then weight m.slot else 0
-
-weight_first : (test : Step → ℕ → Bool) (weight : SlotName → ℕ) (x : Played) (xs : List Played) →
-    weight_of test weight (marks_of (x ∷ xs)) ≡ one_weight test weight (mark_of x) + weight_of test weight (marks_of xs)
-weight_first test weight x xs = go (mark_of x) refl
-  where
-    plain : (n : ℕ) → n ≡ 0 + n
-    plain n = omega arith
-
-    go : (o : Option Mark) → mark_of x ≡ o → weight_of test weight (marks_of (x ∷ xs)) ≡ one_weight test weight o + weight_of test weight (marks_of xs)
-    go None e = rw e (plain (weight_of test weight (marks_of xs)))
-    go (Some m) e = rw e (sum_by-cons (λ (n : Mark). if at_step test n.found n.step then weight n.slot else 0) m (marks_of xs))
-
 count_first : (test : Step → ℕ → Bool) (weight : SlotName → ℕ) (x : Played) (xs : List Played) (n : ℕ) →
     (x.thread < n → counted_by test weight (x ∷ xs) n ≡ one_weight test weight (mark_of x) + counted_by test weight xs n) ×
     (n ≤ x.thread → counted_by test weight (x ∷ xs) n ≡ counted_by test weight xs n)

@@ -1,9 +1,9 @@
--- What all layers say gives all that is known of a run that was played out; so it is legal, and the closed region holds it.
+-- What all layers say gives all that is known of a run that was played out. So it is legal, and the closed region holds it.
 use Rattle.std.proofs.Common.{◌≡◌, ℕ, ◌-◌, ◌<◌, ◌≤◌, leb, List, filter, length, refl, subst, arith}
 use Rattle.std.specs.Prelude.{Contains}
 use Rattle.std.proofs.lemmas.Bool.{le-leb}
-use Rattle.pa_machine.specs.declared.word.SlotName.{SlotName}
-use Rattle.pa_machine.specs.Run.{Slots}
+use Rattle.pa_slot.specs.declared.word.SlotName.{SlotName}
+use Rattle.pa_slot.specs.Run.{Slots}
 use Rattle.pa_region.specs.declared.view.View.{View}
 use Rattle.pa_region.specs.Lists.{list_of}
 use Rattle.pa_region.specs.Ends.{IsEnd}

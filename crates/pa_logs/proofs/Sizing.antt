@@ -4,10 +4,10 @@ use Rattle.std.specs.Prelude.{Contains}
 use Rattle.std.proofs.lemmas.Bool.{cases_Bool, cases_lt, cases_eq, both_ways}
 use Rattle.std.proofs.lemmas.List.Elements.{Contains-append_left, Contains-append_right, Contains-append_cases, Contains-push_cases}
 use Rattle.std.proofs.lemmas.Option.{slice_get-get_or}
-use Rattle.pa_machine.specs.declared.title.Title.{Title}
-use Rattle.pa_machine.specs.declared.word.SlotName.{SlotName}
-use Rattle.pa_machine.specs.Run.{same_slot}
-use Rattle.pa_machine.proofs.Runs.{same_slot_eq, same_slot_yes}
+use Rattle.pa_slot.specs.declared.title.Title.{Title}
+use Rattle.pa_slot.specs.declared.word.SlotName.{SlotName}
+use Rattle.pa_slot.specs.Run.{same_slot}
+use Rattle.pa_slot.proofs.Runs.{same_slot_eq, same_slot_yes}
 use Rattle.pa_buckets.specs.Table.{slot_of}
 use Rattle.pa_buckets.specs.Bands.{fill_of}
 use Rattle.pa_buckets.proofs.Facts.{IsRow-of}
@@ -129,7 +129,7 @@ next_maps pools (Give slots) n r good asks fits t among =
 next_maps pools (Unmap asked slot) n r good asks fits t among = inl (without_map_in slot.slot r.maps t among)
 next_maps pools Purge n r good asks fits t among = inl (subst (λ ts. Contains ts t) (times_is (empties r) r good.sound).kept.maps among)
 
--- so the direct maps of a journal were made by it
+-- the direct maps of a journal were made by it
 all_maps : (pools : List PoolEntry) (es : List RootEntry) (n : ℕ) (r : Root) → IsGoing n r → RootReplays pools es r → RiseFrom n (all_asked es) →
     (t : Title) → Contains (root_replayed pools es r).maps t → Contains r.maps t ⊎ Contains (flat_map (λ (e : RootEntry). maps_by e.act) es) t
 all_maps pools [] n r good replays rise t among = inl among
@@ -156,7 +156,7 @@ stands_made pools journal t j (inr mapped) =
           (Contains-append_right (flat_map slots_cut (root_replayed pools journal new_root).spans) (flat_map (λ (e : RootEntry). maps_by e.act) journal) t there)
     ]
 
--- so was a direct map that an entry gives back
+-- a direct map that an entry gives back was made by the journal
 map_here : (pools : List PoolEntry) (es : List RootEntry) (n : ℕ) (r : Root) (e : RootEntry) (asked : ℕ) (slot : Numbered) → IsGoing n r → RootReplays pools es r → RiseFrom n (all_asked es) →
     Contains es e → e.act ≡ Unmap asked slot → (t : Title) × (Contains r.maps t ⊎ Contains (flat_map (λ (f : RootEntry). maps_by f.act) es) t) × (t.born ≡ slot.slot.born)
 map_here pools [] n r e asked slot good replays rise among is = absurd (not_in_none e among)

@@ -3,12 +3,12 @@ use Rattle.std.proofs.Common.{◌≡◌, ℕ, zero, suc, ◌+◌, ◌≤◌, Lis
 use Rattle.std.specs.Prelude.{Contains}
 use Rattle.std.proofs.lemmas.Bool.{cases_lt}
 use Rattle.std.proofs.lemmas.List.Elements.{Contains-append_left, Contains-push}
-use Rattle.pa_machine.specs.declared.word.SlotName.{SlotName}
-use Rattle.pa_machine.specs.declared.word.Step.{Step}
-use Rattle.pa_machine.specs.Count.{CanStep, stepped, number_of}
-use Rattle.pa_machine.specs.Run.{Mark, IsFirstAt, IsOneRun}
-use Rattle.pa_machine.specs.Runs.{IsPath}
-use Rattle.pa_machine.proofs.Runs.{path_push, run_of_path}
+use Rattle.pa_slot.specs.declared.word.SlotName.{SlotName}
+use Rattle.pa_slot.specs.declared.word.Step.{Step}
+use Rattle.pa_slot.specs.Count.{CanStep, stepped, number_of}
+use Rattle.pa_slot.specs.Run.{Mark, IsFirstAt, IsOneRun}
+use Rattle.pa_slot.specs.Runs.{IsPath}
+use Rattle.pa_slot.proofs.Runs.{path_push, run_of_path}
 use Rattle.pa_lists.proofs.Members.{of_some}
 use Rattle.pa_region.specs.History.{Done, reached}
 use Rattle.pa_region.specs.Contents.{word_at_number}

@@ -1,8 +1,8 @@
 -- The step of a record and its mark.
 use Rattle.std.proofs.Common.{◌≡◌, ℕ, Option, Some, None, refl, sym, ◌∙◌, ap}
-use Rattle.pa_machine.specs.declared.word.Step.{Step}
-use Rattle.pa_machine.specs.declared.word.Step.TheVariants as steps
-use Rattle.pa_machine.specs.Run.{Mark}
+use Rattle.pa_slot.specs.declared.word.Step.{Step}
+use Rattle.pa_slot.specs.declared.word.Step.TheVariants as steps
+use Rattle.pa_slot.specs.Run.{Mark}
 use Rattle.pa_trace.specs.declared.script.Op.{Op}
 use Rattle.pa_trace.specs.declared.script.Op.TheVariants as ops
 use Rattle.pa_record.specs.declared.entry.Seen.{Seen}
@@ -12,7 +12,7 @@ use Rattle.pa_lists.proofs.Members.{of_some, not_some}
 use Rattle.pa_rules.specs.Played.{step_of, mark_at, mark_of_answer}
 use Rattle.pa_logs.specs.Touches.{StepMade, value_by, done_step, step_in}
 use Rattle.pa_rules.proofs.Marking.{not_look}
-use Rattle.pa_machine.proofs.Runs.{none_some}
+use Rattle.pa_slot.proofs.Runs.{none_some}
 
 -- the mark of a step that was made on a line
 abbrev pub mark_made : ℕ → StepMade → Mark
@@ -116,13 +116,3 @@ write_op (ops.Write reg value) v e f = (reg, ap (ops.Write reg) f)
 write_op (ops.Read reg place) v e f = absurd cc
 write_op (ops.Swap cell reg) v e f = absurd cc
 write_op ops.Purge v e f = absurd cc
-
-pub free_op : (op : Op) → step_of op ≡ Some steps.Free → (reg : ℕ) × (op ≡ ops.Free reg)
-free_op (ops.Alloc reg partition size) e = absurd cc
-free_op (ops.Copy from to) e = absurd cc
-free_op (ops.Reset reg) e = absurd cc
-free_op (ops.Free reg) e = (reg, refl)
-free_op (ops.Write reg value) e = absurd cc
-free_op (ops.Read reg place) e = absurd cc
-free_op (ops.Swap cell reg) e = absurd cc
-free_op ops.Purge e = absurd cc

@@ -4,11 +4,11 @@ use Rattle.std.specs.Prelude.{Contains}
 use Rattle.std.specs.List.{sum_by}
 use Rattle.std.proofs.lemmas.List.Sums.{sum_by-cons}
 use Rattle.std.proofs.lemmas.Bool.{cases_lt, eq-eqb, and_parts}
-use Rattle.pa_machine.specs.declared.title.Title.{Title}
-use Rattle.pa_machine.specs.declared.word.Step.{Step}
-use Rattle.pa_machine.specs.Count.{number_of}
-use Rattle.pa_machine.specs.Titles.{same_title}
-use Rattle.pa_machine.proofs.Same.{title_tells, title_self}
+use Rattle.pa_slot.specs.declared.title.Title.{Title}
+use Rattle.pa_slot.specs.declared.word.Step.{Step}
+use Rattle.pa_slot.specs.Count.{number_of}
+use Rattle.pa_slot.specs.Titles.{same_title}
+use Rattle.pa_slot.proofs.Same.{title_tells, title_self}
 use Rattle.pa_lists.proofs.Members.{not_in_none, first_in, later_in, in_cases}
 use Rattle.pa_region.specs.declared.view.Entry.{Entry}
 use Rattle.pa_region.specs.declared.view.Entry.TheVariants.{Counted, Looked, Read, Added, Entered, Uncut}
@@ -16,7 +16,7 @@ use Rattle.pa_region.specs.Views.{counted_at, counted_as, looked_at, step_number
 use Rattle.pa_region.proofs.LogPart.{as_at}
 use Rattle.pa_region.proofs.OneRead.{one_true}
 use Rattle.pa_region.proofs.Standing.{as_tells}
-use Rattle.pa_machine.specs.declared.word.SlotName.{SlotName}
+use Rattle.pa_slot.specs.declared.word.SlotName.{SlotName}
 use Rattle.pa_logs.specs.Told.{ToldRecord, told_of}
 use Rattle.pa_logs.specs.Touches.{title_of}
 
@@ -64,14 +64,14 @@ told_in ts x e weight among there =
     let b = sum_in (λ (y : ToldRecord). sum_by weight y.stretch) ts x among in
     omega arith
 
--- and what weighs is an entry of a record's log segment
+-- if the records' entries weigh something, one that weighs something is in a record's log segment
 pub told_some : (ts : List ToldRecord) (weight : Entry → ℕ) → 0 < told_of ts weight → (x : ToldRecord) × (e : Entry) × Contains ts x × Contains x.stretch e × (0 < weight e)
 told_some ts weight h =
     let (x, among, more) = sum_some (λ (y : ToldRecord). sum_by weight y.stretch) ts h in
     let (e, there, here) = sum_some weight x.stretch more in
     (x, e, among, there, here)
 
--- a step counts as itself, also by its number; a look as itself
+-- a counted step weighs 1 as itself
 pub counted_self : (t : Title) (p : Step) (w v : ℕ) → counted_as t p w v (Counted t p w v) ≡ 1
 counted_self t p w v = rw (title_self t, eq-eqb (step_number p) (step_number p) refl, eq-eqb w w refl, eq-eqb v v refl) refl
 

@@ -2,11 +2,11 @@
 use Rattle.std.proofs.Common.{◌≡◌, ℕ, ◌+◌, ◌<◌, ◌≤◌, ◌⊎◌, List, Option, Some, None, refl, sym, ◌∙◌, ap, subst, arith, inl, inr}
 use Rattle.std.specs.Prelude.{Contains}
 use Rattle.std.proofs.lemmas.Bool.{cases_lt}
-use Rattle.pa_machine.specs.declared.title.Title.{Title}
-use Rattle.pa_machine.specs.declared.word.SlotName.{SlotName}
-use Rattle.pa_machine.specs.declared.word.Step.{Step}
-use Rattle.pa_machine.specs.Count.{number_of}
-use Rattle.pa_machine.specs.Run.{Mark}
+use Rattle.pa_slot.specs.declared.title.Title.{Title}
+use Rattle.pa_slot.specs.declared.word.SlotName.{SlotName}
+use Rattle.pa_slot.specs.declared.word.Step.{Step}
+use Rattle.pa_slot.specs.Count.{number_of}
+use Rattle.pa_slot.specs.Run.{Mark}
 use Rattle.pa_record.specs.declared.history.CellEntry.{CellEntry}
 use Rattle.pa_lists.proofs.Joined.{map_cases}
 use Rattle.pa_lists.proofs.Members.{not_some}
@@ -37,7 +37,7 @@ module _ (cells : ℕ → List CellEntry) (place : ℕ → ℕ) (ps : List Playe
     pub end_thread : second.thread ≡ y.thread
     pub behind : second.line ≤ y.line
 
-  -- y is after x: in a later phase; or in the same, by their thread or by way of exchanges
+  -- The record y is after x: in a later phase, or in the same one, by their thread or by way of exchanges.
   abbrev After : Played → Played → Type 0
   After x y = (x.phase < y.phase) ⊎ ((x.phase ≡ y.phase) × (((x.thread ≡ y.thread) × (x.line < y.line)) ⊎ Via x y))
 

@@ -1,7 +1,7 @@
 -- A run is legal if all this is known of it.
 use Rattle.std.proofs.Common.{ℕ, List, sym, ◌∙◌, ap, subst, inr}
 use Rattle.std.specs.Prelude.{Contains}
-use Rattle.pa_machine.specs.declared.word.SlotName.{SlotName}
+use Rattle.pa_slot.specs.declared.word.SlotName.{SlotName}
 use Rattle.pa_record.specs.declared.history.CellEntry.{CellEntry}
 use Rattle.pa_lists.proofs.Joined.{map_cases}
 use Rattle.pa_region.specs.declared.view.View.{View}

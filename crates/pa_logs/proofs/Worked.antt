@@ -3,12 +3,12 @@ use Rattle.std.proofs.Common.{◌≡◌, ℕ, zero, suc, ◌+◌, ◌<◌, ◌�
 use Rattle.std.specs.Prelude.{Contains, if◌then◌else◌}
 use Rattle.std.specs.List.{AllByRecursion as Each}
 use Rattle.std.proofs.lemmas.Bool.{true≢false, eqb-true}
-use Rattle.pa_machine.specs.declared.title.Title.{Title}
-use Rattle.pa_machine.specs.declared.word.Step.TheVariants.{Issue, Copy, Free}
-use Rattle.pa_machine.specs.Count.{number_of}
-use Rattle.pa_machine.specs.Titles.{IsWellFormed, same_title}
-use Rattle.pa_machine.specs.Holdings.{one}
-use Rattle.pa_machine.proofs.Same.{title_tells}
+use Rattle.pa_slot.specs.declared.title.Title.{Title}
+use Rattle.pa_slot.specs.declared.word.Step.TheVariants.{Issue, Copy, Free}
+use Rattle.pa_slot.specs.Count.{number_of}
+use Rattle.pa_slot.specs.Titles.{IsWellFormed, same_title}
+use Rattle.pa_slot.specs.Holdings.{one}
+use Rattle.pa_slot.proofs.Same.{title_tells}
 use Rattle.pa_lists.proofs.Joined.{map_cases}
 use Rattle.pa_lists.proofs.Members.{not_in_none, in_cases}
 use Rattle.pa_region.specs.declared.view.Entry.{Entry}
@@ -77,7 +77,7 @@ in_first x among = by_four (λ (y : ToldRecord). y.played.phase ≡ 1) (refl, (r
 logs : AreLogs (view_of worked_records) worked_records
 logs = are_logs worked_records (λ x among. by_four (λ (y : ToldRecord). y.played.thread < 16) (omega arith, (omega arith, (omega arith, (omega arith, tt)))) x among)
 
--- the history of the slot: it is made, pointed to and freed; of another title there is none
+-- the history of the slot: it is made, pointed to and freed
 abbrev steps : List Done
 steps = record { step = Free; value = 0 } ∷ record { step = Copy; value = 0 } ∷ record { step = Issue; value = 0 } ∷ []
 

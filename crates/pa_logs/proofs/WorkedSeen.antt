@@ -1,11 +1,11 @@
 -- What the seats of the worked records had seen is in order.
 use Rattle.std.proofs.Common.{◌≡◌, ◌≢◌, ℕ, ◌+◌, ◌<◌, ◌≤◌, Bool, true, false, List, [], ◌∷◌, Some, refl, sym, ◌∙◌, ap, arith, inl, inr, slice_get}
 use Rattle.std.specs.Prelude.{Contains, AllPairs, if◌then◌else◌}
-use Rattle.pa_machine.specs.declared.title.Title.{Title}
-use Rattle.pa_machine.specs.declared.word.Step.{Step}
-use Rattle.pa_machine.specs.declared.word.Step.TheVariants.{Issue, Copy, Free}
-use Rattle.pa_machine.specs.Count.{number_of}
-use Rattle.pa_machine.specs.Titles.{same_title}
+use Rattle.pa_slot.specs.declared.title.Title.{Title}
+use Rattle.pa_slot.specs.declared.word.Step.{Step}
+use Rattle.pa_slot.specs.declared.word.Step.TheVariants.{Issue, Copy, Free}
+use Rattle.pa_slot.specs.Count.{number_of}
+use Rattle.pa_slot.specs.Titles.{same_title}
 use Rattle.pa_record.specs.declared.history.CellEntry.{CellEntry}
 use Rattle.pa_lists.proofs.Joined.{map_cases}
 use Rattle.pa_lists.proofs.Members.{not_in_none, in_cases}

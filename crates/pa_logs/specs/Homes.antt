@@ -1,9 +1,9 @@
--- The partition of each slot, from the journals; and that each slot which a record stepped on or looked at has one, and a length.
+-- The partition of each slot, from the journals. Each slot which a record stepped on or looked at has one, and a length.
 use Rattle.std.specs.Prelude.{◌≡◌, ℕ, zero, suc, if◌then◌else◌, Contains, List}
 use Rattle.std.specs.List.{list_any}
-use Rattle.pa_machine.specs.declared.title.Title.{Title}
-use Rattle.pa_machine.specs.declared.word.SlotName.{SlotName}
-use Rattle.pa_machine.specs.Run.{Slots, same_slot}
+use Rattle.pa_slot.specs.declared.title.Title.{Title}
+use Rattle.pa_slot.specs.declared.word.SlotName.{SlotName}
+use Rattle.pa_slot.specs.Run.{Slots, same_slot}
 use Rattle.pa_record.specs.declared.pool.PoolEntry.{PoolEntry}
 use Rattle.pa_record.specs.Spans.{name_of}
 use Rattle.pa_rules.specs.declared.played.Played.{Played}
@@ -29,7 +29,7 @@ pub record HaveSlots (supers partitions : ℕ) (ps : List Played) (pools : List 
   pub slots : Slots (marks_of ps)
   pub used : (x : Played) → Contains ps x → FindsInUse x
 
--- Then each slot that a record stepped on or looked at is one that a journal made and handed out.
+-- Each slot that a record stepped on or looked at is one that a journal made and handed out.
 --   named: a slot of a partition has that one
 --   homes: the partition and the length that the journals give are those of each slot of a record
 pub record HomesFollow : Type 0 where

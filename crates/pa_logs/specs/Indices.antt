@@ -33,8 +33,8 @@ pub record IsFullAt (list : List Made) (x : ToldRecord) (index : ℕ) : Type 0 w
   pub line : entry.line ≡ x.played.line
   pub full : IsFull entry.act
 
--- An exchange with cell k: the exchanges that its seat has seen then end with its own, its answer is how many of them before it
--- are of that cell, and they are a beginning of all.
+-- An exchange with cell k. The exchanges that its seat has seen then end with its own, and are a beginning of all. Its answer is how
+-- many of them before it are of that cell.
 pub record IsSwapAt (swaps : List SwapMade) (x : ToldRecord) (k : ℕ) : Type 0 where
   pub older : List SwapMade
   pub rest : List SwapMade
@@ -65,8 +65,8 @@ pub record AskedNone (x : ToldRecord) (it : Enters x) : Type 0 where
   pub pools : it.pools ≡ []
   pub roots : (p : ℕ) → filter asks (it.roots p) ≡ []
 
--- It asked once: it made one entry of the pool, of partition p, and one of its journal entries names one: it is in p's journal,
--- and names the pool's by its index.
+-- The record asked the pool once: it made one entry of the pool, and one of its journal entries names one. That is in the journal of
+-- the partition for which the pool was asked, and names the pool's entry by its index.
 pub record AskedOnce (list : List Made) (x : ToldRecord) (it : Enters x) : Type 0 where
   pub made : Made
   pub pool : PoolEntry
@@ -93,10 +93,11 @@ pub record AreLists (lists : ℕ → List Made) (pools : List PoolEntry) (roots 
   pub past : (p : ℕ) → most_partitions ≤ p → roots p ≡ []
   pub pool : IsPoolList (lists 4) pools
 
--- Then indices are those of a legal run.
+-- Indices are those of a legal run.
 --   swapped: an exchange's answer is where it is in its cell's history
 --   full: a record that is full names a Full of its line
---   named: each entry of the pool is named by a journal entry, which is of its partition and line; once: and by no other
+--   named: each entry of the pool is named by a journal entry, which is of its partition and line
+--   once: it is named by no other
 pub record IndicesFollow : Type 0 where
   pub swapped : (list : List Made) (cells : ℕ → List CellEntry) (swaps : List SwapMade) (x : ToldRecord) (k : ℕ) →
       AreSwaps list cells swaps → IsSwapAt swaps x k →

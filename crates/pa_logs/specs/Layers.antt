@@ -1,6 +1,6 @@
 -- The clauses of the pool and of the roots, and what is required of the closing seat, put together from what each layer says.
 use Rattle.std.specs.Prelude.{◌≡◌, ℕ, ◌<◌, ◌≤◌, List, [], Contains}
-use Rattle.pa_machine.specs.declared.word.SlotName.{SlotName}
+use Rattle.pa_slot.specs.declared.word.SlotName.{SlotName}
 use Rattle.pa_trace.specs.declared.script.Op.TheVariants.{Alloc}
 use Rattle.pa_record.specs.declared.entry.Answer.TheVariants.{Full}
 use Rattle.pa_record.specs.declared.pool.PoolEntry.{PoolEntry}
@@ -24,7 +24,7 @@ use Rattle.pa_logs.specs.Standing.{OnlyUnmapsUncut, HasFree}
 use Rattle.pa_logs.specs.Ending.{IsClosing}
 
 -- What the pool's type keeps, and its calls and the runner say.
---   lists, asked: the lists are the journals and the pool's entries; each record asked at most once
+--   lists, asked: the lists are the journals and the pool's entries, and each record asked at most once
 --   fits: each take and give fits the pool after those before it
 --   cuts: at each phase's end the list was a beginning, and that of the records so far
 pub record PoolSays (supers : ℕ) (lists : ℕ → List Made) (pools : List PoolEntry) (roots : Journals) (ts : List ToldRecord) : Type 0 where
@@ -59,7 +59,7 @@ pub record SeatSays (supers partitions threads : ℕ) (sizes : SlotName → ℕ)
   pub has : HasFree supers partitions threads sizes r.pools r.roots ts all v
   pub clean : unclean_of v ≡ 0
 
--- Then the clauses hold, and the closing seat is as required.
+-- If the layers say what they must, the clauses hold, and the closing seat is as required.
 pub record LayersFollow : Type 0 where
   pub pool : (supers : ℕ) (lists : ℕ → List Made) (pools : List PoolEntry) (roots : Journals) (ts : List ToldRecord) →
       PoolSays supers lists pools roots ts → IsPoolOf supers (played_in ts) pools roots

@@ -1,9 +1,9 @@
 -- The length of each slot, from the journals.
 use Rattle.std.specs.Prelude.{◌≡◌, ℕ, zero, suc, List, [], ◌∷◌, ◌++◌, map, if◌then◌else◌}
 use Rattle.std.specs.List.{flat_map}
-use Rattle.pa_machine.specs.declared.title.Title.{Title}
-use Rattle.pa_machine.specs.declared.word.SlotName.{SlotName}
-use Rattle.pa_machine.specs.Run.{same_slot}
+use Rattle.pa_slot.specs.declared.title.Title.{Title}
+use Rattle.pa_slot.specs.declared.word.SlotName.{SlotName}
+use Rattle.pa_slot.specs.Run.{same_slot}
 use Rattle.pa_record.specs.declared.pool.PoolEntry.{PoolEntry}
 use Rattle.pa_record.specs.declared.root.RootEntry.{RootEntry}
 use Rattle.pa_record.specs.declared.root.RootAct.{RootAct}
@@ -17,7 +17,7 @@ use Rattle.pa_rules.specs.Report.{HasSize}
 use Rattle.pa_rules.specs.Held.{IsStanding}
 use Rattle.pa_lists.specs.Numbers.{numbers}
 
--- the slots that were cut of a span, and the direct map that an entry makes
+-- the slots that were cut of a span
 abbrev pub slots_cut : Span → List Title
 slots_cut s = map (title_at s) (numbers 0 s.made)
 
@@ -30,7 +30,7 @@ maps_by (Give slots) = []
 maps_by (Unmap asked slot) = []
 maps_by Purge = []
 
--- the titles that a journal makes, and those that the journals of this many partitions make
+-- the titles that a journal makes
 abbrev pub titles_by : List PoolEntry → List RootEntry → List Title
 titles_by pools journal =
     flat_map slots_cut (root_replayed pools journal new_root).spans ++ flat_map (λ (e : RootEntry). maps_by e.act) journal
@@ -49,10 +49,10 @@ length_among (t ∷ ts) s = if same_slot (name_of t) s then t.len else length_am
 abbrev pub lengths_by : ℕ → List PoolEntry → Journals → SlotName → ℕ
 lengths_by partitions pools roots s = length_among (titles_of pools roots partitions) s
 
--- Then each slot has the length that its journal gives.
+-- Each slot has the length that its journal gives.
 --   made: a title that was made has that of its slot
 --   stands: so has one that exists, as the closing seat must satisfy
---   named: and a slot has the length of its class or of its direct map
+--   named: a slot has the length of its class or of its direct map
 pub record LengthsFollow : Type 0 where
   pub made : (supers partitions p : ℕ) (ps : List Played) (pools : List PoolEntry) (roots : Journals) (t : Title) →
       AreRoots partitions ps pools roots → IsPoolOf supers ps pools roots → IsMadeBy pools (roots p) t →

@@ -10,7 +10,7 @@ use Rattle.pa_rules.specs.Roots.{Journals}
 use Rattle.pa_rules.specs.Caches.{acts_of}
 use Rattle.pa_logs.specs.Told.{ToldRecord, log_of, told_until}
 
--- the line of an entry of a list: the first of its numbers
+-- the first of an entry's numbers, 0 if it has none
 abbrev pub first_of : List ℕ → ℕ
 first_of [] = 0
 first_of (n ∷ ns) = n
@@ -19,7 +19,7 @@ first_of (n ∷ ns) = n
 abbrev pub line_of : Made → ℕ
 line_of m = first_of m.numbers
 
--- the entries of a line
+-- the entry is of this line
 abbrev pub is_on : ℕ → Made → Bool
 is_on line m = line_of m == line
 
@@ -27,8 +27,8 @@ is_on line m = line_of m == line
 abbrev pub entries_on : ℕ → List Made → List Made
 entries_on line list = filter (is_on line) list
 
--- Keeper q's list is that of these records: what each stake made there is, in order, what the log of its thread entered; and
--- a record entered only what is of its line.
+-- Keeper q's list is that of these records. What each stake made there is, in order, what the log of its thread entered, and a record
+-- entered only what is of its line.
 pub record IsListOf (q : ℕ) (list : List Made) (ts : List ToldRecord) : Type 0 where
   pub made : (k : ℕ) → made_with k list ≡ entered_in q (log_of k ts)
   pub lines : (x : ToldRecord) (m : Made) → Contains ts x → Contains (entered_in q x.stretch) m → line_of m ≡ x.played.line
@@ -37,7 +37,8 @@ pub record IsListOf (q : ℕ) (list : List Made) (ts : List ToldRecord) : Type 0
 abbrev pub AreRising : List ToldRecord → Type 0
 AreRising ts = AllPairs (λ (x y : ToldRecord). x.played.line < y.played.line) ts
 
--- Then each entry of the list is one of a record, and the entries on a record's line are those that it entered, in order.
+-- Each entry of a list that is one of records is of one of them, and the entries on a record's line are those that it entered, in
+-- order.
 pub record LinesHaveTheirs : Type 0 where
   pub each : (q : ℕ) (list : List Made) (ts : List ToldRecord) (m : Made) → IsListOf q list ts → Contains list m →
       (x : ToldRecord) × Contains ts x × (x.played.thread ≡ m.stake) × Contains (entered_in q x.stretch) m
@@ -50,7 +51,7 @@ HasCuts q list ts =
     (x : ToldRecord) → Contains ts x →
     (older rest : List Made) × (list ≡ older ++ rest) × IsListOf q older (told_until x.played.phase ts)
 
--- Then the entries of a thread are in the order of its lines, and those of a phase before those of a later one.
+-- In a list of records the entries of a thread are in the order of its lines, and those of a phase before those of a later one.
 abbrev pub EntriesInOrder : Type 0
 EntriesInOrder =
     (q : ℕ) (list : List Made) (ts : List ToldRecord) (x y : ToldRecord) (i j : ℕ) (m n : Made) → IsListOf q list ts → HasCuts q list ts →
@@ -65,7 +66,7 @@ IsJournalOf list journal = map (λ (m : Made). m.numbers) list ≡ map root_numb
 abbrev pub IsPoolList : List Made → List PoolEntry → Type 0
 IsPoolList list pools = map (λ (m : Made). m.numbers) list ≡ map pool_numbers pools
 
--- Then the entries of journals and of the pool are in the order of their threads' lines and of the phases.
+-- The entries of journals and of the pool are in the order of their threads' lines and of the phases.
 pub record OrdersFollow : Type 0 where
   pub journal : (p : ℕ) (list : List Made) (journal : List RootEntry) (ts : List ToldRecord) (x y : ToldRecord) (i j : ℕ)
       (e f : RootEntry) → IsListOf p list ts → HasCuts p list ts → AreRising ts → IsJournalOf list journal → Contains ts x → Contains ts y →
@@ -76,7 +77,7 @@ pub record OrdersFollow : Type 0 where
       slice_get pools i ≡ Some e → slice_get pools j ≡ Some f → x.played.line ≡ e.line → y.played.line ≡ f.line →
       StandsBefore x.played y.played → i < j
 
--- Then the acts of a record's line are those that it entered.
+-- The acts of a record's line are those that it entered.
 abbrev pub ActsAreTheirs : Type 0
 ActsAreTheirs =
     (p : ℕ) (list : List Made) (roots : Journals) (ts : List ToldRecord) (x : ToldRecord) (entries : List RootEntry) →

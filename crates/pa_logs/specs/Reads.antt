@@ -1,8 +1,8 @@
 -- What reads gave: from what is known of all logs at the end of each phase.
 use Rattle.std.specs.Prelude.{◌≡◌, ◌≢◌, ℕ, ◌⊎◌, List, Bool, true, false, Contains}
-use Rattle.pa_machine.specs.declared.word.SlotName.{SlotName}
-use Rattle.pa_machine.specs.Count.{number_of}
-use Rattle.pa_machine.specs.Titles.{poison}
+use Rattle.pa_slot.specs.declared.word.SlotName.{SlotName}
+use Rattle.pa_slot.specs.Count.{number_of}
+use Rattle.pa_slot.specs.Titles.{poison}
 use Rattle.pa_region.specs.declared.view.View.{View}
 use Rattle.pa_region.specs.AllReads.{HasAllLogs}
 use Rattle.pa_trace.specs.declared.script.Op.TheVariants as ops
@@ -27,8 +27,8 @@ pub record KnowsAll (v : View) (ts : List ToldRecord) : Type 0 where
 abbrev pub HaveEnds : List ToldRecord → Type 0
 HaveEnds ts = (x : ToldRecord) → Contains ts x → (v : View) × KnowsAll v (told_until x.played.phase ts)
 
--- What is known of a run's log segments: each is what its answer requires; at the end and at the end of each phase a view knows
--- all logs; and no record of a later phase found a lower number of a slot than one of an earlier phase left there.
+-- What is known of a run's log segments. Each is what its answer requires. At the end and at the end of each phase a view knows all
+-- logs. No record of a later phase found a lower number of a slot than one of an earlier phase left there.
 pub record IsReadOff (sizes : SlotName → ℕ) (v : View) (ts : List ToldRecord) : Type 0 where
   pub told : AreTold sizes ts
   pub last : KnowsAll v ts
@@ -39,14 +39,13 @@ pub record IsReadOff (sizes : SlotName → ℕ) (v : View) (ts : List ToldRecord
 abbrev pub MayBePoison : List Played → Played → SlotName → ℕ → Type 0
 MayBePoison ps x s k = (y : Played) × IsNextFree ps s k y × (y.thread ≢ x.thread) × (y.phase ≡ x.phase)
 
--- What a read of a slot that the allocator holds gave: its content; or poison, if its seat had no Own of the slot and
--- that may be.
+-- What a read of a slot that the allocator holds gave is its content, or poison, if its seat had no Own of the slot and that may be.
 abbrev pub GaveRight : List Played → Played → Seen → ℕ → Bool → Type 0
 GaveRight ps x seen value owned =
     IsContent ps seen.slot (number_of seen.found.0) value
     ⊎ ((owned ≡ false) × (value ≡ poison) × MayBePoison ps x seen.slot (number_of seen.found.0))
 
--- Each read gave what it may: of a slot that is held its content, or poison; of a freed one poison.
+-- Each read gave what it may. Of a slot that is held it gave the content, or poison, and of a freed one poison.
 pub record ReadsFollow : Type 0 where
   pub held : (sizes : SlotName → ℕ) (v : View) (ts : List ToldRecord) (x : ToldRecord) (seen : Seen) (value place : ℕ) (owned : Bool) →
       IsReadOff sizes v ts → Contains ts x → x.played.answer ≡ Value seen value →
@@ -54,7 +53,7 @@ pub record ReadsFollow : Type 0 where
   pub freed : (sizes : SlotName → ℕ) (v : View) (ts : List ToldRecord) (x : ToldRecord) (seen : Seen) (value : ℕ) →
       IsReadOff sizes v ts → Contains ts x → x.played.answer ≡ Dangling seen value → value ≡ poison
 
--- the register holds a handle of the slot that was read; a read through an Own says that its seat has it
+-- The register holds a handle of the slot that was read. A read through an Own says that its seat has it.
 abbrev pub ReadsThrough : (SlotName → ℕ) → Reg → Seen → ℕ → ℕ → ToldRecord → Type 0
 ReadsThrough sizes Empty seen place value x = ⊥
 ReadsThrough sizes (Own s) seen place value x = IsReadTold (title_of sizes seen.slot) place seen.found.0 value true x.stretch
@@ -63,14 +62,14 @@ ReadsThrough sizes (Ref s) seen place value x =
 ReadsThrough sizes Freed seen place value x = ⊥
 ReadsThrough sizes Cleared seen place value x = ⊥
 
--- so it is for each value that was read, by the registers just before its record
+-- each value was read through a handle, by the registers just before its record
 abbrev pub HaveReaders : (SlotName → ℕ) → (ℕ → List CellEntry) → List ToldRecord → Type 0
 HaveReaders sizes cells ts =
     (x : ToldRecord) (seen : Seen) (value : ℕ) → Contains ts x → x.played.answer ≡ Value seen value →
     (reg place : ℕ) × (regs : Regs) × (x.played.op ≡ ops.Read reg place) × HasRegs usable_of cells (played_in ts) x.played regs
     × ReadsThrough sizes (regs reg) seen place value x
 
--- Then the contents are those of a legal run.
+-- The contents are those of a legal run.
 abbrev pub ContentsFollow : Type 0
 ContentsFollow =
     (sizes : SlotName → ℕ) (cells : ℕ → List CellEntry) (v : View) (ts : List ToldRecord) →

@@ -1,8 +1,8 @@
 -- The report, from what each thread, each root and the lists say at the end of each phase.
 use Rattle.std.specs.Prelude.{◌≡◌, ℕ, zero, suc, ◌+◌, ◌-◌, ◌<◌, List, [], ◌∷◌, ◌++◌, Bool, map, Contains}
-use Rattle.pa_machine.specs.declared.word.SlotName.{SlotName}
-use Rattle.pa_machine.specs.declared.word.Step.{Step}
-use Rattle.pa_machine.specs.Run.{Slots}
+use Rattle.pa_slot.specs.declared.word.SlotName.{SlotName}
+use Rattle.pa_slot.specs.declared.word.Step.{Step}
+use Rattle.pa_slot.specs.Run.{Slots}
 use Rattle.pa_record.specs.declared.pool.PoolEntry.{PoolEntry}
 use Rattle.pa_record.specs.declared.root.RootEntry.{RootEntry}
 use Rattle.pa_record.specs.declared.report.ReportLine.{ReportLine}
@@ -18,7 +18,7 @@ use Rattle.pa_rules.specs.Flow.{IsInPhases}
 use Rattle.pa_rules.specs.Roots.{Journals, AreRoots, IsPoolOf}
 use Rattle.pa_rules.specs.Caches.{Cache, Caches, CacheRow, no_caches}
 use Rattle.pa_rules.specs.Report.{HasCensus, IsReport, IsReportLine, cached_slots, cached_bytes, census_of, phases_of, until}
-use Rattle.pa_machine.specs.Kinds.{issues, frees, enters, leaves}
+use Rattle.pa_slot.specs.Kinds.{issues, frees, enters, leaves}
 use Rattle.pa_legal.specs.Tallies.{weight_of, one_of, bytes_of, AreHomes}
 use Rattle.pa_logs.specs.Told.{ToldRecord, played_in, told_until}
 use Rattle.pa_logs.specs.Listed.{IsListOf, IsJournalOf, IsPoolList}
@@ -71,7 +71,7 @@ pub record AreListed (partitions threads : ℕ) (roots : Journals) (xs : List Pl
   pub bytes : tally.bytes ≡ cached_bytes all p threads
 
 -- A line of the report is what threads and roots say at the end of its phase: live and quarantined slots by the steps that the
--- threads count, cached ones by their lists, and the root by its census.
+-- threads count, cached ones by their lists, and what the root has by its census.
 pub record IsLineTold (partitions threads : ℕ) (home size : SlotName → ℕ) (lists : ℕ → List Made) (roots : Journals) (ts : List ToldRecord)
     (l : ReportLine) : Type 0 where
   pub partition : l.partition < most_partitions
@@ -80,8 +80,8 @@ pub record IsLineTold (partitions threads : ℕ) (home size : SlotName → ℕ) 
   pub cached : AreListed partitions threads roots (until l.phase (played_in ts)) l.partition l.cached
   pub root : TakenAt l.partition l.phase lists ts (census_of l)
 
--- What is known of the run: its lists, journals, pool and slots; that records are in phases; the partition and length of each
--- slot; and that each thread's number is below `threads`.
+-- What is known of the run: its lists, journals, pool and slots, and the partition and length of each slot. Records are in phases,
+-- and each thread's number is below `threads`.
 pub record AreReported (supers partitions threads : ℕ) (home size : SlotName → ℕ) (lists : ℕ → List Made) (pools : List PoolEntry)
     (roots : Journals) (ts : List ToldRecord) : Type 0 where
   pub lists_are : AreLists lists pools roots ts
@@ -92,10 +92,10 @@ pub record AreReported (supers partitions threads : ℕ) (home size : SlotName �
   pub homes : AreHomes roots home size (marks_of (played_in ts))
   pub few : (x : ToldRecord) → Contains ts x → x.played.thread < threads
 
--- Then each line is right, and so is the report.
+-- Each line of the report is right, and so is the report.
 --   census: what a root's census was taken of is its journal up to the end of the phase
 --   line: a line that says so is right
---   report: so is the report of such lines, one for each phase and partition in order
+--   report: the report of such lines, one for each phase and partition in order, is right
 pub record ReportFollows : Type 0 where
   pub census : (p phase : ℕ) (lists : ℕ → List Made) (pools : List PoolEntry) (roots : Journals) (ts : List ToldRecord) (c : Census) →
       AreLists lists pools roots ts → p < most_partitions → TakenAt p phase lists ts c → HasCensus (played_in ts) pools roots phase p c

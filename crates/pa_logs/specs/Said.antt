@@ -1,11 +1,11 @@
--- What each layer says of a run that was played in a region, all at once; and what follows: that the run is legal, and that the
+-- What each layer says of a run that was played in a region, all at once. From this it follows that the run is legal, and that the
 -- closed region holds it. Each layer has to say what only it can say, and nothing is required twice.
 use Rattle.std.specs.Prelude.{◌≡◌, ℕ, ◌+◌, ◌-◌, ◌<◌, ◌≤◌, List, [], ◌∷◌, Bool, true, map, filter, length, Contains}
 use Rattle.std.specs.List.{AllByRecursion as Each}
-use Rattle.pa_machine.specs.declared.title.Title.{Title}
-use Rattle.pa_machine.specs.declared.word.SlotName.{SlotName}
-use Rattle.pa_machine.specs.declared.word.Step.{Step}
-use Rattle.pa_machine.specs.Count.{number_of}
+use Rattle.pa_slot.specs.declared.title.Title.{Title}
+use Rattle.pa_slot.specs.declared.word.SlotName.{SlotName}
+use Rattle.pa_slot.specs.declared.word.Step.{Step}
+use Rattle.pa_slot.specs.Count.{number_of}
 use Rattle.pa_buckets.specs.Limits.{class_count}
 use Rattle.pa_region.specs.declared.view.Deeds.{Deeds}
 use Rattle.pa_region.specs.declared.view.Entry.TheVariants.{Counted, Looked, Read}
@@ -48,7 +48,7 @@ use Rattle.pa_rules.specs.Held.{IsHeldIn}
 use Rattle.pa_rules.specs.Legal.{phases_in, IsLegalTold}
 use Rattle.pa_legal.specs.Known.{UnmapsNext}
 use Rattle.pa_legal.specs.Numbers.{AreNumbered}
-use Rattle.pa_machine.specs.Kinds.{issues, frees, enters, leaves}
+use Rattle.pa_slot.specs.Kinds.{issues, frees, enters, leaves}
 use Rattle.pa_logs.specs.Told.{ToldRecord, played_in, is_of_thread, log_of, told_until}
 use Rattle.pa_logs.specs.Touches.{title_of, AreTold}
 use Rattle.pa_logs.specs.Listed.{IsJournalOf, IsPoolList}
@@ -79,17 +79,17 @@ pub record HasLogs (v : View) (ts : List ToldRecord) : Type 0 where
   pub every : HasEveryStake v
   pub logs : Each (λ (s : Stake). s.log ≡ log_of s.number ts) v.stakes
 
--- At the end of a phase a seat has them, with the logs of the records so far; and what it has seen of each list is a beginning
--- of what the seat at the end has.
+-- At the end of a phase a seat has every stake, with the logs of the records so far. What it has seen of each list is a beginning of
+-- what the seat at the end has.
 pub record EndsPhase (n : ℕ) (v last : View) (ts : List ToldRecord) : Type 0 where
   pub has : HasLogs v (told_until n ts)
   pub begins : (q : ℕ) → q < 6 → IsBeginning (list_of q v) (list_of q last)
 
--- What the runner ensures; `seats` are those at the phases' ends.
---   limits, due, records: the trace is within its limits; the records are its lines, each with its log segment
+-- What the runner ensures. `seats` are those at the phases' ends.
+--   limits, due, records: the trace is within its limits, and the records are its lines, each with its log segment
 --   has, ends: the seat at the end, and those at each phase's end, have every stake
 --   heard: the seat at the end has seen what each record hands on
---   phases: and a record's seat has seen what those of the phases before hand on
+--   phases: a record's seat has seen what those of the phases before hand on
 --   places: the report has one line for each phase and partition, in order
 pub record RunnerSays (t : Trace) (r : Told) (v : View) (ts : List ToldRecord) (seats : ℕ → View) : Type 0 where
   pub limits : IsWithinLimits t
@@ -116,8 +116,8 @@ pub record PoolTells (t : Trace) (r : Told) (v : View) (ts : List ToldRecord) : 
 --   none_past: a partition past the trace's has no journal
 --   makes: what a record entered in a journal is an entry that its op makes
 --   refused: a record that is full names its entry by the index
---   numbers, unmaps: a root gives a slot out at the number at which it has it; a direct map that goes back is named at the number
---     that the step which returned it left
+--   numbers: a root gives a slot out at the number at which it has it
+--   unmaps: a direct map that goes back is named at the number that the step which returned it left
 pub record RootsTell (t : Trace) (r : Told) (v : View) (ts : List ToldRecord) : Type 0 where
   pub lists : (p : ℕ) → p < most_partitions → IsJournalOf (list_of p v) (r.roots p)
   pub journals : (p : ℕ) → IsJournal r.pools (r.roots p)
@@ -134,7 +134,7 @@ pub record RootsTell (t : Trace) (r : Told) (v : View) (ts : List ToldRecord) : 
 --   swaps_are, chain: the list's entries are the exchanges, and each of these found what the one before gave
 --   one_each, only: a record entered at most one, and it was an exchange
 --   answers: an exchange's answer is its place among those of its cell
---   gives: and hands on what its entry carries
+--   gives: a record that entered one hands on what the entry carries
 pub record CellsTell (r : Told) (v : View) (ts : List ToldRecord) (swaps : List SwapMade) : Type 0 where
   pub swaps_are : AreSwaps (list_of 5 v) r.cells swaps
   pub chain : (k : ℕ) → IsChain Nothing (r.cells k)
@@ -154,14 +154,14 @@ HoldsHandle (Ref u) s = u ≡ s
 HoldsHandle Freed s = ⊥
 HoldsHandle Cleared s = ⊥
 
--- A read through this register: if that has a handle, the seat had seen the issue of its slot; and if it has an Own, the
--- log says that the read was an owner's.
+-- A read through this register. If that has a handle, the seat had seen the issue of its slot, and if it has an Own, the log says
+-- that the read was an owner's.
 pub record IsReadThrough (sizes : SlotName → ℕ) (reg : Reg) (x : ToldRecord) : Type 0 where
   pub issued : (s : SlotName) → HoldsHandle reg s → 1 ≤ x.saw (title_of sizes s)
   pub owned : (s : SlotName) (t : Title) (place value : ℕ) (since : Deeds) (owner unclean : Bool) → reg ≡ Own s →
       Contains x.stretch (Read t place value since owner unclean) → owner ≡ true
 
--- a read goes through the register that its op names; of other ops nothing is required
+-- A read goes through the register that its op names. Of other ops nothing is required.
 abbrev pub ReadsIts : (SlotName → ℕ) → Regs → Op → ToldRecord → Type 0
 ReadsIts sizes regs (ops.Read reg place) x = IsReadThrough sizes (regs reg) x
 ReadsIts sizes regs op x = Unit {0}
@@ -176,8 +176,8 @@ HasToldRows sizes facts regs (x ∷ xs) =
 abbrev pub facts_in : Trace → Told → Facts
 facts_in t r = record { usable_of = usable_of; usable_at = λ s. sizes_in t r s - 8; cells = r.cells }
 
--- What seats had seen, each by its own: no step or look found less, what it left is handed on, and what was seen stays seen; and
--- a record's seat has seen what its thread's records before hand on.
+-- What seats had seen, each by its own. No step or look found less, what it left is handed on, and what was seen stays seen. A
+-- record's seat has seen what its thread's records before hand on.
 pub record HaveSeen (ts : List ToldRecord) : Type 0 where
   pub steps : (x : ToldRecord) (t : Title) (step : Step) (found value : ℕ) → Contains ts x →
       Contains x.stretch (Counted t step found value) → (x.saw t ≤ number_of found) × (number_of found + 1 ≤ x.gives t)
@@ -187,10 +187,11 @@ pub record HaveSeen (ts : List ToldRecord) : Type 0 where
   pub thread : (x y : ToldRecord) (t : Title) → Contains ts x → Contains ts y → x.played.thread ≡ y.played.thread →
       x.played.line < y.played.line → x.gives t ≤ y.saw t
 
--- What the ops of workers ensure for their own seats; `lists` are those of all threads at the phases' ends.
+-- What the ops of workers ensure for their own seats. `lists` are those of all threads at the phases' ends.
 --   told, lines: each log segment is what its answer requires, and entered only what is of its line
---   rows: the transitions of each thread's registers; seen: what its seat had seen
---   caches: and the lists to which these lead at each phase's end
+--   rows: the transitions of each thread's registers
+--   seen: what its seat had seen
+--   caches: the lists to which its records lead at each phase's end
 pub record HeapTells (t : Trace) (r : Told) (ts : List ToldRecord) (lists : ℕ → Caches) : Type 0 where
   pub told : AreTold (sizes_in t r) ts
   pub lines : (q : ℕ) → q < 6 → AreOfLines q ts
@@ -237,9 +238,9 @@ pub record LayersSay (t : Trace) (r : Told) (v : View) (ts : List ToldRecord) : 
   pub heap : HeapTells t r ts lists
   pub report : (l : ReportLine) → Contains r.report l → IsLineSaid t r v ts (lists l.phase) (seats l.phase) l
 
--- What they ensure besides for the seat that closes the region, with these as the threads' lists at the end.
+-- What the layers ensure besides for the seat that closes the region, with these as the threads' lists at the end.
 --   unmaps: a title that a log segment says was uncut goes back by an entry of the same record
---   rooted: a slot that was made and is with its root is free in the seat: the root's seat held it
+--   rooted: a slot that was made and is with its root is free in the seat, as the root's seat held it
 --   listed: so is the title of a slot on a thread's list
 --   clean: each Own of the seat is clean
 pub record CloseSays (t : Trace) (r : Told) (v : View) (ts : List ToldRecord) (all : Caches) : Type 0 where
@@ -250,8 +251,8 @@ pub record CloseSays (t : Trace) (r : Told) (v : View) (ts : List ToldRecord) (a
       0 < free_of v (title_of (sizes_in t r) m.slot)
   pub clean : unclean_of v ≡ 0
 
--- Then all that must be known of the run is known; it is legal; and if the close ensures for its seat what the words
--- are, they hold it.
+-- If all layers say what they must, all that must be known of the run is known, and it is legal. If the close ensures for its seat
+-- what the words are, they hold the run.
 pub record LayersTellAll : Type 0 where
   pub played : (t : Trace) (r : Told) (v : View) (ts : List ToldRecord) → LayersSay t r v ts →
       IsPlayedOut (sizes_in t r) (place_of (list_of 5 v)) t r v ts

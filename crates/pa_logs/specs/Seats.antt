@@ -20,7 +20,7 @@ AreOfThreads ts = (x : ToldRecord) → Contains ts x → x.played.thread < most_
 abbrev pub AreOfLines : ℕ → List ToldRecord → Type 0
 AreOfLines q ts = (x : ToldRecord) (m : Made) → Contains ts x → Contains (entered_in q x.stretch) m → line_of m ≡ x.played.line
 
--- A seat that has every stake, with the logs of these records, knows all of them; and what it has seen of a list is theirs.
+-- A seat that has every stake, with the logs of these records, knows all of them. What it has seen of a list is theirs.
 pub record SeatsKnow : Type 0 where
   pub logs : (v : View) (ts : List ToldRecord) → IsAware v → HasEveryStake v → AreOfThreads ts →
       Each (λ (s : Stake). s.log ≡ log_of s.number ts) v.stakes → KnowsAll v ts

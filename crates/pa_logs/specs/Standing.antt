@@ -1,8 +1,8 @@
 -- A title that exists was never uncut, and is held if no log names it.
 use Rattle.std.specs.Prelude.{◌≡◌, ℕ, ◌<◌, List, Contains}
-use Rattle.pa_machine.specs.declared.title.Title.{Title}
-use Rattle.pa_machine.specs.declared.word.SlotName.{SlotName}
-use Rattle.pa_machine.specs.Run.{Slots}
+use Rattle.pa_slot.specs.declared.title.Title.{Title}
+use Rattle.pa_slot.specs.declared.word.SlotName.{SlotName}
+use Rattle.pa_slot.specs.Run.{Slots}
 use Rattle.pa_buckets.specs.Limits.{class_count}
 use Rattle.pa_record.specs.declared.numbered.Numbered.{Numbered}
 use Rattle.pa_record.specs.declared.pool.PoolEntry.{PoolEntry}
@@ -45,7 +45,7 @@ pub record Unmaps (x : ToldRecord) (t : Title) : Type 0 where
 abbrev pub OnlyUnmapsUncut : List ToldRecord → Type 0
 OnlyUnmapsUncut ts = (x : ToldRecord) (t : Title) → Contains ts x → Contains x.stretch (Uncut t) → Unmaps x t
 
--- Then, if a title exists, no log says that it was uncut.
+-- If a title exists, no log says that it was uncut.
 abbrev pub StandsUncut : Type 0
 StandsUncut =
     (supers partitions p : ℕ) (lists : ℕ → List Made) (pools : List PoolEntry) (roots : Journals) (ts : List ToldRecord) (v : View)
@@ -55,7 +55,7 @@ StandsUncut =
 -- What is known of a run and of the closing seat, which has what the roots' seats and the workers' seats had.
 --   journals, pool, rising, few, slots, told, logs: clauses of the run, and its records with their logs
 --   caches: the threads' lists are these at the end
---   rooted: a slot that was made and is with its root is free in the seat: the root's seat held it
+--   rooted: a slot that was made and is with its root is free in the seat, as the root's seat held it
 --   listed: so is the title of a slot on a thread's list
 pub record HasFree (supers partitions threads : ℕ) (sizes : SlotName → ℕ) (pools : List PoolEntry) (roots : Journals)
     (ts : List ToldRecord) (all : Caches) (v : View) : Type 0 where
@@ -72,7 +72,7 @@ pub record HasFree (supers partitions threads : ℕ) (sizes : SlotName → ℕ) 
   pub listed : (k p class : ℕ) (m : Numbered) → k < threads → p < partitions → class < class_count → Contains (all k p class) m →
       0 < free_of v (title_of sizes m.slot)
 
--- Then the seat holds each title that exists and that no log names, if it has the length of its slot.
+-- The closing seat holds each title that exists and that no log names, if it has the length of its slot.
 abbrev pub StandsHeld : Type 0
 StandsHeld =
     (supers partitions threads p : ℕ) (sizes : SlotName → ℕ) (pools : List PoolEntry) (roots : Journals) (ts : List ToldRecord)

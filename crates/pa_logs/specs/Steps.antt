@@ -1,9 +1,9 @@
 -- The history of a slot's steps, the records that made them, and what follows: the run of each slot, and contents.
 use Rattle.std.specs.Prelude.{◌≡◌, ℕ, ◌+◌, ◌<◌, ◌≤◌, List, ◌∷◌, length, Some, Contains}
-use Rattle.pa_machine.specs.declared.title.Title.{Title}
-use Rattle.pa_machine.specs.declared.word.SlotName.{SlotName}
-use Rattle.pa_machine.specs.Count.{number_of}
-use Rattle.pa_machine.specs.Run.{Mark, Slots}
+use Rattle.pa_slot.specs.declared.title.Title.{Title}
+use Rattle.pa_slot.specs.declared.word.SlotName.{SlotName}
+use Rattle.pa_slot.specs.Count.{number_of}
+use Rattle.pa_slot.specs.Run.{Mark, Slots}
 use Rattle.pa_region.specs.declared.view.View.{View}
 use Rattle.pa_region.specs.Views.{logged_of}
 use Rattle.pa_region.specs.History.{Done, IsLegal, IsWordIn, IsChained}
@@ -41,11 +41,11 @@ HistoriesFollow =
     (sizes : SlotName → ℕ) (v : View) (ts : List ToldRecord) (history : Title → List Done) → AreLogs v ts → AreTold sizes ts →
     ((t : Title) → IsChained (logged_of v) t (history t)) → (s : SlotName) → AreSteps (played_in ts) s (history (title_of sizes s))
 
--- Then each slot has one run.
+-- If each slot has a history by the records, it has one run.
 abbrev pub SlotsFollow : Type 0
 SlotsFollow = (ps : List Played) (history : SlotName → List Done) → ((s : SlotName) → AreSteps ps s (history s)) → Slots (marks_of ps)
 
--- And the content at a number is that of the history.
+-- The content of a slot at a number is that of its history.
 abbrev pub ContentFollows : Type 0
 ContentFollows =
     (ps : List Played) (s : SlotName) (history : List Done) (k : ℕ) → AreSteps ps s history → k ≤ length history →

@@ -1,6 +1,6 @@
 -- The exchanges in the list of the cells' keeper, and their order.
 use Rattle.std.specs.Prelude.{◌≡◌, ℕ, ◌<◌, ◌≤◌, ◌+◌, List, [], ◌∷◌, ◌==◌, Bool, map, filter, length, if◌then◌else◌, Contains}
-use Rattle.pa_machine.specs.declared.title.Title.{Title}
+use Rattle.pa_slot.specs.declared.title.Title.{Title}
 use Rattle.pa_region.specs.declared.view.Made.{Made}
 use Rattle.pa_region.specs.Views.{seen_among}
 use Rattle.pa_region.specs.Lists.{entered_in, Rises}
@@ -53,7 +53,7 @@ pub record AreSwapped (list : List Made) (cells : ℕ → List CellEntry) (swaps
   pub gives : (x : ToldRecord) (m : Made) (t : Title) → Contains ts x → Contains (entered_in 5 x.stretch) m →
       x.gives t ≡ seen_among t m.seen
 
--- Then exchanges have one order, in which what was seen rises.
+-- Exchanges have one order, in which what was seen rises.
 pub record SwapsFollow : Type 0 where
   pub handed : (list : List Made) (cells : ℕ → List CellEntry) (swaps : List SwapMade) (ts : List ToldRecord) (x y : Played) →
       AreSwapped list cells swaps ts → HandsTo cells x y → place_of list x.line < place_of list y.line
@@ -77,7 +77,7 @@ pub record AreAnswered (cells : ℕ → List CellEntry) (swaps : List SwapMade) 
   pub answers : (x : ToldRecord) (k reg : ℕ) → Contains ts x → x.played.op ≡ Swap k reg →
       (j : ℕ) × (e : CellEntry) × (x.played.answer ≡ Swapped j) × IsExchange cells k j e × (e.line ≡ x.played.line)
 
--- Then the cells are those of a legal run.
+-- The cells are those of a legal run.
 abbrev pub CellsFollow : Type 0
 CellsFollow =
     (list : List Made) (cells : ℕ → List CellEntry) (swaps : List SwapMade) (ts : List ToldRecord) → AreSwapped list cells swaps ts →

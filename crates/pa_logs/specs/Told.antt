@@ -2,7 +2,7 @@
 use Rattle.std.specs.Prelude.{◌≡◌, ℕ, ◌<◌, ◌≤◌, List, ◌==◌, nat_le, map, filter, flat_map, Bool, Contains}
 use Rattle.std.specs.List.{sum_by}
 use Rattle.std.specs.List.{AllByRecursion as Each}
-use Rattle.pa_machine.specs.declared.title.Title.{Title}
+use Rattle.pa_slot.specs.declared.title.Title.{Title}
 use Rattle.pa_trace.specs.Limits.{most_threads}
 use Rattle.pa_region.specs.declared.view.Entry.{Entry}
 use Rattle.pa_region.specs.declared.view.Stake.{Stake}
@@ -10,9 +10,11 @@ use Rattle.pa_region.specs.declared.view.View.{View}
 use Rattle.pa_region.specs.Views.{stake_of, logged_of, HasEveryStake}
 use Rattle.pa_rules.specs.declared.played.Played.{Played}
 
--- A record of a run; the log segment of its thread's log that belongs to it; the number of each title that its seat had seen
--- before it; and the number up to which it hands on what was seen: what its seat had seen after it, and for an exchange
--- what the entry in the cells' list carries.
+-- A record of a run, with what its thread's log and its seat say of it.
+--   stretch: the log segment of its thread's log that belongs to it
+--   saw: the number of each title that its seat had seen before it
+--   gives: the number up to which it hands on what was seen, which is what its seat had seen after it, and for an exchange what the
+--     entry in the cells' list carries
 pub record ToldRecord : Type 0 where
   pub played : Played
   pub stretch : List Entry

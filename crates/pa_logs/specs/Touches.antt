@@ -1,11 +1,11 @@
 -- What a log segment says of its record: the steps, the looks and the reads of its op.
 use Rattle.std.specs.Prelude.{◌≡◌, ℕ, ◌+◌, ◌<◌, List, [], ◌∷◌, ◌++◌, filter, Bool, true, false, Option, Some, None, Contains}
-use Rattle.pa_machine.specs.declared.title.Title.{Title}
-use Rattle.pa_machine.specs.declared.word.SlotName.{SlotName}
-use Rattle.pa_machine.specs.declared.word.Step.{Step}
-use Rattle.pa_machine.specs.declared.word.Step.TheVariants as steps
-use Rattle.pa_machine.specs.Count.{held_of, refs_of}
-use Rattle.pa_machine.specs.Run.{Mark}
+use Rattle.pa_slot.specs.declared.title.Title.{Title}
+use Rattle.pa_slot.specs.declared.word.SlotName.{SlotName}
+use Rattle.pa_slot.specs.declared.word.Step.{Step}
+use Rattle.pa_slot.specs.declared.word.Step.TheVariants as steps
+use Rattle.pa_slot.specs.Count.{held_of, refs_of}
+use Rattle.pa_slot.specs.Run.{Mark}
 use Rattle.pa_region.specs.declared.view.Deeds.{Deeds}
 use Rattle.pa_region.specs.declared.view.Entry.{Entry}
 use Rattle.pa_region.specs.declared.view.Entry.TheVariants.{Counted, Looked, Read, Added, Entered, Uncut}
@@ -33,7 +33,7 @@ is_touch (Added word bytes) = false
 is_touch (Entered keeper made) = false
 is_touch (Uncut t) = false
 
--- those of a log segment
+-- the steps, looks and reads of a log segment
 abbrev pub touches : List Entry → List Entry
 touches es = filter is_touch es
 
@@ -79,12 +79,12 @@ step_by x = step_in x.op x.answer
 abbrev pub IsStepTold : Title → Step → ℕ → ℕ → List Entry → Type 0
 IsStepTold t step found value es = (looks : List Entry) × AreLooks t looks × (touches es ≡ looks ++ Counted t step found value ∷ [])
 
--- it has a look at the title, which found a word in use, and touches nothing else
+-- the log segment has a look at the title, which found a word in use, and touches nothing else
 abbrev pub IsLookTold : Title → ℕ → List Entry → Type 0
 IsLookTold t found es = (touches es ≡ Looked t found ∷ []) × (0 < held_of found + refs_of found)
 
--- It is a look at the title and right after it a read of its content word number `place`, which gave this value, and after
--- them it touches nothing: at a phase's end come additions to totals words. Between the two nothing was done, and the reader
+-- The log segment is a look at the title and right after it a read of its content word number `place`, which gave this value. What
+-- comes after them touches nothing: at a phase's end come additions to totals words. Between the two nothing was done, and the reader
 -- had no unclean Own.
 pub record IsReadTold (t : Title) (place found value : ℕ) (owned : Bool) (es : List Entry) : Type 0 where
   pub since : Deeds
@@ -96,12 +96,13 @@ pub record IsReadTold (t : Title) (place found value : ℕ) (owned : Bool) (es :
   pub clean : unclean ≡ false
   pub in_use : 0 < held_of found + refs_of found
 
--- so it is for the answer of an op that makes a step, that looks or not, and that reads
+-- the op makes a step, and the log segment has this step on the slot that was seen
 abbrev pub IsDoneTold : (SlotName → ℕ) → Option Step → ℕ → Seen → List Entry → Type 0
 IsDoneTold sizes None value seen es = ⊥
 IsDoneTold sizes (Some step) value seen es = IsStepTold (title_of sizes seen.slot) step seen.found.0 value es
 
--- if a slot was seen, the log segment has a look at it that found it in use, and touches nothing else; if none was, it touches nothing
+-- If a slot was seen, the log segment has a look at it that found it in use, and touches nothing else. If none was, it touches
+-- nothing.
 abbrev pub IsSeenTold : (SlotName → ℕ) → Option Seen → List Entry → Type 0
 IsSeenTold sizes None es = touches es ≡ []
 IsSeenTold sizes (Some seen) es = IsLookTold (title_of sizes seen.slot) seen.found.0 es
@@ -133,7 +134,7 @@ IsTold sizes x = IsToldBy sizes x.played.op x.played.answer x.stretch
 abbrev pub AreTold : (SlotName → ℕ) → List ToldRecord → Type 0
 AreTold sizes ts = (x : ToldRecord) → Contains ts x → IsTold sizes x
 
--- Then a log segment says what its record's mark does.
+-- A log segment says what its record's mark does.
 --   has_step: it has the step that the record made
 --   has_look: it has the look, if the record's mark is one, and that found a word in use
 --   step_is: a counted step that it has is the one that the record made, of the slot's title

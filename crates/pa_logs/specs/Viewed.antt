@@ -1,9 +1,9 @@
 -- What seats had seen along a run, in which order the exchanges come, and what follows: the clause of what was seen.
 use Rattle.std.specs.Prelude.{◌≡◌, ◌≢◌, ℕ, ◌+◌, ◌<◌, ◌≤◌, List, Contains, AllPairs}
-use Rattle.pa_machine.specs.declared.title.Title.{Title}
-use Rattle.pa_machine.specs.declared.word.SlotName.{SlotName}
-use Rattle.pa_machine.specs.declared.word.Step.{Step}
-use Rattle.pa_machine.specs.Count.{number_of}
+use Rattle.pa_slot.specs.declared.title.Title.{Title}
+use Rattle.pa_slot.specs.declared.word.SlotName.{SlotName}
+use Rattle.pa_slot.specs.declared.word.Step.{Step}
+use Rattle.pa_slot.specs.Count.{number_of}
 use Rattle.pa_region.specs.declared.view.Entry.TheVariants.{Counted, Looked}
 use Rattle.pa_trace.specs.declared.script.Op.TheVariants.{Swap}
 use Rattle.pa_record.specs.declared.history.CellEntry.{CellEntry}
@@ -46,7 +46,7 @@ pub record AreViewed (cells : ℕ → List CellEntry) (ts : List ToldRecord) : T
   pub stands : (x y : ToldRecord) (t : Title) → Contains ts x → Contains ts y → StandsBefore x.played y.played → x.gives t ≤ y.saw t
   pub hands : (x y : ToldRecord) (t : Title) → Contains ts x → Contains ts y → HandsTo cells x.played y.played → x.gives t ≤ y.gives t
 
--- Then no record is before itself, and none finds less than one before it left.
+-- No record is before itself, and none finds less than one before it left.
 abbrev pub SeenFollows : Type 0
 SeenFollows =
     (sizes : SlotName → ℕ) (cells : ℕ → List CellEntry) (place : ℕ → ℕ) (ts : List ToldRecord) → AreTold sizes ts →

@@ -1,6 +1,6 @@
 -- What is known of a run that was played in a region, and that it is legal.
 use Rattle.std.specs.Prelude.{◌≡◌, ℕ, ◌<◌, List, Contains}
-use Rattle.pa_machine.specs.declared.word.SlotName.{SlotName}
+use Rattle.pa_slot.specs.declared.word.SlotName.{SlotName}
 use Rattle.pa_region.specs.declared.view.View.{View}
 use Rattle.pa_trace.specs.declared.script.Trace.{Trace}
 use Rattle.pa_rules.specs.declared.played.Played.{Played}
@@ -23,9 +23,10 @@ use Rattle.pa_logs.specs.Viewed.{IsExchanged, AreViewed}
 
 -- A run's records with their log segments, what is known of their logs, and the clauses that other layers give.
 --   due, records: the records are the trace's lines, each with a log segment
---   told, last, ends: each log segment is what its answer requires; at the end and at each phase's end a view knows all logs
+--   told: each log segment is what its answer requires
+--   last, ends: at the end and at each phase's end a view knows all logs
 --   readers: reads are known to be through their handles
---   viewed, handed, threads: what seats had seen, and the order of exchanges; `place` is a line's place in it
+--   viewed, handed, threads: what seats had seen, and the order of exchanges, in which a line has the place `place`
 --   cells, registers, pool, roots, caches, report: six clauses of a legal run
 --   numbers, unmaps: a root's numbers, and direct maps that go back
 pub record IsPlayedOut (sizes : SlotName → ℕ) (place : ℕ → ℕ) (t : Trace) (r : Told) (v : View) (ts : List ToldRecord) : Type 0 where
@@ -48,7 +49,7 @@ pub record IsPlayedOut (sizes : SlotName → ℕ) (place : ℕ → ℕ) (t : Tra
   pub numbers : AreNumbered r.roots
   pub unmaps : (x : Played) → Contains (played_in ts) x → UnmapsNext r.roots x
 
--- Then the output of the run is legal.
+-- The output of a run that was played out is legal.
 abbrev pub LegalIsTold : Type 0
 LegalIsTold =
     (sizes : SlotName → ℕ) (place : ℕ → ℕ) (t : Trace) (r : Told) (v : View) (ts : List ToldRecord) →

@@ -1,10 +1,10 @@
 -- Four records of two threads that were worked out by hand: a slot is made and pointed to by thread 0, read by thread 1, and
 -- freed by thread 0. They meet what the laws of steps, of reads and of what was seen require.
 use Rattle.std.specs.Prelude.{ℕ, List, [], ◌∷◌, map, false, if◌then◌else◌}
-use Rattle.pa_machine.specs.declared.title.Title.{Title}
-use Rattle.pa_machine.specs.declared.word.SlotName.{SlotName}
-use Rattle.pa_machine.specs.declared.word.Step.TheVariants.{Issue, Copy, Free}
-use Rattle.pa_machine.specs.Titles.{same_title}
+use Rattle.pa_slot.specs.declared.title.Title.{Title}
+use Rattle.pa_slot.specs.declared.word.SlotName.{SlotName}
+use Rattle.pa_slot.specs.declared.word.Step.TheVariants.{Issue, Copy, Free}
+use Rattle.pa_slot.specs.Titles.{same_title}
 use Rattle.pa_region.specs.declared.view.Entry.{Entry}
 use Rattle.pa_region.specs.declared.view.Entry.TheVariants.{Counted, Looked, Read}
 use Rattle.pa_region.specs.declared.view.Stake.{Stake}
@@ -21,7 +21,7 @@ use Rattle.pa_logs.specs.Told.{ToldRecord, played_in, log_of}
 use Rattle.pa_logs.specs.Reads.{IsReadOff}
 use Rattle.pa_logs.specs.Viewed.{IsOrdered, AreViewed}
 
--- slots of 16 bytes; the one slot, with a word; its title
+-- each slot has 16 bytes
 abbrev pub sixteen : SlotName → ℕ
 sixteen s = 16
 
@@ -46,7 +46,7 @@ worked line thread op answer stretch saw gives = record {
   gives = at_number gives;
 }
 
--- the four records
+-- line 2: thread 0 allocates the slot, and hands on number 1
 abbrev pub the_maker : ToldRecord
 the_maker = worked 2 0 (ops.Alloc 0 0 8) (answers.Made (slot_with 0) 8) (Counted its_title Issue 0 0 ∷ []) 0 1
 
@@ -68,7 +68,7 @@ the_free = worked 5 0 (ops.Free 0) (answers.Done (slot_with 33554435)) (Counted 
 abbrev pub worked_records : List ToldRecord
 worked_records = the_maker ∷ the_copy ∷ the_reader ∷ the_free ∷ []
 
--- a view with the 16 stakes; their logs are those of some records
+-- a stake with the log of these records' threads
 abbrev pub with_log : List ToldRecord → Stake → Stake
 with_log ts s = record { number = s.number; log = log_of s.number ts }
 
@@ -90,7 +90,7 @@ view_of ts = record {
   seen_lists = [];
 }
 
--- such a view knows all of these records' logs, and the read between the copy and the free gave what it may
+-- a view with the logs of the four records knows all of them, and the read between the copy and the free gave what it may
 abbrev pub WorkedIsReadOff : Type 0
 WorkedIsReadOff = IsReadOff sixteen (view_of worked_records) worked_records
 
@@ -98,6 +98,6 @@ WorkedIsReadOff = IsReadOff sixteen (view_of worked_records) worked_records
 abbrev pub no_cells : ℕ → List CellEntry
 no_cells k = []
 
--- and what their seats had seen is in order, with each line's number as its place
+-- what the seats of the four records had seen is in order, with each line's number as its place
 abbrev pub WorkedIsSeen : Type 0
 WorkedIsSeen = IsOrdered no_cells (λ line. line) (played_in worked_records) × AreViewed no_cells worked_records

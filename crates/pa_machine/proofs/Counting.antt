@@ -1,16 +1,16 @@
 -- Each step on a count word keeps its title good.
 use Rattle.std.proofs.Common.{◌≡◌, ℕ, ◌+◌, ◌-◌, ◌*◌, ◌/◌, ◌%◌, ◌<◌, ◌≤◌, List, [], ◌∷◌, length, set, refl, ◌∙◌, arith, ◌⊎◌, inl, inr}
-use Rattle.pa_machine.specs.declared.word.Step.TheVariants.{Issue, Copy, Reset, Free, Write}
-use Rattle.pa_machine.specs.declared.title.Title.{Title}
-use Rattle.pa_machine.specs.declared.title.OwnState.{OwnState}
-use Rattle.pa_machine.specs.declared.title.OwnState.TheVariants.{Clean, Poisoned}
-use Rattle.pa_machine.specs.Count.{refs_of}
-use Rattle.pa_machine.specs.Run.{IsFree}
-use Rattle.pa_machine.specs.Titles.{IsWellFormed, content_count, count_place, content_at, count_word, HasContentFrom, IsUniform}
-use Rattle.pa_machine.specs.Holdings.{FreePiece, OwnPiece, RefPiece, Thing, FreeTitle, OwnOf, OwnAs, RefOf, held_in, one}
+use Rattle.pa_slot.specs.declared.word.Step.TheVariants.{Issue, Copy, Reset, Free, Write}
+use Rattle.pa_slot.specs.declared.title.Title.{Title}
+use Rattle.pa_slot.specs.declared.title.OwnState.{OwnState}
+use Rattle.pa_slot.specs.declared.title.OwnState.TheVariants.{Clean, Poisoned}
+use Rattle.pa_slot.specs.Count.{refs_of}
+use Rattle.pa_slot.specs.Run.{IsFree}
+use Rattle.pa_slot.specs.Titles.{IsWellFormed, content_count, count_place, content_at, count_word, HasContentFrom, IsUniform}
+use Rattle.pa_slot.specs.Holdings.{FreePiece, OwnPiece, RefPiece, Thing, FreeTitle, OwnOf, OwnAs, RefOf, held_in, one}
 use Rattle.pa_machine.specs.Events.{returned_at}
-use Rattle.pa_machine.proofs.Arith.{IsStepped, held_small}
-use Rattle.pa_machine.proofs.Same.{state_tells}
+use Rattle.pa_slot.proofs.Arith.{IsStepped, held_small}
+use Rattle.pa_slot.proofs.Same.{state_tells}
 use Rattle.pa_machine.proofs.Totals.{IsTally}
 use Rattle.pa_machine.proofs.Parts.{IsTitleGood, Changes}
 use Rattle.pa_machine.proofs.Amounts.{free_self, own_self, ref_self, state_here, state_apart, returned_cases, word_written, content_unwritten}
@@ -118,7 +118,7 @@ copy_good words after total later t v g tally tallied s w has c =
       };
     }
 
--- what is given back counts as one free title where the word is free, and as nothing else
+-- what is given back counts as one free title if the word is free, and as none if it isn't
 pub returned_free : (v : ℕ) (t : Title) →
     (IsFree v × (held_in (returned_at v t) (FreeTitle t) ≡ 1)) ⊎ ((IsFree v → ⊥) × (held_in (returned_at v t) (FreeTitle t) ≡ 0))
 returned_free v t = elim (returned_cases v t) [

@@ -2,21 +2,22 @@
 use Rattle.std.proofs.Common.{◌≡◌, ℕ, ◌+◌, ◌-◌, ◌*◌, ◌/◌, ◌%◌, ◌<◌, ◌≤◌, ◌&&◌, List, [], ◌∷◌, length, refl, sym, ◌∙◌, subst, arith, ◌⊎◌, inl, inr}
 use Rattle.std.proofs.lemmas.Bool.{cases_lt}
 use Rattle.std.proofs.lemmas.Bool.Decides.{nat_tests}
-use Rattle.pa_machine.specs.declared.title.Title.{Title}
-use Rattle.pa_machine.specs.declared.title.OwnState.TheVariants.{Clean, Poisoned}
-use Rattle.pa_machine.specs.Run.{IsFree}
-use Rattle.pa_machine.specs.Titles.{Covers, IsWellFormed, count_word}
-use Rattle.pa_machine.specs.Holdings.{Piece, RawPiece, FreePiece, Thing, RawByte, FreeTitle, OwnOf, OwnAs, RefOf, IsTitleHeld, held_in}
+use Rattle.pa_slot.specs.declared.title.Title.{Title}
+use Rattle.pa_slot.specs.declared.title.OwnState.TheVariants.{Clean, Poisoned}
+use Rattle.pa_slot.specs.Run.{IsFree}
+use Rattle.pa_slot.specs.Titles.{Covers, IsWellFormed, count_word}
+use Rattle.pa_slot.specs.Holdings.{Piece, RawPiece, FreePiece, Thing, RawByte, FreeTitle, OwnOf, OwnAs, RefOf, IsTitleHeld, held_in}
 use Rattle.pa_machine.specs.Good.{IsDivided, IsGood}
-use Rattle.pa_machine.proofs.Same.{title_tells}
+use Rattle.pa_slot.proofs.Same.{title_tells}
 use Rattle.pa_machine.proofs.Totals.{IsTally}
 use Rattle.pa_machine.proofs.Parts.{free_or, IsTitleGood, IsUntouched, Changes, good_by, IsNoneOf, free_none, raw_none}
 use Rattle.pa_machine.proofs.Amounts.{free_self}
 
--- a range counts as a byte where the byte lies in it
+-- a range counts as a byte if the byte lies in it
 pub covered_raw : (start len b : ℕ) → start ≤ b → b < start + len → held_in (RawPiece start len ∷ []) (RawByte b) ≡ 1
 covered_raw start len b low high = grind (arith, nat_tests)
 
+-- a range doesn't count as a byte that lies outside it
 pub uncovered_raw : (start len b : ℕ) → (b < start) ⊎ (start + len ≤ b) → held_in (RawPiece start len ∷ []) (RawByte b) ≡ 0
 uncovered_raw start len b (inl low) = grind (arith, nat_tests)
 uncovered_raw start len b (inr high) = grind (arith, nat_tests)
@@ -28,7 +29,7 @@ covers_or t b = elim (cases_lt b t.start) [
   | inr above ↦ elim (cases_lt b (t.start + t.len)) [ inl below ↦ inl (above, below) | inr high ↦ inr (inr high) ]
 ]
 
--- another title's handles stay where a free title comes or goes against raw bytes
+-- another title's handles stay if a free title comes or goes against raw bytes
 pub cut_untouched : (words : List ℕ) (total later : Thing → ℕ) (u : Title) (lost gained : List Piece) → IsNoneOf lost u → IsNoneOf gained u →
     Changes total lost gained later → IsUntouched words total words later u
 cut_untouched words total later u lost gained l g c = record {

@@ -4,18 +4,18 @@ use Rattle.std.specs.Prelude.{nat_le, nat_lt}
 use Rattle.std.proofs.lemmas.Bool.Decides.{nat_tests}
 use Rattle.std.proofs.lemmas.Bool.{cases_lt}
 use Rattle.std.proofs.lemmas.List.FromFn.{length-map-range_with_len}
-use Rattle.pa_machine.specs.declared.title.Title.{Title}
-use Rattle.pa_machine.specs.declared.title.OwnState.{OwnState}
-use Rattle.pa_machine.specs.declared.title.OwnState.TheVariants.{Clean, Dirty, Poisoned}
-use Rattle.pa_machine.specs.declared.word.Step.{Step}
-use Rattle.pa_machine.specs.declared.word.Step.TheVariants.{Issue, Copy, Reset, Free, Write}
+use Rattle.pa_slot.specs.declared.title.Title.{Title}
+use Rattle.pa_slot.specs.declared.title.OwnState.{OwnState}
+use Rattle.pa_slot.specs.declared.title.OwnState.TheVariants.{Clean, Dirty, Poisoned}
+use Rattle.pa_slot.specs.declared.word.Step.{Step}
+use Rattle.pa_slot.specs.declared.word.Step.TheVariants.{Issue, Copy, Reset, Free, Write}
 use Rattle.pa_machine.specs.declared.slot.Slot.{Slot}
 use Rattle.pa_machine.specs.declared.tables.Tables.{Tables}
-use Rattle.pa_machine.specs.Titles.{Covers, IsWellFormed, IsContentOf, content_count, progress}
-use Rattle.pa_machine.specs.Holdings.{RawByte, FreeTitle, OwnAs, RefOf, IsTitleHeld}
+use Rattle.pa_slot.specs.Titles.{Covers, IsWellFormed, IsContentOf, content_count, progress}
+use Rattle.pa_slot.specs.Holdings.{RawByte, FreeTitle, OwnAs, RefOf, IsTitleHeld}
 use Rattle.pa_machine.specs.Events.{HasActor, CanCount, HoldsRaw, Holds, HoldsOpen, total_of, IsTitleWord}
 use Rattle.pa_machine.specs.Tables.{Place, pieces_of, state_of, kept_as, slot_at, kept_over, slot_over, IsPlaced, AreSound, IsHeldBy, CanPoison, MayChange, MayWrite}
-use Rattle.pa_machine.proofs.Same.{title_tells, title_self}
+use Rattle.pa_slot.proofs.Same.{title_tells, title_self}
 use Rattle.pa_machine.proofs.Totals.{tally_of}
 use Rattle.pa_machine.proofs.Keeps.{own_of_state}
 use Rattle.pa_machine.proofs.Happening.{in_total}

@@ -4,16 +4,16 @@ use Rattle.std.specs.Prelude.{Box}
 use Rattle.std.specs.Global.{Global}
 use Rattle.std.proofs.lemmas.List.{length-set}
 use Rattle.std.proofs.lemmas.Bool.{cases_lt}
-use Rattle.pa_machine.specs.declared.title.Title.{Title}
-use Rattle.pa_machine.specs.declared.title.OwnState.{OwnState}
-use Rattle.pa_machine.specs.declared.title.OwnState.TheVariants.{Clean, Dirty, Poisoned}
+use Rattle.pa_slot.specs.declared.title.Title.{Title}
+use Rattle.pa_slot.specs.declared.title.OwnState.{OwnState}
+use Rattle.pa_slot.specs.declared.title.OwnState.TheVariants.{Clean, Dirty, Poisoned}
 use Rattle.pa_machine.specs.declared.event.Item.TheVariants.{Raw as RawItem, Free as FreeItem, Own as OwnItem, Ref as RefItem}
 use Rattle.pa_machine.specs.declared.event.Event.{Event}
 use Rattle.pa_machine.specs.declared.event.Event.TheVariants.{Store, Poison, Hand}
 use Rattle.pa_machine.specs.declared.slot.Slot.{Slot}
 use Rattle.pa_machine.specs.declared.tables.Tables.{Tables}
-use Rattle.pa_machine.specs.Titles.{Covers, content_place, progress, poison, IsContentOf}
-use Rattle.pa_machine.specs.Holdings.{Piece, RawPiece, FreePiece, OwnPiece, RefPiece, Thing, RawByte, FreeTitle, OwnOf, OwnAs, RefOf, IsTitleHeld, held_in, one}
+use Rattle.pa_slot.specs.Titles.{Covers, content_place, progress, poison, IsContentOf}
+use Rattle.pa_slot.specs.Holdings.{Piece, RawPiece, FreePiece, OwnPiece, RefPiece, Thing, RawByte, FreeTitle, OwnOf, OwnAs, RefOf, IsTitleHeld, held_in, one}
 use Rattle.pa_machine.specs.Events.{HasActor, IsEnabled, Happens, HoldsOpen, total_of, Holds, of_actor, Exchanges, IsRawWord, IsFreeWord, IsOwnWord}
 use Rattle.pa_machine.specs.Tables.{is_holder, raw_pieces, state_of, slot_over, AreSound, IsNextSlot, IsFilled, MayWrite, MayChange}
 use Rattle.pa_machine.proofs.Cutting.{covered_raw, uncovered_raw, free_alone}
@@ -97,7 +97,7 @@ raw_unheld c k at_byte t sound raw held covers =
       | inr past ↦ let z = sound.good.divided.outside at_byte past in omega arith
     ]
 
--- what a store to an Own asks, told from what the table of homes finds there
+-- what a store to an Own asks, by what the table of homes finds there
 opens : (c : Tables) (k at_byte : ℕ) (t : Title) (s : OwnState) → AreSound c → MayChange (state_of c) k t → Holds (state_of c) k (OwnAs t s) → IsContentOf t at_byte → IsOwnWord (state_of c) k at_byte t s
 opens c k at_byte t s sound (inl free) holds within =
     let alone = free_alone c.words.items (total_of (state_of c)) t sound.good (in_total (state_of c) k (FreeTitle t) free) in

@@ -1,18 +1,18 @@
 -- Each event that is enabled keeps the state of the core good.
 use Rattle.std.proofs.Common.{◌≡◌, ℕ, ◌+◌, ◌-◌, ◌*◌, ◌/◌, ◌%◌, ◌<◌, ◌≤◌, List, [], ◌∷◌, length, ◌∙◌, arith, ◌⊎◌, inl, inr}
-use Rattle.pa_machine.specs.declared.word.Step.TheVariants.{Issue, Copy, Reset, Free, Write}
-use Rattle.pa_machine.specs.declared.title.Title.{Title}
-use Rattle.pa_machine.specs.declared.title.OwnState.{OwnState}
-use Rattle.pa_machine.specs.declared.title.OwnState.TheVariants.{Clean, Dirty, Poisoned}
+use Rattle.pa_slot.specs.declared.word.Step.TheVariants.{Issue, Copy, Reset, Free, Write}
+use Rattle.pa_slot.specs.declared.title.Title.{Title}
+use Rattle.pa_slot.specs.declared.title.OwnState.{OwnState}
+use Rattle.pa_slot.specs.declared.title.OwnState.TheVariants.{Clean, Dirty, Poisoned}
 use Rattle.pa_machine.specs.declared.event.Event.{Event}
 use Rattle.pa_machine.specs.declared.event.Event.TheVariants.{Count, Store, Poison, Load, Hand, Cut, Uncut}
-use Rattle.pa_machine.specs.Titles.{content_count, count_word, progress}
-use Rattle.pa_machine.specs.Holdings.{Piece, OwnPiece, Thing, RawByte, FreeTitle, OwnOf, OwnAs, RefOf}
+use Rattle.pa_slot.specs.Titles.{content_count, count_word, progress}
+use Rattle.pa_slot.specs.Holdings.{Piece, OwnPiece, Thing, RawByte, FreeTitle, OwnOf, OwnAs, RefOf}
 use Rattle.pa_machine.specs.Events.{State, HasActor, Holds, total_of, IsEnabled, IsAfter, Happens, piece_of}
 use Rattle.pa_machine.specs.Trail.{IsGoodState}
 use Rattle.pa_machine.proofs.Totals.{total_exchanged, held_part, tally_of}
 use Rattle.pa_machine.proofs.Parts.{Changes}
-use Rattle.pa_machine.proofs.Arith.{held_small}
+use Rattle.pa_slot.proofs.Arith.{held_small}
 use Rattle.pa_machine.proofs.Storing.{one_state}
 use Rattle.pa_machine.proofs.Cutting.{cut_good, uncut_good}
 use Rattle.pa_machine.proofs.Keeps.{issue_keeps, copy_keeps, reset_keeps, free_keeps, write_keeps, store_own_keeps, store_free_keeps, store_raw_keeps, poison_keeps, same_keeps, content_index, own_of_state}

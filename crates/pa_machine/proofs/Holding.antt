@@ -1,17 +1,17 @@
 -- A title that is held after an event was held before it, unless the event cut it out.
 use Rattle.std.proofs.Common.{◌≡◌, ℕ, ◌+◌, ◌<◌, ◌≤◌, List, [], ◌∷◌, length, refl, ◌∙◌, ap, subst, arith, ◌⊎◌, inl, inr}
 use Rattle.std.proofs.lemmas.List.{length-set}
-use Rattle.pa_machine.specs.declared.word.Step.TheVariants.{Issue, Copy, Reset, Free, Write}
-use Rattle.pa_machine.specs.declared.title.Title.{Title}
-use Rattle.pa_machine.specs.declared.title.OwnState.{OwnState}
-use Rattle.pa_machine.specs.declared.title.OwnState.TheVariants.{Clean, Dirty, Poisoned}
+use Rattle.pa_slot.specs.declared.word.Step.TheVariants.{Issue, Copy, Reset, Free, Write}
+use Rattle.pa_slot.specs.declared.title.Title.{Title}
+use Rattle.pa_slot.specs.declared.title.OwnState.{OwnState}
+use Rattle.pa_slot.specs.declared.title.OwnState.TheVariants.{Clean, Dirty, Poisoned}
 use Rattle.pa_machine.specs.declared.event.Event.{Event}
 use Rattle.pa_machine.specs.declared.event.Event.TheVariants.{Count, Store, Poison, Load, Hand, Cut, Uncut}
-use Rattle.pa_machine.specs.Count.{stepped}
-use Rattle.pa_machine.specs.Titles.{content_count, count_word}
-use Rattle.pa_machine.specs.Holdings.{Piece, RawPiece, FreePiece, Thing, FreeTitle, OwnOf, OwnAs, RefOf, IsTitleHeld}
+use Rattle.pa_slot.specs.Count.{stepped}
+use Rattle.pa_slot.specs.Titles.{content_count, count_word}
+use Rattle.pa_slot.specs.Holdings.{Piece, RawPiece, FreePiece, Thing, FreeTitle, OwnOf, OwnAs, RefOf, IsTitleHeld}
 use Rattle.pa_machine.specs.Events.{State, HasActor, IsEnabled, Happens, IsAfter, IsSameShape, total_of, piece_of, Holds}
-use Rattle.pa_machine.proofs.Same.{title_tells}
+use Rattle.pa_slot.proofs.Same.{title_tells}
 use Rattle.pa_machine.proofs.Totals.{total_exchanged, tally_of}
 use Rattle.pa_machine.proofs.Parts.{Changes, IsNoneOf, nil_none, free_none, own_none, ref_none, raw_none}
 use Rattle.pa_machine.proofs.Keeps.{own_of_state, returned_here}
@@ -34,7 +34,7 @@ gained_back total later lost gained u c g held =
     let x = g.free in let y = g.own in let z = g.ref in
     omega arith
 
--- so it is where what is gained is one held title's
+-- if what is gained is one held title's, each title that is held after was held before
 one_title : (s after : State) (actor : ℕ) (lost gained : List Piece) (words : List ℕ) (t u : Title) → HasActor s actor → IsAfter s actor lost gained words after →
     IsTitleHeld (total_of s) t → ((v : Title) → (t ≡ v → ⊥) → IsNoneOf gained v) → IsTitleHeld (total_of after) u → IsTitleHeld (total_of s) u
 one_title s after actor lost gained words t u has h held none after_held = elim (title_tells t u) [

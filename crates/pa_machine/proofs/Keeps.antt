@@ -2,17 +2,17 @@
 use Rattle.std.proofs.Common.{◌≡◌, ℕ, ◌+◌, ◌-◌, ◌*◌, ◌/◌, ◌%◌, ◌<◌, ◌≤◌, List, [], ◌∷◌, length, set, refl, ◌∙◌, arith, ◌⊎◌, inl, inr}
 use Rattle.std.proofs.lemmas.List.{length-set}
 use Rattle.std.proofs.lemmas.Bool.{cases_lt}
-use Rattle.pa_machine.specs.declared.word.Step.{Step}
-use Rattle.pa_machine.specs.declared.word.Step.TheVariants.{Issue, Copy, Reset, Free, Write}
-use Rattle.pa_machine.specs.declared.title.Title.{Title}
-use Rattle.pa_machine.specs.declared.title.OwnState.{OwnState}
-use Rattle.pa_machine.specs.declared.title.OwnState.TheVariants.{Clean, Dirty, Poisoned}
-use Rattle.pa_machine.specs.Count.{refs_of, CanStep, stepped}
-use Rattle.pa_machine.specs.Titles.{Covers, IsWellFormed, content_count, content_place, count_place, count_word, HasContentFrom, IsUniform, poison, progress, IsContentOf}
-use Rattle.pa_machine.specs.Holdings.{FreePiece, OwnPiece, RefPiece, Thing, RawByte, FreeTitle, OwnOf, OwnAs, RefOf, IsTitleHeld, held_in}
+use Rattle.pa_slot.specs.declared.word.Step.{Step}
+use Rattle.pa_slot.specs.declared.word.Step.TheVariants.{Issue, Copy, Reset, Free, Write}
+use Rattle.pa_slot.specs.declared.title.Title.{Title}
+use Rattle.pa_slot.specs.declared.title.OwnState.{OwnState}
+use Rattle.pa_slot.specs.declared.title.OwnState.TheVariants.{Clean, Dirty, Poisoned}
+use Rattle.pa_slot.specs.Count.{refs_of, CanStep, stepped}
+use Rattle.pa_slot.specs.Titles.{Covers, IsWellFormed, content_count, content_place, count_place, count_word, HasContentFrom, IsUniform, poison, progress, IsContentOf}
+use Rattle.pa_slot.specs.Holdings.{FreePiece, OwnPiece, RefPiece, Thing, RawByte, FreeTitle, OwnOf, OwnAs, RefOf, IsTitleHeld, held_in}
 use Rattle.pa_machine.specs.Good.{IsGood}
 use Rattle.pa_machine.specs.Events.{returned_at}
-use Rattle.pa_machine.proofs.Arith.{stepped_is}
+use Rattle.pa_slot.proofs.Arith.{stepped_is}
 use Rattle.pa_machine.proofs.Totals.{IsTally}
 use Rattle.pa_machine.proofs.Parts.{free_or, IsTitleGood, Changes, title_of_good, IsWordOf, word_covered, IsNoneOf, nil_none, free_none, own_none, ref_none, IsChangeAt, change_good, good_by, divided_same, untouched_by_write}
 use Rattle.pa_machine.proofs.Amounts.{own_self, ref_self, returned_cases, content_written, content_other, word_unwritten}
@@ -235,7 +235,7 @@ poison_keeps words total later t state g tally tallied below has c =
     (restate_change words total later t state (Poisoned (progress state + 1)) (content_place t (progress state)) c (omega arith, omega arith))
     good
 
--- a write to a word whose first byte is raw
+-- a write to a word whose first byte is raw keeps the core good
 pub store_raw_keeps : (words : List ℕ) (total later : Thing → ℕ) (p v : ℕ) → IsGood words total → 0 < total (RawByte (8 * p)) →
     Changes total [] [] later → IsGood (set words p v) later
 store_raw_keeps words total later p v g raw c =

@@ -1,12 +1,12 @@
 -- The central law: along every run of enabled events the core stays good, each content is the one of its last Issue or
 -- Write, and a title becomes free by a returning step alone.
 use Rattle.std.proofs.Common.{◌≡◌, ℕ, ◌+◌, Some, List, [], ◌∷◌, ◌++◌, refl, sym, ◌∙◌}
-use Rattle.pa_machine.specs.declared.title.Title.{Title}
+use Rattle.pa_slot.specs.declared.title.Title.{Title}
 use Rattle.pa_machine.specs.declared.event.StepFault.{StepFault}
 use Rattle.pa_machine.specs.declared.event.StepFault.TheVariants.{NotEnabled, OutOfMemory}
 use Rattle.pa_machine.specs.declared.event.Event.{Event}
 use Rattle.pa_machine.specs.Events.{State, IsEnabled, Happens}
-use Rattle.pa_machine.specs.Trail.{Played, end_of, IsGoodState, KeepsContent, noted, Lasts, IsRunTo, IsRefusedFor}
+use Rattle.pa_machine.specs.Trail.{Played, end_of, IsGoodState, KeepsContent, noted, Lasts, IsRunTo, MayNeedMemory, IsRefusedFor}
 use Rattle.pa_machine.proofs.Happening.{happens_good}
 use Rattle.pa_machine.proofs.Holding.{same_shape}
 use Rattle.pa_machine.proofs.Returning.{only_returns}
@@ -52,6 +52,7 @@ run_more s mid after es e good r can h =
     }
 
 -- what a refusal says of the event
-pub refused_at : (fault : StepFault) (e : Event) (s : State) → (fault ≡ NotEnabled → IsEnabled e s → ⊥) → (fault ≡ OutOfMemory → IsEnabled e s) → IsRefusedFor fault (Some e) s
-refused_at NotEnabled e s never always = never refl
-refused_at OutOfMemory e s never always = always refl
+pub refused_at : (fault : StepFault) (e : Event) (s : State) → (fault ≡ NotEnabled → IsEnabled e s → ⊥) → (fault ≡ OutOfMemory → IsEnabled e s)
+    → (fault ≡ OutOfMemory → MayNeedMemory e) → IsRefusedFor fault (Some e) s
+refused_at NotEnabled e s never always asks = never refl
+refused_at OutOfMemory e s never always asks = (always refl, asks refl)

@@ -1,18 +1,18 @@
 -- The content of a title is the one of its last Issue or Write.
 use Rattle.std.proofs.Common.{◌≡◌, ℕ, ◌+◌, ◌-◌, ◌*◌, ◌/◌, ◌%◌, ◌<◌, ◌≤◌, cond, List, [], ◌∷◌, length, set, refl, sym, ◌∙◌, subst, arith, ◌⊎◌, inl, inr}
 use Rattle.std.proofs.lemmas.Bool.{cases_lt}
-use Rattle.pa_machine.specs.declared.word.Step.TheVariants.{Issue, Copy, Reset, Free, Write}
-use Rattle.pa_machine.specs.declared.title.Title.{Title}
-use Rattle.pa_machine.specs.declared.title.OwnState.{OwnState}
-use Rattle.pa_machine.specs.declared.title.OwnState.TheVariants.{Clean, Dirty, Poisoned}
+use Rattle.pa_slot.specs.declared.word.Step.TheVariants.{Issue, Copy, Reset, Free, Write}
+use Rattle.pa_slot.specs.declared.title.Title.{Title}
+use Rattle.pa_slot.specs.declared.title.OwnState.{OwnState}
+use Rattle.pa_slot.specs.declared.title.OwnState.TheVariants.{Clean, Dirty, Poisoned}
 use Rattle.pa_machine.specs.declared.event.Event.{Event}
 use Rattle.pa_machine.specs.declared.event.Event.TheVariants.{Count, Store, Poison, Load, Hand, Cut, Uncut}
-use Rattle.pa_machine.specs.Count.{stepped}
-use Rattle.pa_machine.specs.Titles.{Covers, IsWellFormed, content_count, content_place, count_place, content_at, count_word, progress, poison, HasContentFrom, same_title}
-use Rattle.pa_machine.specs.Holdings.{Piece, RawPiece, FreePiece, OwnPiece, Thing, RawByte, FreeTitle, OwnOf, OwnAs, RefOf, IsTitleHeld, held_in}
+use Rattle.pa_slot.specs.Count.{stepped}
+use Rattle.pa_slot.specs.Titles.{Covers, IsWellFormed, content_count, content_place, count_place, content_at, count_word, progress, poison, HasContentFrom, same_title}
+use Rattle.pa_slot.specs.Holdings.{Piece, RawPiece, FreePiece, OwnPiece, Thing, RawByte, FreeTitle, OwnOf, OwnAs, RefOf, IsTitleHeld, held_in}
 use Rattle.pa_machine.specs.Events.{State, HasActor, total_of, IsEnabled, IsAfter, Happens, piece_of, returned_at, IsOwnWord, IsRawWord, IsFreeWord}
 use Rattle.pa_machine.specs.Trail.{IsGoodState, KeepsContent, noted}
-use Rattle.pa_machine.proofs.Same.{title_tells, title_self}
+use Rattle.pa_slot.proofs.Same.{title_tells, title_self}
 use Rattle.pa_machine.proofs.Totals.{IsTally, tally_of, total_exchanged}
 use Rattle.pa_machine.proofs.Parts.{Changes, IsUntouched, untouched_by_write, IsChangeAt, change_untouched, change_held, IsNoneOf, free_none, raw_none, word_covered}
 use Rattle.pa_machine.proofs.Amounts.{content_other, content_unwritten, state_apart, own_self, returned_cases}
@@ -29,7 +29,7 @@ pub record IsNoted (words : List ℕ) (total : Thing → ℕ) (t : Title) (value
 noted_of : (s : State) (last : Title → ℕ) (t : Title) → KeepsContent s last → IsNoted s.words (total_of s) t (last t)
 noted_of s last t k = record { clean = k.clean t; beyond = k.beyond t }
 
--- it goes over for an untouched title
+-- the value that was noted for a title goes over if the title is untouched
 untouched_noted : (words : List ℕ) (total : Thing → ℕ) (words_after : List ℕ) (later : Thing → ℕ) (t : Title) (value : ℕ) →
     IsNoted words total t value → IsUntouched words total words_after later t → IsNoted words_after later t value
 untouched_noted words total words_after later t value k u = record {

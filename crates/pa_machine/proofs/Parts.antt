@@ -2,15 +2,15 @@
 use Rattle.std.proofs.Common.{◌≡◌, ℕ, ◌+◌, ◌-◌, ◌*◌, ◌/◌, ◌%◌, ◌<◌, ◌≤◌, List, [], ◌∷◌, length, set, refl, ◌∙◌, subst, arith, ◌⊎◌, inl, inr}
 use Rattle.std.proofs.lemmas.List.{get_or-set_other, length-set}
 use Rattle.std.proofs.lemmas.Bool.{cases_eq}
-use Rattle.pa_machine.specs.declared.title.Title.{Title}
-use Rattle.pa_machine.specs.declared.title.OwnState.{OwnState}
-use Rattle.pa_machine.specs.declared.title.OwnState.TheVariants.{Clean, Poisoned}
-use Rattle.pa_machine.specs.Count.{held_of, refs_of}
-use Rattle.pa_machine.specs.Run.{IsFree}
-use Rattle.pa_machine.specs.Titles.{Covers, IsWellFormed, content_count, content_place, count_place, content_at, count_word}
-use Rattle.pa_machine.specs.Holdings.{Piece, RawPiece, FreePiece, OwnPiece, RefPiece, Thing, RawByte, FreeTitle, OwnOf, OwnAs, RefOf, IsTitleHeld, held_in, one}
+use Rattle.pa_slot.specs.declared.title.Title.{Title}
+use Rattle.pa_slot.specs.declared.title.OwnState.{OwnState}
+use Rattle.pa_slot.specs.declared.title.OwnState.TheVariants.{Clean, Poisoned}
+use Rattle.pa_slot.specs.Count.{held_of, refs_of}
+use Rattle.pa_slot.specs.Run.{IsFree}
+use Rattle.pa_slot.specs.Titles.{Covers, IsWellFormed, content_count, content_place, count_place, content_at, count_word}
+use Rattle.pa_slot.specs.Holdings.{Piece, RawPiece, FreePiece, OwnPiece, RefPiece, Thing, RawByte, FreeTitle, OwnOf, OwnAs, RefOf, IsTitleHeld, held_in, one}
 use Rattle.pa_machine.specs.Good.{IsDivided, IsCounted, IsPoisonKept, IsContentKept, IsGood}
-use Rattle.pa_machine.proofs.Same.{title_tells}
+use Rattle.pa_slot.proofs.Same.{title_tells}
 
 -- a count word says that its title is free, or that it isn't
 pub free_or : (w : ℕ) → IsFree w ⊎ (IsFree w → ⊥)
@@ -77,7 +77,7 @@ untouched_good words total words_after after t g u = record {
   };
 }
 
--- held titles are so by the same sums
+-- an untouched title that is held after was held before, by the same sums
 pub untouched_held : (words : List ℕ) (total : Thing → ℕ) (words_after : List ℕ) (after : Thing → ℕ) (t : Title) →
     IsUntouched words total words_after after t → IsTitleHeld after t → IsTitleHeld total t
 untouched_held words total words_after after t u held =
@@ -101,7 +101,7 @@ good_by words total words_after after g divided each = record {
       | inr k ↦ k
     ]
 
--- the division of the bytes goes over where the same bytes are raw and the same titles are held
+-- the division of the bytes goes over if the same bytes are raw and the same titles are held
 pub divided_same : (n : ℕ) (total after : Thing → ℕ) → IsDivided n total →
     ((b : ℕ) → after (RawByte b) ≡ total (RawByte b)) →
     ((t : Title) → IsTitleHeld total t → IsTitleHeld after t) →

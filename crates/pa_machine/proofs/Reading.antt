@@ -3,15 +3,15 @@ use Rattle.std.proofs.Common.{◌≡◌, ℕ, suc, ◌+◌, ◌-◌, ◌*◌, �
 use Rattle.std.specs.List.{sum_by}
 use Rattle.std.proofs.lemmas.List.Sums.{sum_by-cons, get_or-le-sum_by}
 use Rattle.std.proofs.lemmas.Bool.Decides.{eqb_tells}
-use Rattle.pa_machine.specs.declared.title.Title.{Title}
-use Rattle.pa_machine.specs.declared.title.OwnState.{OwnState}
+use Rattle.pa_slot.specs.declared.title.Title.{Title}
+use Rattle.pa_slot.specs.declared.title.OwnState.{OwnState}
 use Rattle.pa_machine.specs.declared.slot.Owner.{Owner}
 use Rattle.pa_machine.specs.declared.slot.Slot.{Slot}
 use Rattle.pa_machine.specs.declared.tables.Tables.{Tables}
-use Rattle.pa_machine.specs.Holdings.{Piece, FreePiece, OwnPiece, RefPiece, Thing, RawByte, FreeTitle, OwnAs, RefOf, one, amount, held_in}
+use Rattle.pa_slot.specs.Holdings.{Piece, FreePiece, OwnPiece, RefPiece, Thing, RawByte, FreeTitle, OwnAs, RefOf, one, amount, held_in}
 use Rattle.pa_machine.specs.Events.{of_actor, held_by, Holds, HoldsRaw}
 use Rattle.pa_machine.specs.Tables.{Place, is_holder, raw_pieces, free_pieces, own_pieces, ref_pieces, slot_pieces, place_pieces, state_of, slot_at, AreSound}
-use Rattle.pa_machine.proofs.Same.{state_tells}
+use Rattle.pa_slot.proofs.Same.{state_tells}
 use Rattle.pa_machine.proofs.Parts.{IsNoneOf}
 use Rattle.pa_machine.proofs.Amounts.{free_self, ref_self, state_here, state_apart}
 use Rattle.pa_machine.proofs.Tabled.{held_join, held_tables, raw_titles, raw_amount, place_raw, ref_sum, slots_at, kept_amount}
@@ -103,7 +103,7 @@ reads c actor t x sound has about =
       | inr n ↦ let e = n.1 in inr (n.0, omega arith)
     ]
 
--- it holds the title free
+-- the table names the actor as the holder of a title that it holds free
 pub reads_free : (c : Tables) (actor : ℕ) (t : Title) → AreSound c → actor < c.actors → Holds (state_of c) actor (FreeTitle t) →
     (o : Slot) × (slot_at c.slots.items t ≡ Some o) × (o.title ≡ t) × (o.free ≡ Some actor)
 reads_free c actor t sound has holds = elim (reads c actor t (FreeTitle t) sound has (λ ps n. n.free)) [
@@ -131,7 +131,7 @@ free_read c actor t o sound has is free = elim (reads c actor t (FreeTitle t) so
   | inr n ↦ let e = n.0 in cc
 ]
 
--- it has the title's Own in this state
+-- the table names the actor as the owner, in this state, of a title whose Own it has
 pub reads_own : (c : Tables) (actor : ℕ) (t : Title) (s : OwnState) → AreSound c → actor < c.actors → Holds (state_of c) actor (OwnAs t s) →
     (o : Slot) × (slot_at c.slots.items t ≡ Some o) × (o.title ≡ t) × (o.own ≡ Some (record { actor = actor; state = s }))
 reads_own c actor t s sound has holds = elim (reads c actor t (OwnAs t s) sound has (λ ps n. n.state s)) [
@@ -159,7 +159,7 @@ own_read c actor t s o sound has is own = elim (reads c actor t (OwnAs t s) soun
   | inr n ↦ let e = n.0 in cc
 ]
 
--- it has a Ref of the title
+-- the table names the actor among those that have a Ref of a title of which it has one
 pub reads_ref : (c : Tables) (actor : ℕ) (t : Title) → AreSound c → actor < c.actors → Holds (state_of c) actor (RefOf t) →
     (o : Slot) × (slot_at c.slots.items t ≡ Some o) × (o.title ≡ t) × Contains o.refs.items actor
 reads_ref c actor t sound has holds = elim (reads c actor t (RefOf t) sound has (λ ps n. n.ref)) [
@@ -186,7 +186,7 @@ ref_read c actor t o sound has is refs = elim (reads c actor t (RefOf t) sound h
   | inr n ↦ let e = n.0 in cc
 ]
 
--- it holds the byte as raw
+-- the holder of a byte that counts for the actor is the actor
 holder_some : (actor : ℕ) (h : Option ℕ) → 0 < one (is_holder actor h) → h ≡ Some actor
 holder_some actor None has = absurd (omega arith)
 holder_some actor (Some other) has = elim (eqb_tells other actor) [
@@ -221,7 +221,7 @@ raw_read c actor b has is =
     let f : one (is_holder actor (get_or c.holders.items b None)) ≡ 1 = rw is (holder_here actor) in
     omega arith
 
--- the same both ways, for an entry that is there, and for one that isn't
+-- the entry of a title that is there names the actor as its free holder exactly if the actor holds the title free
 pub free_same : (c : Tables) (actor : ℕ) (t : Title) (o : Slot) → AreSound c → actor < c.actors → slot_at c.slots.items t ≡ Some o →
     (o.free ≡ Some actor) ↔ Holds (state_of c) actor (FreeTitle t)
 free_same c actor t o sound has is = (
@@ -232,6 +232,7 @@ free_same c actor t o sound has is = (
       ap (λ (q : Slot). q.free) (sym same) ∙ r.3,
 )
 
+-- the entry of a title that is there names the actor as its owner in this state exactly if the actor has that Own
 pub own_same : (c : Tables) (actor : ℕ) (t : Title) (s : OwnState) (o : Slot) → AreSound c → actor < c.actors → slot_at c.slots.items t ≡ Some o →
     (o.own ≡ Some (record { actor = actor; state = s })) ↔ Holds (state_of c) actor (OwnAs t s)
 own_same c actor t s o sound has is = (
@@ -242,6 +243,7 @@ own_same c actor t s o sound has is = (
       ap (λ (q : Slot). q.own) (sym same) ∙ r.3,
 )
 
+-- the entry of a title that is there names the actor among those with a Ref exactly if the actor has a Ref
 pub ref_same : (c : Tables) (actor : ℕ) (t : Title) (o : Slot) → AreSound c → actor < c.actors → slot_at c.slots.items t ≡ Some o →
     Contains o.refs.items actor ↔ Holds (state_of c) actor (RefOf t)
 ref_same c actor t o sound has is = (
@@ -252,12 +254,15 @@ ref_same c actor t o sound has is = (
       subst (λ (q : Slot). Contains q.refs.items actor) same r.3,
 )
 
+-- nobody holds a title free that has no entry
 pub none_free : (c : Tables) (actor : ℕ) (t : Title) → AreSound c → actor < c.actors → slot_at c.slots.items t ≡ None → Holds (state_of c) actor (FreeTitle t) → ⊥
 none_free c actor t sound has is holds = let r = reads_free c actor t sound has holds in let e = r.1 in cc
 
+-- nobody has the Own of a title that has no entry
 pub none_own : (c : Tables) (actor : ℕ) (t : Title) (s : OwnState) → AreSound c → actor < c.actors → slot_at c.slots.items t ≡ None → Holds (state_of c) actor (OwnAs t s) → ⊥
 none_own c actor t s sound has is holds = let r = reads_own c actor t s sound has holds in let e = r.1 in cc
 
+-- nobody has a Ref of a title that has no entry
 pub none_ref : (c : Tables) (actor : ℕ) (t : Title) → AreSound c → actor < c.actors → slot_at c.slots.items t ≡ None → Holds (state_of c) actor (RefOf t) → ⊥
 none_ref c actor t sound has is holds = let r = reads_ref c actor t sound has holds in let e = r.1 in cc
 

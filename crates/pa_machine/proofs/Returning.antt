@@ -1,20 +1,20 @@
 -- Only a returning step makes a free title of one that was held, and gives it to the actor that made it.
 use Rattle.std.proofs.Common.{◌≡◌, ℕ, ◌+◌, ◌-◌, ◌*◌, ◌/◌, ◌%◌, ◌<◌, ◌≤◌, List, [], ◌∷◌, length, refl, ◌∙◌, subst, arith, ◌⊎◌, inl, inr}
 use Rattle.std.proofs.lemmas.Bool.{cases_lt}
-use Rattle.pa_machine.specs.declared.word.Step.{Step}
-use Rattle.pa_machine.specs.declared.word.Step.TheVariants.{Issue, Copy, Reset, Free, Write}
-use Rattle.pa_machine.specs.declared.title.Title.{Title}
-use Rattle.pa_machine.specs.declared.title.OwnState.TheVariants.{Poisoned}
+use Rattle.pa_slot.specs.declared.word.Step.{Step}
+use Rattle.pa_slot.specs.declared.word.Step.TheVariants.{Issue, Copy, Reset, Free, Write}
+use Rattle.pa_slot.specs.declared.title.Title.{Title}
+use Rattle.pa_slot.specs.declared.title.OwnState.TheVariants.{Poisoned}
 use Rattle.pa_machine.specs.declared.event.Event.{Event}
 use Rattle.pa_machine.specs.declared.event.Event.TheVariants.{Count, Store, Poison, Load, Hand, Cut, Uncut}
-use Rattle.pa_machine.specs.Count.{stepped}
-use Rattle.pa_machine.specs.Run.{IsFree, IsReturning}
-use Rattle.pa_machine.specs.Titles.{content_count, count_word}
-use Rattle.pa_machine.specs.Holdings.{Piece, FreePiece, OwnPiece, RefPiece, RawByte, FreeTitle, OwnOf, RefOf, held_in}
+use Rattle.pa_slot.specs.Count.{stepped}
+use Rattle.pa_slot.specs.Run.{IsFree, IsReturning}
+use Rattle.pa_slot.specs.Titles.{content_count, count_word}
+use Rattle.pa_slot.specs.Holdings.{Piece, FreePiece, OwnPiece, RefPiece, RawByte, FreeTitle, OwnOf, RefOf, held_in}
 use Rattle.pa_machine.specs.Events.{State, HasActor, held_by, total_of, IsEnabled, IsAfter, Happens, piece_of, returned_at}
 use Rattle.pa_machine.specs.Trail.{IsGoodState, IsReturnedBy, OnlyReturns}
-use Rattle.pa_machine.proofs.Arith.{stepped_is}
-use Rattle.pa_machine.proofs.Same.{title_tells}
+use Rattle.pa_slot.proofs.Arith.{stepped_is}
+use Rattle.pa_slot.proofs.Same.{title_tells}
 use Rattle.pa_machine.proofs.Totals.{total_exchanged, held_part, get_or_past, of_actor_here, of_actor_apart}
 use Rattle.pa_machine.proofs.Parts.{free_or, free_none}
 use Rattle.pa_machine.proofs.Amounts.{free_self, returned_cases}

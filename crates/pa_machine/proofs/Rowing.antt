@@ -7,13 +7,13 @@ use Rattle.std.proofs.lemmas.List.{get_or-set_other, get_or-set_same}
 use Rattle.std.proofs.lemmas.Bool.{cases_eq}
 use Rattle.std.specs.Prelude.{Box}
 use Rattle.std.specs.Global.{Global}
-use Rattle.pa_machine.specs.declared.title.Title.{Title}
-use Rattle.pa_machine.specs.declared.title.OwnState.{OwnState}
-use Rattle.pa_machine.specs.declared.title.OwnState.TheVariants.{Clean}
+use Rattle.pa_slot.specs.declared.title.Title.{Title}
+use Rattle.pa_slot.specs.declared.title.OwnState.{OwnState}
+use Rattle.pa_slot.specs.declared.title.OwnState.TheVariants.{Clean}
 use Rattle.pa_machine.specs.declared.slot.Owner.{Owner}
 use Rattle.pa_machine.specs.declared.slot.Slot.{Slot}
 use Rattle.pa_machine.specs.declared.tables.Tables.{Tables}
-use Rattle.pa_machine.specs.Holdings.{Piece, FreePiece, OwnPiece, RefPiece, Thing, IsTitleHeld, one, held_in}
+use Rattle.pa_slot.specs.Holdings.{Piece, FreePiece, OwnPiece, RefPiece, Thing, IsTitleHeld, one, held_in}
 use Rattle.pa_machine.specs.Events.{Exchanges, of_actor, total_of}
 use Rattle.pa_machine.specs.Trail.{IsGoodState}
 use Rattle.pa_machine.specs.Tables.{Place, raw_pieces, free_pieces, own_pieces, ref_pieces, slot_pieces, place_pieces, pieces_of, holdings_of, state_of, IsHolderWithin, IsOwnerWithin, IsPlaced, AreSound, IsNextSlot}
@@ -39,7 +39,7 @@ tables_exchange holders later slots p new actors lost gained inside each =
           omega arith,
     )
 
--- the same if only an entry changes
+-- what an actor has of the whole tables, one entry of which becomes another while the holders of bytes stay
 pub slot_exchange : (holders : List (Option ℕ)) (slots : List Place) (p : ℕ) (new : Place) (actors : ℕ) (lost gained : ℕ → List Piece) → p < length slots →
     ((actor : ℕ) (x : Thing) → actor < actors →
     held_in (place_pieces actor new) x + held_in (lost actor) x ≡ held_in (place_pieces actor (get_or slots p None)) x + held_in (gained actor) x) →
@@ -101,7 +101,7 @@ refs_pass actor from to k t rs x below is =
     let d = rw is at c in
     omega arith
 
--- a part that comes where the title is given back
+-- a part that comes if the title is given back
 pub free_part : (actor k : ℕ) (back : Bool) (t : Title) (h : Option ℕ) (x : Thing) → (back ≡ true → h ≡ None) →
     held_in (free_pieces actor t (cond back (Some k) h)) x ≡ held_in (free_pieces actor t h) x + held_in (of_actor k (cond back (FreePiece t ∷ []) []) actor) x
 free_part actor k true t h x none = let e = none refl in rw e (omega arith)

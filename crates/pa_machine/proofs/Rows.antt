@@ -7,23 +7,23 @@ use Rattle.std.proofs.Common.{Vec}
 use Rattle.std.proofs.lemmas.List.{with_items_is}
 use Rattle.std.specs.List.{range_with_len, flat_map}
 use Rattle.std.proofs.lemmas.List.{length-set}
-use Rattle.pa_machine.specs.declared.word.Step.{Step}
-use Rattle.pa_machine.specs.declared.word.Step.TheVariants.{Issue, Copy, Reset, Free, Write}
-use Rattle.pa_machine.specs.declared.title.Title.{Title}
-use Rattle.pa_machine.specs.declared.title.OwnState.{OwnState}
-use Rattle.pa_machine.specs.declared.title.OwnState.TheVariants.{Clean, Poisoned}
+use Rattle.pa_slot.specs.declared.word.Step.{Step}
+use Rattle.pa_slot.specs.declared.word.Step.TheVariants.{Issue, Copy, Reset, Free, Write}
+use Rattle.pa_slot.specs.declared.title.Title.{Title}
+use Rattle.pa_slot.specs.declared.title.OwnState.{OwnState}
+use Rattle.pa_slot.specs.declared.title.OwnState.TheVariants.{Clean, Poisoned}
 use Rattle.pa_machine.specs.declared.event.Event.{Event}
 use Rattle.pa_machine.specs.declared.event.Event.TheVariants.{Count}
 use Rattle.pa_machine.specs.declared.slot.Owner.{Owner}
 use Rattle.pa_machine.specs.declared.slot.Slot.{Slot}
 use Rattle.pa_machine.specs.declared.tables.Tables.{Tables}
-use Rattle.pa_machine.specs.Count.{held_of, refs_of, stepped}
-use Rattle.pa_machine.specs.Titles.{count_place, count_word, content_count}
-use Rattle.pa_machine.specs.Holdings.{Piece, FreePiece, OwnPiece, RefPiece, FreeTitle, OwnOf, OwnAs, RefOf, IsTitleHeld}
+use Rattle.pa_slot.specs.Count.{held_of, refs_of, stepped}
+use Rattle.pa_slot.specs.Titles.{count_place, count_word, content_count}
+use Rattle.pa_slot.specs.Holdings.{Piece, FreePiece, OwnPiece, RefPiece, FreeTitle, OwnOf, OwnAs, RefOf, IsTitleHeld}
 use Rattle.pa_machine.specs.Events.{State, IsEnabled, Happens, total_of, Holds, words_stepped}
 use Rattle.pa_machine.specs.Trail.{IsGoodState}
 use Rattle.pa_machine.specs.Tables.{Place, raw_pieces, place_pieces, slot_pieces, pieces_of, holdings_of, state_of, kept_as, slot_at, IsHolderWithin, IsOwnerWithin, IsPlaced, AreSound, IsSameSlot, IsSlotStepped, IsChangedAt, IsEntryAt}
-use Rattle.pa_machine.proofs.Same.{title_tells}
+use Rattle.pa_slot.proofs.Same.{title_tells}
 use Rattle.pa_machine.proofs.Totals.{tally_of}
 use Rattle.pa_machine.proofs.Keeps.{own_of_state}
 use Rattle.pa_machine.proofs.Cutting.{free_alone}

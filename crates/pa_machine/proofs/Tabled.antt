@@ -4,13 +4,13 @@ use Rattle.std.specs.List.{sum_by, slice_index_or, flat_map}
 use Rattle.std.proofs.lemmas.List.Sums.{sum_by-cons, sum_by-append}
 use Rattle.std.proofs.lemmas.List.FromFn.{get_or-map-range_with_len}
 use Rattle.std.proofs.lemmas.Bool.Decides.{eqb_tells, nat_tests}
-use Rattle.pa_machine.specs.declared.title.Title.{Title}
+use Rattle.pa_slot.specs.declared.title.Title.{Title}
 use Rattle.pa_machine.specs.declared.slot.Owner.{Owner}
 use Rattle.pa_machine.specs.declared.slot.Slot.{Slot}
-use Rattle.pa_machine.specs.Holdings.{Piece, RawPiece, FreePiece, OwnPiece, RefPiece, Thing, RawByte, FreeTitle, OwnOf, OwnAs, RefOf, one, amount, held_in}
+use Rattle.pa_slot.specs.Holdings.{Piece, RawPiece, FreePiece, OwnPiece, RefPiece, Thing, RawByte, FreeTitle, OwnOf, OwnAs, RefOf, one, amount, held_in}
 use Rattle.pa_machine.specs.Events.{of_actor}
 use Rattle.pa_machine.specs.Tables.{Place, is_holder, raw_pieces, free_pieces, own_pieces, ref_pieces, slot_pieces, place_pieces, pieces_of, holdings_of, kept_as, IsPlaced}
-use Rattle.pa_machine.proofs.Same.{title_tells}
+use Rattle.pa_slot.proofs.Same.{title_tells}
 use Rattle.pa_machine.proofs.Parts.{IsNoneOf, nil_none, free_none, own_none, ref_none}
 
 -- what joined lists hold
@@ -92,7 +92,7 @@ raw_below actor k (h ∷ hs) b low = elim (eqb_tells k b) [
       raw_cons actor k h hs b ∙ rw n.0 (omega arith)
 ]
 
--- byte k + b is raw for an actor where the table names it there
+-- byte k + b is raw for an actor if the table names it there
 raw_from : (actor k : ℕ) (hs : List (Option ℕ)) (b : ℕ) → held_in (raw_pieces actor k hs) (RawByte (k + b)) ≡ one (is_holder actor (get_or hs b None))
 raw_from actor k [] b = refl
 raw_from actor k (h ∷ hs) zero = elim (eqb_tells k (k + 0)) [

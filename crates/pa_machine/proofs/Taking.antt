@@ -4,18 +4,18 @@ use Rattle.std.specs.Prelude.{Box}
 use Rattle.std.specs.Global.{Global}
 use Rattle.std.proofs.lemmas.List.{length-set, get_or-set_same, get_or-set_other}
 use Rattle.std.proofs.lemmas.Bool.{cases_eq, cases_lt}
-use Rattle.pa_machine.specs.declared.title.Title.{Title}
+use Rattle.pa_slot.specs.declared.title.Title.{Title}
 use Rattle.pa_machine.specs.declared.event.Event.TheVariants.{Cut, Uncut}
 use Rattle.pa_machine.specs.declared.slot.Slot.{Slot}
 use Rattle.pa_machine.specs.declared.tables.Tables.{Tables}
-use Rattle.pa_machine.specs.Titles.{IsWellFormed, count_place, count_word}
-use Rattle.pa_machine.specs.Run.{IsFree}
-use Rattle.pa_machine.specs.Holdings.{Piece, RawPiece, FreePiece, RefPiece, Thing, RawByte, FreeTitle, OwnOf, OwnAs, RefOf, IsTitleHeld, held_in, one}
+use Rattle.pa_slot.specs.Titles.{IsWellFormed, count_place, count_word}
+use Rattle.pa_slot.specs.Run.{IsFree}
+use Rattle.pa_slot.specs.Holdings.{Piece, RawPiece, FreePiece, RefPiece, Thing, RawByte, FreeTitle, OwnOf, OwnAs, RefOf, IsTitleHeld, held_in, one}
 use Rattle.pa_machine.specs.Events.{IsEnabled, Happens, total_of, held_by, of_actor}
 use Rattle.pa_machine.specs.Tables.{Place, is_holder, raw_pieces, place_pieces, slot_pieces, free_pieces, own_pieces, ref_pieces, state_of, slot_at, IsPlaced, AreSound, IsFilled}
 use Rattle.pa_machine.proofs.Parts.{IsNoneOf, apart_words}
 use Rattle.pa_machine.proofs.Amounts.{free_self}
-use Rattle.pa_machine.proofs.Same.{title_tells}
+use Rattle.pa_slot.proofs.Same.{title_tells}
 use Rattle.pa_machine.proofs.Cutting.{covered_raw, uncovered_raw, free_alone}
 use Rattle.pa_machine.proofs.Totals.{tally_of, held_part}
 use Rattle.pa_machine.proofs.Happening.{in_total, happens_good, after_changes}

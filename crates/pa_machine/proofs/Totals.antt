@@ -4,12 +4,12 @@ use Rattle.std.specs.List.{sum_by}
 use Rattle.std.proofs.lemmas.List.Sums.{sum_by-cons, get_or-le-sum_by, sum_by-le-sum_by}
 use Rattle.std.proofs.lemmas.Bool.{cases_lt}
 use Rattle.std.proofs.lemmas.Bool.Decides.{eqb_tells}
-use Rattle.pa_machine.specs.declared.title.Title.{Title}
-use Rattle.pa_machine.specs.declared.title.OwnState.{OwnState}
-use Rattle.pa_machine.specs.Holdings.{Piece, RawPiece, FreePiece, OwnPiece, RefPiece, Thing, OwnOf, OwnAs, one, amount, held_in, held_by_all}
+use Rattle.pa_slot.specs.declared.title.Title.{Title}
+use Rattle.pa_slot.specs.declared.title.OwnState.{OwnState}
+use Rattle.pa_slot.specs.Holdings.{Piece, RawPiece, FreePiece, OwnPiece, RefPiece, Thing, OwnOf, OwnAs, one, amount, held_in, held_by_all}
 use Rattle.pa_machine.specs.Events.{State, Exchanges, of_actor, held_by, total_of}
 use Rattle.pa_machine.proofs.Sums.{spread-one, sum-exchange}
-use Rattle.pa_machine.proofs.Same.{title_tells, state_tells}
+use Rattle.pa_slot.proofs.Same.{title_tells, state_tells}
 
 pub of_actor_here : (a : ℕ) (ps : List Piece) (x : Thing) → held_in (of_actor a ps a) x ≡ held_in ps x
 of_actor_here a ps x = elim (eqb_tells a a) [ inl y ↦ rw y.0 refl | inr n ↦ absurd (n.1 refl) ]

@@ -1,19 +1,19 @@
 -- The core: its state, the condition of each event, and what it changes.
 use Rattle.std.specs.Prelude.{◌≡◌, ℕ, ◌+◌, ◌*◌, ◌/◌, ◌%◌, ◌<◌, ◌≤◌, ◌⊎◌, List, [], ◌∷◌, Bool, true, false, ◌==◌, ◌&&◌, length, slice_set, if◌then◌else◌}
 use Rattle.std.specs.List.{slice_index_or, sum_by}
-use Rattle.pa_machine.specs.declared.word.Step.{Step}
-use Rattle.pa_machine.specs.declared.word.Step.TheVariants.{Issue, Copy, Reset, Free, Write}
-use Rattle.pa_machine.specs.declared.title.Title.{Title}
-use Rattle.pa_machine.specs.declared.title.OwnState.{OwnState}
-use Rattle.pa_machine.specs.declared.title.OwnState.TheVariants.{Clean, Dirty, Poisoned}
+use Rattle.pa_slot.specs.declared.word.Step.{Step}
+use Rattle.pa_slot.specs.declared.word.Step.TheVariants.{Issue, Copy, Reset, Free, Write}
+use Rattle.pa_slot.specs.declared.title.Title.{Title}
+use Rattle.pa_slot.specs.declared.title.OwnState.{OwnState}
+use Rattle.pa_slot.specs.declared.title.OwnState.TheVariants.{Clean, Dirty, Poisoned}
 use Rattle.pa_machine.specs.declared.event.Item.{Item}
 use Rattle.pa_machine.specs.declared.event.Item.TheVariants.{Raw as RawItem, Free as FreeItem, Own as OwnItem, Ref as RefItem}
 use Rattle.pa_machine.specs.declared.event.Event.{Event}
 use Rattle.pa_machine.specs.declared.event.Event.TheVariants.{Count, Store, Poison, Load, Hand, Cut, Uncut}
-use Rattle.pa_machine.specs.Count.{CanStep, stepped, refs_of, held_of}
-use Rattle.pa_machine.specs.Run.{IsFree}
-use Rattle.pa_machine.specs.Titles.{Covers, content_count, content_place, count_place, count_word, IsContentOf, HasContentFrom, IsUniform, poison, progress}
-use Rattle.pa_machine.specs.Holdings.{Piece, RawPiece, FreePiece, OwnPiece, RefPiece, Thing, RawByte, FreeTitle, OwnAs, RefOf, amount, held_in, held_by_all}
+use Rattle.pa_slot.specs.Count.{CanStep, stepped, refs_of, held_of}
+use Rattle.pa_slot.specs.Run.{IsFree}
+use Rattle.pa_slot.specs.Titles.{Covers, content_count, content_place, count_place, count_word, IsContentOf, HasContentFrom, IsUniform, poison, progress}
+use Rattle.pa_slot.specs.Holdings.{Piece, RawPiece, FreePiece, OwnPiece, RefPiece, Thing, RawByte, FreeTitle, OwnAs, RefOf, amount, held_in, held_by_all}
 
 -- the words of the region, and for each actor what it holds
 pub record State : Type 0 where
@@ -24,7 +24,7 @@ pub record State : Type 0 where
 abbrev pub HasActor : State → ℕ → Type 0
 HasActor s actor = actor < length s.holdings
 
--- how often the actor holds the thing, and whether it holds it
+-- how often the actor holds the thing
 abbrev pub held_by : State → ℕ → Thing → ℕ
 held_by s actor x = held_in (slice_index_or s.holdings actor []) x
 
@@ -32,7 +32,7 @@ held_by s actor x = held_in (slice_index_or s.holdings actor []) x
 abbrev pub Holds : State → ℕ → Thing → Type 0
 Holds s actor x = 0 < held_by s actor x
 
--- how often all actors of the core hold it
+-- how often all actors of the core together hold the thing
 abbrev pub total_of : State → Thing → ℕ
 total_of s = held_by_all s.holdings
 
@@ -53,16 +53,15 @@ CanCount Free s actor t = Holds s actor (OwnAs t (Poisoned (content_count t)))
 CanCount Write s actor t =
     ((state : OwnState) × HoldsOpen s actor t state) × (refs_of (count_word s.words t) ≡ 0) × IsUniform s.words t
 
--- the word at the byte offset `at` is in the actor's raw range; it is a content word of a free title that it holds;
--- it is a content word of its clean or dirty Own to which no Ref points
+-- the actor holds as raw the eight bytes of the word at the byte offset `at`
 abbrev pub IsRawWord : State → ℕ → ℕ → Type 0
 IsRawWord s actor at = HoldsRaw s actor at 8
 
--- it is a content word of a free title that the actor holds
+-- the word at the byte offset `at` is a content word of a free title that the actor holds
 abbrev pub IsFreeWord : State → ℕ → ℕ → Type 0
 IsFreeWord s actor at = (t : Title) × Holds s actor (FreeTitle t) × IsContentOf t at
 
--- it is a content word of this title, which the actor has as a clean or dirty Own, and to which no Ref points
+-- the word at `at` is a content word of this title, which the actor has as a clean or dirty Own, and to which no Ref points
 abbrev pub IsOwnWord : State → ℕ → ℕ → Title → OwnState → Type 0
 IsOwnWord s actor at t state =
     HoldsOpen s actor t state × IsContentOf t at × (refs_of (count_word s.words t) ≡ 0)
@@ -73,7 +72,7 @@ IsTitleWord s actor at =
     (t : Title) × Covers t at ×
     (Holds s actor (FreeTitle t) ⊎ (((state : OwnState) × Holds s actor (OwnAs t state)) ⊎ Holds s actor (RefOf t)))
 
--- the actor holds the item; an Own is handed clean
+-- the actor holds the item, an Own only if it is clean
 abbrev pub HoldsItem : State → ℕ → Item → Type 0
 HoldsItem s actor (RawItem start len) = HoldsRaw s actor start len
 HoldsItem s actor (FreeItem t) = Holds s actor (FreeTitle t)

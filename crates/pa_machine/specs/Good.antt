@@ -1,12 +1,12 @@
 -- When the core is good, said of its words and of what all actors together hold.
 use Rattle.std.specs.Prelude.{◌≡◌, ℕ, ◌+◌, ◌*◌, ◌<◌, ◌≤◌, ◌⊎◌, List, length}
-use Rattle.pa_machine.specs.declared.title.Title.{Title}
-use Rattle.pa_machine.specs.declared.title.OwnState.{OwnState}
-use Rattle.pa_machine.specs.declared.title.OwnState.TheVariants.{Clean, Poisoned}
-use Rattle.pa_machine.specs.Count.{held_of, refs_of}
-use Rattle.pa_machine.specs.Run.{IsFree, IsQuarantined}
-use Rattle.pa_machine.specs.Titles.{Covers, IsWellFormed, count_word, content_count, HasContentFrom, IsUniform, IsPoisonedTo}
-use Rattle.pa_machine.specs.Holdings.{Thing, RawByte, FreeTitle, OwnOf, OwnAs, RefOf, IsTitleHeld}
+use Rattle.pa_slot.specs.declared.title.Title.{Title}
+use Rattle.pa_slot.specs.declared.title.OwnState.{OwnState}
+use Rattle.pa_slot.specs.declared.title.OwnState.TheVariants.{Clean, Poisoned}
+use Rattle.pa_slot.specs.Count.{held_of, refs_of}
+use Rattle.pa_slot.specs.Run.{IsFree, IsQuarantined}
+use Rattle.pa_slot.specs.Titles.{Covers, IsWellFormed, count_word, content_count, HasContentFrom, IsUniform, IsPoisonedTo}
+use Rattle.pa_slot.specs.Holdings.{Thing, RawByte, FreeTitle, OwnOf, OwnAs, RefOf, IsTitleHeld}
 
 -- the byte is a raw byte of exactly one actor and in no held title, or it is nobody's raw byte and in a held title
 abbrev pub IsByteGood : (Thing → ℕ) → ℕ → Type 0
@@ -43,7 +43,7 @@ pub record IsContentKept (words : List ℕ) (total : Thing → ℕ) (t : Title) 
   pub shared : (state : OwnState) → 0 < refs_of (count_word words t) → 0 < total (OwnAs t state) →
       (state ≡ Clean) ⊎ ((j : ℕ) × (state ≡ Poisoned j) × (value : ℕ) × HasContentFrom words t j value)
 
--- the four parts
+-- the core is good: all four parts hold
 pub record IsGood (words : List ℕ) (total : Thing → ℕ) : Type 0 where
   pub divided : IsDivided (length words) total
   pub counted : (t : Title) → IsTitleHeld total t → IsCounted (count_word words t) total t

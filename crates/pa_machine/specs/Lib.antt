@@ -1,11 +1,4 @@
-pub mod Count
 pub mod Events
 pub mod Good
-pub mod Holdings
-pub mod Kinds
-pub mod Links
-pub mod Run
-pub mod Runs
 pub mod Tables
-pub mod Titles
 pub mod Trail

@@ -3,17 +3,17 @@ use Rattle.std.specs.Prelude.{◌≡◌, ℕ, ◌+◌, ◌*◌, ◌/◌, ◌%◌
 use Rattle.std.specs.List.{slice_index_or, range_with_len, flat_map, swap_remove}
 use Rattle.std.specs.Prelude.{Box}
 use Rattle.std.specs.Global.{Global}
-use Rattle.pa_machine.specs.declared.title.Title.{Title}
-use Rattle.pa_machine.specs.declared.title.OwnState.{OwnState}
-use Rattle.pa_machine.specs.declared.title.OwnState.TheVariants.{Clean, Dirty, Poisoned}
-use Rattle.pa_machine.specs.declared.word.Step.{Step}
-use Rattle.pa_machine.specs.declared.word.Step.TheVariants.{Issue, Copy, Reset, Free, Write}
-use Rattle.pa_machine.specs.Count.{refs_of}
+use Rattle.pa_slot.specs.declared.title.Title.{Title}
+use Rattle.pa_slot.specs.declared.title.OwnState.{OwnState}
+use Rattle.pa_slot.specs.declared.title.OwnState.TheVariants.{Clean, Dirty, Poisoned}
+use Rattle.pa_slot.specs.declared.word.Step.{Step}
+use Rattle.pa_slot.specs.declared.word.Step.TheVariants.{Issue, Copy, Reset, Free, Write}
+use Rattle.pa_slot.specs.Count.{refs_of}
 use Rattle.pa_machine.specs.declared.slot.Owner.{Owner}
 use Rattle.pa_machine.specs.declared.slot.Slot.{Slot}
 use Rattle.pa_machine.specs.declared.tables.Tables.{Tables}
-use Rattle.pa_machine.specs.Titles.{same_title, count_place, count_word, content_count, progress, IsWellFormed}
-use Rattle.pa_machine.specs.Holdings.{Piece, RawPiece, FreePiece, OwnPiece, RefPiece, FreeTitle, OwnAs, IsTitleHeld}
+use Rattle.pa_slot.specs.Titles.{same_title, count_place, count_word, content_count, progress, IsWellFormed}
+use Rattle.pa_slot.specs.Holdings.{Piece, RawPiece, FreePiece, OwnPiece, RefPiece, FreeTitle, OwnAs, IsTitleHeld}
 use Rattle.pa_machine.specs.Good.{IsGood}
 use Rattle.pa_machine.specs.Events.{State, total_of, Holds, HoldsRaw, HoldsOpen, IsFreeWord, IsOwnWord}
 
@@ -21,17 +21,17 @@ use Rattle.pa_machine.specs.Events.{State, total_of, Holds, HoldsRaw, HoldsOpen,
 abbrev pub Place : Type 0
 Place = Option (Box Slot Global)
 
--- whether the byte's holder is the actor; a byte without a holder has none
+-- the test whether the actor is the byte's holder, which fails for a byte without one
 abbrev pub is_holder : ℕ → Option ℕ → Bool
 is_holder actor None = false
 is_holder actor (Some other) = other == actor
 
--- a piece of one byte for each byte whose holder is the actor; the first entry of the list is that of byte b
+-- a piece of one byte for each byte whose holder is the actor, if the list begins with the holder of byte b
 abbrev pub raw_pieces : ℕ → ℕ → List (Option ℕ) → List Piece
 raw_pieces actor b [] = []
 raw_pieces actor b (h ∷ hs) = if is_holder actor h then RawPiece b 1 ∷ raw_pieces actor (b + 1) hs else raw_pieces actor (b + 1) hs
 
--- what an actor holds of one title
+-- the title as a free one, if the actor is the one that holds it free
 abbrev pub free_pieces : ℕ → Title → Option ℕ → List Piece
 free_pieces actor t None = []
 free_pieces actor t (Some other) = if other == actor then FreePiece t ∷ [] else []
@@ -50,7 +50,7 @@ ref_pieces actor t (r ∷ rs) = if r == actor then RefPiece t ∷ ref_pieces act
 abbrev pub slot_pieces : ℕ → Slot → List Piece
 slot_pieces actor o = free_pieces actor o.title o.free ++ (own_pieces actor o.title o.own ++ ref_pieces actor o.title o.refs.items)
 
--- the same for a place of the table of titles: an empty one gives nothing
+-- all that the actor holds of the title at a place of the table, and nothing for an empty place
 abbrev pub place_pieces : ℕ → Place → List Piece
 place_pieces actor None = []
 place_pieces actor (Some b) = slot_pieces actor b.value
@@ -76,7 +76,7 @@ kept_as t (Some b) = if same_title b.value.title t then Some b.value else None
 abbrev pub slot_at : List Place → Title → Option Slot
 slot_at slots t = kept_as t (slice_index_or slots (t.start / 8) None)
 
--- a free title's holder and an owner are among the actors
+-- the holder of a free title, if there is one, is among the actors
 abbrev pub IsHolderWithin : ℕ → Option ℕ → Type 0
 IsHolderWithin actors None = Unit {0}
 IsHolderWithin actors (Some actor) = actor < actors
@@ -86,7 +86,7 @@ abbrev pub IsOwnerWithin : ℕ → Option Owner → Type 0
 IsOwnerWithin actors None = Unit {0}
 IsOwnerWithin actors (Some owner) = owner.actor < actors
 
--- the actor holds an entry's title in some way; it owns it, with content words left to poison
+-- the actor holds the entry's title in some way: free, as its Own, or as a Ref
 abbrev pub IsHeldBy : Slot → ℕ → Type 0
 IsHeldBy o actor =
     (o.free ≡ Some actor)
@@ -107,7 +107,7 @@ MayCut s actor t =
     HoldsRaw s actor t.start t.len ×
     (t.start % 8 ≡ 0) × (t.len % 8 ≡ 0) × (16 ≤ t.len) × (count_word s.words t ≡ 0)
 
--- the actor may write the title's content; the word at the byte offset `at` is a content word that it may write
+-- the actor may write the title's content: it holds the title free, or as a clean or dirty Own to which no Ref points
 abbrev pub MayChange : State → ℕ → Title → Type 0
 MayChange s actor t =
     Holds s actor (FreeTitle t) ⊎ (((state : OwnState) × HoldsOpen s actor t state) × (refs_of (count_word s.words t) ≡ 0))

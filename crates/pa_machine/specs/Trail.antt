@@ -1,17 +1,17 @@
 -- Whole runs of the core, and what holds along each of them.
 use Rattle.std.specs.Prelude.{◌≡◌, ℕ, ◌+◌, ◌<◌, ◌≤◌, ◌⊎◌, List, [], ◌∷◌, Bool, true, false, Option, Some, None, if◌then◌else◌}
-use Rattle.pa_machine.specs.declared.word.Step.{Step}
-use Rattle.pa_machine.specs.declared.word.Step.TheVariants.{Issue, Copy, Reset, Free, Write}
-use Rattle.pa_machine.specs.declared.title.Title.{Title}
-use Rattle.pa_machine.specs.declared.title.OwnState.{OwnState}
-use Rattle.pa_machine.specs.declared.title.OwnState.TheVariants.{Clean, Dirty, Poisoned}
+use Rattle.pa_slot.specs.declared.word.Step.{Step}
+use Rattle.pa_slot.specs.declared.word.Step.TheVariants.{Issue, Copy, Reset, Free, Write}
+use Rattle.pa_slot.specs.declared.title.Title.{Title}
+use Rattle.pa_slot.specs.declared.title.OwnState.{OwnState}
+use Rattle.pa_slot.specs.declared.title.OwnState.TheVariants.{Clean, Dirty, Poisoned}
 use Rattle.pa_machine.specs.declared.event.Event.{Event}
 use Rattle.pa_machine.specs.declared.event.Event.TheVariants.{Count, Store, Poison, Load, Hand, Cut, Uncut}
 use Rattle.pa_machine.specs.declared.event.StepFault.{StepFault}
 use Rattle.pa_machine.specs.declared.event.StepFault.TheVariants.{NotEnabled, OutOfMemory}
-use Rattle.pa_machine.specs.Run.{IsReturning}
-use Rattle.pa_machine.specs.Titles.{content_at, count_word, HasContentFrom, same_title}
-use Rattle.pa_machine.specs.Holdings.{Thing, FreeTitle, OwnOf, OwnAs, RefOf}
+use Rattle.pa_slot.specs.Run.{IsReturning}
+use Rattle.pa_slot.specs.Titles.{content_at, count_word, HasContentFrom, same_title}
+use Rattle.pa_slot.specs.Holdings.{Thing, FreeTitle, OwnOf, OwnAs, RefOf}
 use Rattle.pa_machine.specs.Good.{IsGood}
 use Rattle.pa_machine.specs.Events.{State, held_by, total_of, IsEnabled, Happens, IsSameShape}
 
@@ -31,8 +31,8 @@ end_of s (after ∷ ss) = end_of after ss
 abbrev pub IsGoodState : State → Type 0
 IsGoodState s = IsGood s.words (total_of s)
 
--- The title was held as an Own or a Ref, and is free after the event, only if the event is a returning step on its
--- count word; the actor that made the step has it then, and no other.
+-- The event is a returning step on the title's count word. The actor that made it holds the title free after it, and no other
+-- actor does.
 pub record IsReturnedBy (e : Event) (s after : State) (t : Title) : Type 0 where
   pub actor : ℕ
   pub step : Step
@@ -74,8 +74,8 @@ Lasts s (e ∷ es) (after ∷ ss) last =
 Lasts s [] (after ∷ ss) last = ⊥
 Lasts s (e ∷ es) [] last = ⊥
 
--- The events were enabled one after the other from the state `before`, and left the state `after`; and along them the
--- core was good, each content was the one of its last Issue or Write, and a title became free by a returning step alone.
+-- The events were enabled one after the other from the state `before`, and left the state `after`. Along them the core was
+-- good, each content was that of its last Issue or Write, and a title became free by a returning step alone.
 pub record IsRunTo (before : State) (events : List Event) (after : State) : Type 0 where
   pub states : List State
   pub played : Played before events states
@@ -83,9 +83,20 @@ pub record IsRunTo (before : State) (events : List Event) (after : State) : Type
   pub shape : IsSameShape before after
   pub lasts : (last : Title → ℕ) → KeepsContent before last → Lasts before events states last
 
--- why an event was refused at a state: its condition fails there; or it holds there, and there was no memory
+-- the events that may need memory: a copy, which makes one Ref more, and a cut, which makes a title
+abbrev pub MayNeedMemory : Event → Type 0
+MayNeedMemory (Count actor t step) = step ≡ Copy
+MayNeedMemory (Store actor at value) = ⊥
+MayNeedMemory (Poison actor t) = ⊥
+MayNeedMemory (Load actor at) = ⊥
+MayNeedMemory (Hand from to item) = ⊥
+MayNeedMemory (Cut actor t) = Unit {0}
+MayNeedMemory (Uncut actor t) = ⊥
+
+-- The reason for which an event was refused at a state: its condition fails there, or it holds there, the event may need memory and there
+-- was none. There is no reason without an event.
 abbrev pub IsRefusedFor : StepFault → Option Event → State → Type 0
 IsRefusedFor NotEnabled None s = ⊥
 IsRefusedFor OutOfMemory None s = ⊥
 IsRefusedFor NotEnabled (Some e) s = IsEnabled e s → ⊥
-IsRefusedFor OutOfMemory (Some e) s = IsEnabled e s
+IsRefusedFor OutOfMemory (Some e) s = IsEnabled e s × MayNeedMemory e

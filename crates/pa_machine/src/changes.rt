@@ -1,25 +1,25 @@
 ghost use Rattle.std.specs.Prelude.{◌≡◌, ℕ, ◌+◌, ◌*◌, ◌/◌, ◌%◌, ◌<◌, ◌≤◌, ◌↔◌, ◌⊎◌, ◌==◌, ◌&&◌, IsTrue, IfSome, IfNone, OnOk, OnErr, length, Some, None, Contains, slice_set, slice_index};
-ghost use Rattle.pa_machine.specs.Count.{held_of, refs_of};
+ghost use Rattle.pa_slot.specs.Count.{held_of, refs_of};
 ghost use Rattle.pa_machine.specs.Events.{IsEnabled, Happens};
 ghost use Rattle.pa_machine.specs.Tables.{AreSound, state_of, IsChangedAt, IsEntryAt, IsSlotStepped, IsSameSlot, IsNextSlot, IsFilled, slot_at, slot_over};
-ghost use Rattle.pa_machine.specs.Titles.{progress};
+ghost use Rattle.pa_slot.specs.Titles.{progress};
+ghost use Rattle.pa_machine.specs.Trail.{MayNeedMemory};
 
 use crate::event::{Event, Item};
-use crate::fault::OutOfMemory;
 use crate::slot::{Owner, Slot};
 use crate::tables::Tables;
-use crate::title::{OwnState, Title};
-use crate::word::{Step, Word, held, next, refs};
+use pa_slot::{OutOfMemory, OwnState, POISON, Step, Title, Word, held, next, refs};
 
 // What the events change in the tables, one function for each.
 impl Tables {
-    // Makes an event that is enabled. If memory runs out, nothing changes.
+    // Makes an event that is enabled. If memory runs out, nothing changes; it does only for a copy or a cut.
     pub fn make(&mut self, event: &Event) -> Result<(), OutOfMemory>
         requires sound { AreSound self.old }
         requires enabled { IsEnabled event.now (state_of self.old) }
         ensures ok { OnOk result (Happens event.now (state_of self.old) (state_of self.new)) }
         ensures sound { AreSound self.new }
         ensures err { OnErr result (state_of self.new ≡ state_of self.old) }
+        ensures asks { OnErr result (MayNeedMemory event.now) }
     {
         match *event {
             Event::Count { actor, title, step } => return self.count(actor, title, step),
@@ -40,6 +40,7 @@ impl Tables {
         ensures ok { OnOk result (Happens (Event.Count actor title step) (state_of self.old) (state_of self.new)) }
         ensures sound { AreSound self.new }
         ensures err { OnErr result (state_of self.new ≡ state_of self.old) }
+        ensures asks { OnErr result (step ≡ Step.Copy) }
     {
         let after = next(self.count_word(title), step);
         let back = is_free(after);
@@ -214,9 +215,6 @@ impl Tables {
     }
 }
 
-/// The word that fills the content of a title before it is freed, and that a read of a freed slot returns: 8 times the byte ef.
-pub const POISON: u64 = 0xefef_efef_efef_efef;
-
 // Whether the word's bit and count are both 0.
 fn is_free(word: Word) -> bool
     ensures { result ≡ ((held_of word.0 == 0) && (refs_of word.0 == 0)) }
@@ -236,6 +234,7 @@ fn step_at(
     requires entry { IsEntryAt (λ o. step ≡ Step.Reset → Contains o.refs.items actor) slots.old place }
     ensures ok { OnOk result (IsChangedAt (IsSlotStepped step actor back) slots.old place slots.new) }
     ensures err { OnErr result (IsChangedAt IsSameSlot slots.old place slots.new) }
+    ensures asks { OnErr result (step ≡ Step.Copy) }
 {
     match &mut slots[place] {
         Some(slot) => slot.make_step(actor, step, back),

@@ -1,13 +1,12 @@
 ghost use Rattle.std.specs.Prelude.{◌≡◌, ℕ, ◌+◌, ◌*◌, ◌/◌, ◌%◌, ◌<◌, ◌≤◌, ◌↔◌, ◌⊎◌, IsTrue, length};
-ghost use Rattle.pa_machine.specs.Count.{CanStep, refs_of};
-ghost use Rattle.pa_machine.specs.Titles.{IsWellFormed, count_word, IsUniform};
+ghost use Rattle.pa_slot.specs.Count.{CanStep, refs_of};
+ghost use Rattle.pa_slot.specs.Titles.{IsWellFormed, count_word, IsUniform};
 ghost use Rattle.pa_machine.specs.Events.{HasActor, HoldsOpen, HoldsItem, CanCount, IsEnabled, IsRawWord, IsTitleWord};
 ghost use Rattle.pa_machine.specs.Tables.{AreSound, state_of, MayWrite, MayChange, MayPoison, MayCut};
 
 use crate::event::{Event, Item};
 use crate::tables::Tables;
-use crate::title::{OwnState, Title};
-use crate::word::{Step, apply, refs};
+use pa_slot::{OwnState, Step, Title, apply, refs};
 
 // The conditions of the events, as tests on the tables.
 impl Tables {
@@ -136,7 +135,7 @@ impl Tables {
         self.has_actor(actor) && self.may_poison(actor, title)
     }
 
-    // What that requires of an actor that exists.
+    // Whether an actor that exists may poison the next word of the title's content.
     fn may_poison(&self, actor: u32, title: Title) -> bool
         requires sound { AreSound self.now }
         requires actor { HasActor (state_of self.now) actor }
@@ -207,7 +206,8 @@ impl Tables {
         self.has_actor(actor) && self.may_cut(actor, title)
     }
 
-    // What that requires of an actor that exists: at least two whole words, all raw for it, and a count word of 0.
+    // Whether an actor that exists may cut the title out: it has at least two whole words, all raw for the actor, and a count
+    // word of 0.
     fn may_cut(&self, actor: u32, title: Title) -> bool
         requires sound { AreSound self.now }
         requires actor { HasActor (state_of self.now) actor }

@@ -1,5 +1,4 @@
-use crate::title::Title;
-use crate::word::Step;
+use pa_slot::{Step, Title};
 
 /// What one actor may hand to another: raw bytes, a free title, the Own handle of a title, or one Ref handle of it.
 #[derive(Clone, Copy, Debug, PartialEq, Eq)]

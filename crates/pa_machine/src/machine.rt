@@ -1,11 +1,11 @@
 ghost use Rattle.std.specs.Prelude.{◌≡◌, ◌≢◌, ℕ, ◌+◌, ◌*◌, ◌/◌, ◌%◌, ◌^◌, ◌<◌, ◌≤◌, ◌↔◌, IsTrue, Ok, Err, OnOk, OnErr, IfOk, IfErr, length, slice_index, slice_get, take};
-ghost use Rattle.pa_machine.specs.declared.title.Title.{Title as TitleOf};
+ghost use Rattle.pa_slot.specs.declared.title.Title.{Title as TitleOf};
 ghost use Rattle.pa_machine.specs.Events.{State, IsEnabled, Happens, IsSameShape, IsStart};
-ghost use Rattle.pa_machine.specs.Trail.{IsGoodState, KeepsContent, OnlyReturns, noted, IsRunTo, IsRefusedFor};
+ghost use Rattle.pa_machine.specs.Trail.{IsGoodState, KeepsContent, OnlyReturns, noted, MayNeedMemory, IsRunTo, IsRefusedFor};
 
 use crate::event::{Event, StepFault};
-use crate::fault::OutOfMemory;
 use crate::tables::Tables;
+use pa_slot::OutOfMemory;
 use std::alloc::Global;
 use std::marker::Model;
 
@@ -29,11 +29,13 @@ impl Model for Core {
 }
 
 impl Core {
-    /// One event. `NotEnabled` comes exactly when the event's condition fails; after a refusal the core is as before.
+    /// One event. `NotEnabled` comes exactly when the event's condition fails; only a copy and a cut may need memory. After a
+    /// refusal the core is as before.
     pub fn step(&mut self, event: &Event) -> Result<(), StepFault>
         ensures happens { OnOk result (IsEnabled event.now self.old × Happens event.now self.old self.new) }
         ensures refused { result ≡ Err StepFault.NotEnabled → (IsEnabled event.now self.old → ⊥) }
         ensures enabled { result ≡ Err StepFault.OutOfMemory → IsEnabled event.now self.old }
+        ensures asks { result ≡ Err StepFault.OutOfMemory → MayNeedMemory event.now }
         ensures same { OnErr result (self.new ≡ self.old) }
         ensures shape { IsSameShape self.old self.new }
         ensures good { IsGoodState self.new }

@@ -1,11 +1,9 @@
 ghost use Rattle.std.specs.Prelude.{◌≡◌, ℕ, ◌<◌, ◌/◌, ◌↔◌, ◌⊎◌, ◌++◌, ◌∷◌, [], IsTrue, Some, None, IfSome, IfNone, Contains, OnOk, OnErr, length, slice_index, slice_set, if◌then◌else◌};
 ghost use Rattle.std.specs.List.{swap_remove};
-ghost use Rattle.pa_machine.specs.Titles.{progress};
+ghost use Rattle.pa_slot.specs.Titles.{progress};
 ghost use Rattle.pa_machine.specs.Tables.{IsHeldBy, CanPoison, IsSameSlot, IsNextSlot, IsSlotStepped};
 
-use crate::fault::OutOfMemory;
-use crate::title::{OwnState, Title};
-use crate::word::Step;
+use pa_slot::{OutOfMemory, OwnState, Step, Title};
 use std::alloc::Global;
 
 /// The actor that has the Own handle of a title, and how it left the content.
@@ -112,11 +110,12 @@ impl Slot {
         }
     }
 
-    // The step of the actor on the count word; `back` says whether it gives the title back. Only a copy needs memory.
+    // The step of the actor on the count word, which gives the title back if `back` says so. Only a copy needs memory.
     pub fn make_step(&mut self, actor: u32, step: Step, back: bool) -> Result<(), OutOfMemory>
         requires { step ≡ Step.Reset → Contains self.old.refs.items actor }
         ensures ok { OnOk result (IsSlotStepped step actor back self.old self.new) }
         ensures err { OnErr result (IsSameSlot self.old self.new) }
+        ensures asks { OnErr result (step ≡ Step.Copy) }
     {
         match step {
             Step::Issue => {
@@ -183,7 +182,7 @@ impl Slot {
         self.own = Some(Owner { actor, state });
     }
 
-    // The free title, the clean Own or one Ref passes from one actor to another.
+    // The title becomes free of this actor.
     pub fn hand_free(&mut self, to: u32)
         ensures { IsNextSlot self.old self.new (Some to) self.old.own self.old.refs.items }
     {

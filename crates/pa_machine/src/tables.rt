@@ -1,14 +1,12 @@
 ghost use Rattle.std.specs.Prelude.{◌≡◌, ℕ, ◌+◌, ◌-◌, ◌*◌, ◌/◌, ◌<◌, ◌≤◌, ◌%◌, ◌↔◌, ◌⊎◌, IsTrue, Some, None, length, option_copied, IfOk, replicate};
 ghost use Rattle.std.specs.List.{slice_index_or};
-ghost use Rattle.pa_machine.specs.Titles.{IsWellFormed, count_word, HasContentFrom, IsUniform};
-ghost use Rattle.pa_machine.specs.Holdings.{FreeTitle, OwnAs, RefOf};
+ghost use Rattle.pa_slot.specs.Titles.{IsWellFormed, count_word, HasContentFrom, IsUniform};
+ghost use Rattle.pa_slot.specs.Holdings.{FreeTitle, OwnAs, RefOf};
 ghost use Rattle.pa_machine.specs.Events.{HasActor, Holds, HoldsRaw};
 ghost use Rattle.pa_machine.specs.Tables.{AreSound, IsStartTables, state_of, slot_at, slot_over};
 
-use crate::fault::OutOfMemory;
 use crate::slot::Slot;
-use crate::title::{OwnState, Title};
-use crate::word::Word;
+use pa_slot::{OutOfMemory, OwnState, Title, Word};
 use std::alloc::Global;
 
 /// The core as it is kept: the words; of each byte the actor that holds it raw; of each word the title that starts

@@ -10,7 +10,7 @@ use Rattle.pa_records.proofs.Words.{kept_word, long_as, four_kept, same_record, 
 use Rattle.pa_meta.specs.Meta.{after_record}
 use Rattle.pa_meta.specs.Stores.{IsPayloadOf, HasSpanAt, Rerecorded}
 
--- the same pages have a span
+-- after a record was written, the same offsets have a span
 pub had_after : (v : View) (supers : List SuperPage) (at : ℕ) (s : Span) → HasSpanAt v supers at → IsRecordAt (after_record at s v).words (record_word at) s → (u : ℕ) →
     HasSpanAt (after_record at s v) supers u ↔ HasSpanAt v supers u
 had_after v supers at s here reads u = elim (eqb_tells u at) [
@@ -36,7 +36,7 @@ had_after v supers at s here reads u = elim (eqb_tells u at) [
   )
 ]
 
--- and records alone were written
+-- the writing of a record writes records alone
 pub rerecorded : (v : View) (supers : List SuperPage) (at : ℕ) (s : Span) → IsPayloadOf supers at → Rerecorded supers v (after_record at s v)
 rerecorded v supers at s payload = record {
   rest = refl;

@@ -1,7 +1,7 @@
 -- A record that is written: where its words lie, and that they are then the record.
 use Rattle.std.proofs.Common.{◌≡◌, ℕ, ◌+◌, ◌*◌, ◌/◌, ◌%◌, ◌<◌, length, ◌∙◌, ap, arith}
 use Rattle.std.specs.Prelude.{slice_index}
-use Rattle.pa_machine.specs.Holdings.{RawByte}
+use Rattle.pa_slot.specs.Holdings.{RawByte}
 use Rattle.pa_region.specs.declared.view.View.{View}
 use Rattle.pa_region.specs.Views.{held_of_view}
 use Rattle.pa_region.specs.Stores.{HasRawWord}
@@ -16,7 +16,7 @@ aligned place = omega arith
 pub word_at : (place i at_byte : ℕ) → at_byte ≡ record_byte place + 8 * i → (at_byte % 8 ≡ 0) × (at_byte / 8 ≡ record_word place + i)
 word_at place i at_byte e = (omega arith, omega arith)
 
--- it is raw
+-- a word of a record that is raw is raw
 pub raw_word : (place i at_byte : ℕ) (v : View) → HasRawRecord v place → i < 4 → at_byte ≡ record_byte place + 8 * i → (at_byte % 8 ≡ 0) × HasRawWord v at_byte
 raw_word place i at_byte v raw few e = ((word_at place i at_byte e).0, λ b low high. raw b (omega arith) (omega arith))
 

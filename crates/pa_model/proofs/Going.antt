@@ -1,17 +1,18 @@
 -- A player that others drive: before the first line, and a line more.
 use Rattle.std.proofs.Common.{◌≡◌, ℕ, ◌+◌, ◌<◌, List, [], ◌∷◌, ◌++◌, length, map, Option, Some, None, refl, sym, ap, ap₂, ◌∙◌, subst, arith, append_assoc}
-use Rattle.std.specs.List.{AllByRecursion}
 use Rattle.std.proofs.lemmas.List.{append-nil, map-append, length_push}
 use Rattle.pa_trace.specs.declared.line.Head.{Head}
 use Rattle.pa_trace.specs.declared.script.Line.{Line}
 use Rattle.pa_trace.specs.declared.script.Line.TheVariants.{Phase, Do}
 use Rattle.pa_trace.specs.Limits.{IsHeadWithin, IsLineWithin}
+use Rattle.pa_trace.proofs.Texts.{all_push}
 use Rattle.pa_record.specs.declared.entry.Answer.{Answer}
 use Rattle.pa_record.specs.declared.entry.Entry.{Entry}
 use Rattle.pa_rules.specs.declared.played.Played.{Played}
 use Rattle.pa_rules.specs.Legal.{phases_in}
-use Rattle.pa_rules.specs.Played.{OpLine, op_lines, AreLines, entry_of, played}
+use Rattle.pa_rules.specs.Played.{AreLines, entry_of, played}
 use Rattle.pa_rules.proofs.Recorded.{records_are_lines}
+use Rattle.pa_rules.proofs.Lined.{lines_phase}
 use Rattle.pa_slot_effects.specs.Turns.{played_at}
 use Rattle.pa_slot_effects.proofs.Lines.{lines_more}
 use Rattle.pa_player.specs.Begun.{IsBegun}
@@ -42,24 +43,12 @@ begins_new head p within begun at none =
 pub records_are : (p : Player) → (h : IsPlaying p.lines.head.region p.lines.head.partitions p.lines.head.threads p.lines.items p.inner) → records_so_far p ≡ h.ps
 records_are p h = ap (played p.lines.items) (sym h.entries) ∙ records_are_lines.same p.lines.items h.ps h.told.lines
 
--- a line that begins a phase is no op line
-no_op : (n phase : ℕ) (ls : List Line) → op_lines n phase (ls ++ Phase ∷ []) ≡ op_lines n phase ls
-no_op n phase [] = refl
-no_op n phase (Phase ∷ ls) = no_op (n + 1) (phase + 1) ls
-no_op n phase (Do thread op ∷ ls) =
-    let o : OpLine = record { line = n; thread = thread; phase = phase; op = op } in
-    ap (λ xs. o ∷ xs) (no_op (n + 1) phase ls)
-
 -- lines and records more
 records_more : (ls more : List Line) (ps added : List Played) (es new : List Entry) → map entry_of ps ≡ es → map entry_of added ≡ new → AreLines (ls ++ more) (ps ++ added)
     → played (ls ++ more) (es ++ new) ≡ ps ++ added
 records_more ls more ps added es new old last lines =
     let all : map entry_of (ps ++ added) ≡ es ++ new = map-append entry_of ps added ∙ ap₂ (λ xs ys. xs ++ ys) old last in
     ap (played (ls ++ more)) (sym all) ∙ records_are_lines.same (ls ++ more) (ps ++ added) lines
-
-all_push : (P : Line → Type 0) (ls : List Line) (l : Line) → AllByRecursion P ls → P l → AllByRecursion P (ls ++ l ∷ [])
-all_push P [] l h last = (last, tt)
-all_push P (x ∷ ls) l h last = (h.0, all_push P ls l h.1 last)
 
 -- ---- a line more
 
@@ -126,7 +115,7 @@ plays_line p q Phase None going few within at pushed goes =
     let to = goes p.lines.head.region p.lines.head.partitions p.lines.head.threads p.lines.items (can_go_on p q Phase going few within) in
     let old = going.playing in
     let lines : AreLines (p.lines.items ++ Phase ∷ []) (old.ps ++ []) =
-    subst (λ xs. AreLines (p.lines.items ++ Phase ∷ []) xs) (sym (append-nil old.ps)) (old.told.lines ∙ sym (no_op 2 1 p.lines.items)) in
+    subst (λ xs. AreLines (p.lines.items ++ Phase ∷ []) xs) (sym (append-nil old.ps)) (old.told.lines ∙ sym (lines_phase 2 1 p.lines.items)) in
     plays p q Phase going few within at pushed None [] [] to.0 to.1 refl refl lines
 plays_line p q Phase (Some answer) going few within at pushed goes = absurd goes
 plays_line p q (Do thread op) None going few within at pushed goes = absurd goes

@@ -1,8 +1,8 @@
 -- What a register owns after the lines so far, in each run that goes on from there; and the read of an owner's first word.
 use Rattle.std.proofs.Common.{◌≡◌, ℕ, ◌<◌, List, [], ◌∷◌, ◌++◌, length, Option, Some, None, Contains, refl, sym, ap, ◌∙◌, subst, arith, zero, suc}
 use Rattle.std.proofs.lemmas.List.Elements.{Contains-append_left}
-use Rattle.pa_machine.specs.declared.word.SlotName.{SlotName}
-use Rattle.pa_machine.proofs.Runs.{same_slot_yes}
+use Rattle.pa_slot.specs.declared.word.SlotName.{SlotName}
+use Rattle.pa_slot.proofs.Runs.{same_slot_yes}
 use Rattle.pa_trace.specs.declared.script.Line.{Line}
 use Rattle.pa_trace.specs.declared.script.Line.TheVariants.{Phase, Do}
 use Rattle.pa_trace.specs.declared.script.Op.TheVariants.{Read}
@@ -19,8 +19,8 @@ use Rattle.pa_rules.specs.Roots.{Journals}
 use Rattle.pa_slot_effects.specs.Known.{facts_of}
 use Rattle.pa_slot_effects.proofs.Rows.{rows_end, usable_made}
 use Rattle.pa_slot_effects.proofs.Words.{used_made}
-use Rattle.pa_player.specs.declared.handle.Handle.{Handle}
-use Rattle.pa_player.specs.declared.handle.Handle.TheVariants.{Empty, Own, Ref, Freed, Cleared}
+use Rattle.pa_rules.specs.declared.register.Register.{Register}
+use Rattle.pa_rules.specs.declared.register.Register.TheVariants.{Empty, Own, Ref, Freed, Cleared}
 use Rattle.pa_player.specs.declared.table.Slot.{Slot}
 use Rattle.pa_player.specs.Playing.{journals, register_at, reg_of, shown}
 use Rattle.pa_player.specs.Plays.{GoesTo, ReadsOwnOn}
@@ -49,7 +49,7 @@ usable_more (p ∷ ps) more s x seen n (suc i, lt, same) made at =
 
 -- ---- what a register owns
 
-owned_here : (roots : Journals) (slots : List Slot) (h : Handle)
+owned_here : (roots : Journals) (slots : List Slot) (h : Register ℕ)
     → ((i : ℕ) → i < length slots → HasSize roots (slot_at slots i).partition (name_of (slot_at slots i).title) (slot_at slots i).title.len)
     → IsIn (length slots) h → IsOwned roots (reg_of slots h) (owned_of (title_owned slots h))
 owned_here roots slots Empty sized among = tt
@@ -88,7 +88,7 @@ owns p thread reg going ps r on =
 
 -- ---- the read of an owner's first word
 
-owner_of : (slots : List Slot) (h : Handle) (x : Handed) → owned_of (title_owned slots h) ≡ Some x → (i : ℕ) × (h ≡ Own i)
+owner_of : (slots : List Slot) (h : Register ℕ) (x : Handed) → owned_of (title_owned slots h) ≡ Some x → (i : ℕ) × (h ≡ Own i)
 owner_of slots Empty x is = absurd cc
 owner_of slots (Own i) x is = (i, refl)
 owner_of slots (Ref i) x is = absurd cc

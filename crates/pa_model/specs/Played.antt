@@ -21,7 +21,7 @@ pub record IsPlayedText (t : Trace) (text : List ℕ) : Type 0 where
   pub core : HasCoreRun t run
   pub printed : IsRunText run text
 
--- the bytes are the text of a trace within the limits, and this text is that of its run
+-- the bytes are the text of a trace within the limits, and the other text is that of its run in the order of the lines
 pub record IsInputPlayed (bytes text : List ℕ) : Type 0 where
   pub trace : Trace
   pub input : IsInput trace bytes

@@ -1,6 +1,6 @@
 -- A player that others drive, line by line: what it holds, and what each call leaves.
 use Rattle.std.specs.Prelude.{◌≡◌, ℕ, ◌+◌, List, [], ◌∷◌, ◌++◌, length, Option, Some, None}
-use Rattle.pa_machine.specs.declared.title.Title.{Title}
+use Rattle.pa_slot.specs.declared.title.Title.{Title}
 use Rattle.pa_trace.specs.declared.line.Head.{Head}
 use Rattle.pa_trace.specs.declared.script.Line.{Line}
 use Rattle.pa_trace.specs.declared.script.Line.TheVariants.{Phase, Do}
@@ -37,11 +37,11 @@ use Rattle.pa_model.specs.declared.player.Player.{Player as PlayerTo}
 
 -- ---- what a player holds
 
--- a player: its output is seen as lists, and its lines as their head and their list
+-- a player, with its output as lists, and its lines as their head and their list
 abbrev pub Player : Type 0
 Player = PlayerTo Lists LinesSoFar
 
--- the lines so far as a trace, and their records with the ops
+-- the lines so far as a trace
 abbrev pub trace_so_far : Player → Trace
 trace_so_far p = trace_with p.lines.head p.lines.items
 
@@ -80,7 +80,8 @@ IsLater p q = (ps : List Played) (r : Told) → GoesOnFrom q ps r → GoesOnFrom
 
 -- ---- a line
 
--- what a line adds to the records: an op its record, with its number and phase; a line that begins a phase has no answer and adds none
+-- What a line adds to the records: if it is an op, its record with its number and phase. A line that begins a phase has no answer and
+-- adds none.
 abbrev pub IsRecorded : ℕ → ℕ → Line → Option Answer → List Played → Type 0
 IsRecorded line phase Phase None added = added ≡ []
 IsRecorded line phase Phase (Some answer) added = ⊥
@@ -122,12 +123,12 @@ abbrev pub AreRegsAfter : List Played → Told → List Played → AllRegs → T
 AreRegsAfter ps r first regs =
     RowsTo (record { usable_of = usable_of; usable_at = usable_in ps; cells = r.cells }) no_regs first regs
 
--- the register owns this slot, which its partition's journal let out with this length; or it owns nothing
+-- the register owns this slot, which its partition's journal let out with this length, or it owns nothing if there is none
 abbrev pub IsOwned : Journals → Reg → Option Handed → Type 0
 IsOwned roots reg None = OwnsNothing reg
 IsOwned roots reg (Some h) = (reg ≡ Own h.slot) × HasSize roots h.partition h.slot h.len
 
--- after the lines so far that is what the register owns, in each run that goes on from here
+-- after the lines so far the register owns this slot, or nothing, in each run that goes on from here
 abbrev pub Owns : Player → ℕ → ℕ → Option Handed → Type 0
 Owns p thread reg found =
     (ps : List Played) (r : Told) → GoesOnFrom p ps r →
@@ -151,7 +152,7 @@ pub record IsFinished (p : Player) (t : Trace) (run : Run) : Type 0 where
   pub records : records_of t (told_by run) ≡ records_so_far p
   pub goes_on : GoesOnFrom p (records_of t (told_by run)) (told_by run)
 
--- these are the text of the trace, and that of such a run
+-- these are the text of the trace of the lines so far, and the text of its run in the order of the lines
 pub record IsPrinted (p : Player) (front text : List ℕ) : Type 0 where
   pub run : Run
   pub finished : IsFinished p (trace_so_far p) run

@@ -5,9 +5,9 @@ ghost use Rattle.pa_record.specs.declared.run.Run.{Run};
 ghost use Rattle.pa_player.specs.Begun.{IsUntold};
 ghost use Rattle.pa_model.specs.Player.{IsFinished, IsGoing, IsNew, IsPrinted, Owns, PlaysLine, ReadsOwned, owned_by, owned_of, trace_so_far};
 
-use pa_machine::{OutOfMemory, SlotName, Title};
 use pa_player::{ListOutput, Output, Player as LinePlayer, TextOutput, Told};
 use pa_record::{Answer, Run};
+use pa_slot::{OutOfMemory, SlotName, Title};
 use pa_trace::{Head, Line, Trace};
 use pa_trace_writer::{Keeper, Kept, LineList, LineText};
 use std::alloc::Global;
@@ -107,8 +107,8 @@ impl Player<Told<TextOutput>, Kept<LineText>> {
 }
 
 impl<O: Output, K: Keeper> Player<Told<O>, Kept<K>> {
-    /// Plays a line. Returns its answer, and none of a line that begins a phase. Out of memory is the only error; after it
-    /// the player can't be used, and has the lines that it had.
+    /// Plays a line. Returns its answer, and none of a line that begins a phase. Out of memory is the only error. After it the player
+    /// can't be used, and has the lines that it had.
     pub fn line(&mut self, line: Line) -> Result<Option<Answer>, OutOfMemory>
         requires going { IsGoing self.old }
         requires few { length self.old.lines.items < 65535 }

@@ -7,9 +7,9 @@ ghost use Rattle.pa_core_run.specs.Playing.{HasCoreRun};
 ghost use Rattle.pa_player.specs.Begun.{IsUntold};
 ghost use Rattle.pa_model.specs.Played.{IsAllTold, IsInputPlayed};
 
-use pa_machine::OutOfMemory;
 use pa_player::{ListOutput, Player, TextOutput, Told};
 use pa_record::Run;
+use pa_slot::OutOfMemory;
 use pa_trace::{Head, LineReader, MOST_LINES, Trace, TraceFault};
 use std::alloc::Global;
 

@@ -55,7 +55,7 @@ agrees_next a b before rest rest' x h k parts parts' agrees =
 
 -- ---- all lines
 
--- two runs that agree before all that is left of their records have the same
+-- two runs have the same records left, and the same journals, entries of the pool and exchanges
 pub record IsOne (a b : Parts) (rest rest' : List Played) : Type 0 where
   pub records : rest ≡ rest'
   pub entries : (p : ℕ) → a.roots p ≡ b.roots p
@@ -83,7 +83,7 @@ at_end a b n before h k here here' agrees =
           ∙ below_all cell_line n (b.cells c) (λ e among. low' e.line (cells_recorded b c e k among));
     }
 
--- the next record of both
+-- if the next records of two runs are of one op line, they are one record, and the runs agree before the next line
 next_one : (a b : Parts) (n : ℕ) (before rest rest' : List Played) (x y : Played) → IsFiled a → IsFiled b → IsCut a n before (x ∷ rest) → IsCut b n before (y ∷ rest') →
     op_line_of x ≡ op_line_of y → Agrees n a b → (x ≡ y) × Agrees x.line a b
 next_one a b n before rest rest' x y h k here here' same agrees =

@@ -4,12 +4,12 @@ use Rattle.std.specs.Prelude.{Contains, AllPairs}
 use Rattle.std.specs.List.Sorted.{IsNonDecreasingBy}
 use Rattle.std.proofs.lemmas.Bool.{cases_lt}
 use Rattle.std.proofs.lemmas.List.Elements.{Contains-append_cases}
-use Rattle.pa_machine.specs.declared.word.SlotName.{SlotName}
-use Rattle.pa_machine.specs.declared.word.Step.{Step}
-use Rattle.pa_machine.specs.Count.{number_of}
-use Rattle.pa_machine.specs.Run.{Mark, Slots, IsFirstAt, IsRunFrom}
-use Rattle.pa_machine.specs.Runs.{IsPath}
-use Rattle.pa_machine.proofs.Runs.{number_stepped}
+use Rattle.pa_slot.specs.declared.word.SlotName.{SlotName}
+use Rattle.pa_slot.specs.declared.word.Step.{Step}
+use Rattle.pa_slot.specs.Count.{number_of}
+use Rattle.pa_slot.specs.Run.{Mark, Slots, IsFirstAt, IsRunFrom}
+use Rattle.pa_slot.specs.Runs.{IsPath}
+use Rattle.pa_slot.proofs.Runs.{number_stepped}
 use Rattle.pa_trace.specs.declared.script.Trace.{Trace}
 use Rattle.pa_trace.specs.Limits.{IsWithinLimits}
 use Rattle.pa_record.specs.declared.entry.Answer.{Answer}
@@ -126,7 +126,7 @@ step_at ms s u (v ∷ vs) x y (m, p, at, can, is, rest) first second less = elim
   ]
 ]
 
--- so each mark finds the word that those before it leave
+-- each mark finds the word that those before it leave
 finds_left : (ms : List Mark) (slots : Slots ms) → AllPairs Rises ms → FindsNoLess ms → FindsLeft ms slots
 finds_left ms slots rises seen front back m parts h =
     let (vs, run, one) = slots m.slot in

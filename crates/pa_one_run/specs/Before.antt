@@ -1,9 +1,9 @@
 -- What comes before a line of a sequential run: entries and exchanges, words, registers, what cells hold, roots.
 use Rattle.std.specs.Prelude.{ℕ, List, [], ◌∷◌, filter, Some, ◌==◌, nat_lt, cond, Option, None}
-use Rattle.pa_machine.specs.declared.word.SlotName.{SlotName}
-use Rattle.pa_machine.specs.declared.word.Step.{Step}
-use Rattle.pa_machine.specs.Count.{stepped}
-use Rattle.pa_machine.specs.Run.{Mark, same_slot}
+use Rattle.pa_slot.specs.declared.word.SlotName.{SlotName}
+use Rattle.pa_slot.specs.declared.word.Step.{Step}
+use Rattle.pa_slot.specs.Count.{stepped}
+use Rattle.pa_slot.specs.Run.{Mark, same_slot}
 use Rattle.pa_record.specs.declared.history.CellEntry.{CellEntry}
 use Rattle.pa_record.specs.Root.{Root, new_root, root_replayed}
 use Rattle.pa_record.specs.declared.history.Held.{Held}
@@ -13,7 +13,7 @@ use Rattle.pa_rules.specs.Registers.{AllRegs, Facts, RowsTo, no_regs, usable_in}
 use Rattle.pa_rules.specs.Sizes.{usable_of}
 use Rattle.pa_one_run.specs.Parts.{Parts, entry_line}
 
--- what comes before line n, on it, and past it
+-- what comes before line n
 abbrev pub below : {A : Type 0} → (A → ℕ) → ℕ → List A → List A
 below f n xs = filter (λ x. nat_lt (f x) n) xs
 
@@ -25,7 +25,7 @@ on f n xs = filter (λ x. f x == n) xs
 abbrev pub past : {A : Type 0} → (A → ℕ) → ℕ → List A → List A
 past f n xs = filter (λ x. nat_lt n (f x)) xs
 
--- the word of slot s after some marks; it is 0 if the slot was never stepped on
+-- the word after a step that found u, which stays u if there is no step
 abbrev pub stepped_by : Option Step → ℕ → ℕ
 stepped_by None u = u
 stepped_by (Some p) u = stepped p u
@@ -47,11 +47,11 @@ facts_of a = record { usable_of = usable_of; usable_at = usable_in a.ps; cells =
 abbrev pub HasRegisters : Parts → List Played → AllRegs → Type 0
 HasRegisters a before all = RowsTo (facts_of a) no_regs before all
 
--- what the last exchange gave; before the first, what the cell held
+-- what the last of these exchanges gave, or what the cell held if there is none
 abbrev pub gave_last : Held → List CellEntry → Held
 gave_last held [] = held
 gave_last held (e ∷ es) = gave_last e.gave es
 
--- the root of a partition before a line, and the pool
+-- the root of partition p before line n
 abbrev pub root_at : Parts → ℕ → ℕ → Root
 root_at a n p = root_replayed a.pools (below entry_line n (a.roots p)) new_root

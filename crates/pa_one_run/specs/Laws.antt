@@ -10,6 +10,6 @@ use Rattle.pa_rules.specs.Legal.{IsLegal, IsFileRun}
 abbrev pub AtMostOneFileRun : Type 0
 AtMostOneFileRun = (t : Trace) (a b : Run) → IsWithinLimits t → IsFileRun t a → IsFileRun t b → IsSameRun a b
 
--- a legal run by one thread is that run
+-- a legal run of a trace of one thread is the run in the order of its lines
 abbrev pub OneThreadInFileOrder : Type 0
 OneThreadInFileOrder = (t : Trace) (r : Run) → IsWithinLimits t → t.threads ≡ 1 → IsLegal t r → IsFileRun t r

@@ -31,7 +31,7 @@ parts_of t r =
       cells = r.cells;
     }
 
--- the lines of entries and exchanges
+-- the line of an entry of a journal
 abbrev pub entry_line : RootEntry → ℕ
 entry_line e = e.line
 

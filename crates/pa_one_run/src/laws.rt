@@ -6,7 +6,8 @@ pub fn one_file_run()
     ensures { AtMostOneFileRun }
 {}
 
-/// The law that a legal run by one thread is that run, so that one thread has at most one legal run of a trace.
+/// The law that a legal run of one thread is the run in the order of the lines, so a trace of one thread has at most one legal
+/// run.
 pub fn one_thread_in_file_order()
     ensures { OneThreadInFileOrder }
 {}

@@ -42,7 +42,7 @@ at_root line p q acts = elim (eqb_tells q p) [
 here_at : (line p : ℕ) (acts : List RootAct) → root_at line p acts p ≡ map (root_entry line) acts
 here_at line p acts = elim (at_root line p p acts) [ inl y ↦ y.1 | inr n ↦ absurd (n.0 refl) ]
 
--- and in another none
+-- an act on the list of one root leaves none in that of another
 pub root_elsewhere : (line p q : ℕ) (acts : List RootAct) → (q ≡ p → ⊥) → root_at line p acts q ≡ []
 root_elsewhere line p q acts other = elim (at_root line p q acts) [ inl y ↦ absurd (other y.0) | inr n ↦ n.1 ]
 

@@ -23,7 +23,7 @@ batches_ask_none line (suc n) (x ∷ xs) = batches_ask_none line n (drop 16 (x �
 pub gives_ask_none : (line : ℕ) (xs : List Numbered) → filter asks (map (root_entry line) (gives xs)) ≡ []
 gives_ask_none line xs = batches_ask_none line (length xs) xs
 
--- the acts of entries that were made of acts are those; and each entry's act is one of them
+-- the acts of entries that were made of acts are those
 pub acts_back : (line : ℕ) (acts : List RootAct) → acts_in (map (root_entry line) acts) ≡ acts
 acts_back line [] = refl
 acts_back line (act ∷ acts) = ap (λ bs. act ∷ bs) (acts_back line acts)

@@ -1,16 +1,16 @@
--- What a worker counts of a step, and what it owes then; and that both stay small.
+-- What a worker counts of a step, what it owes then, and that both stay small.
 use Rattle.std.proofs.Common.{◌≡◌, ℕ, zero, suc, ◌+◌, ◌*◌, ◌<◌, ◌≤◌, Bool, true, false, List, [], ◌∷◌, ◌++◌, length, Option, Some, None, refl, sym, ◌∙◌, ap, arith, inl, inr}
 use Rattle.std.specs.Prelude.{◌==◌, ◌&&◌, if◌then◌else◌, slice_index_or, slice_set}
 use Rattle.std.proofs.lemmas.Bool.{cases_Bool, cases_eq, eq-eqb, ne_eqb}
 use Rattle.std.proofs.lemmas.List.Sums.{sum_by-cons}
-use Rattle.pa_machine.specs.declared.word.SlotName.{SlotName}
-use Rattle.pa_machine.specs.declared.word.Step.{Step}
-use Rattle.pa_machine.specs.Run.{Mark}
+use Rattle.pa_slot.specs.declared.word.SlotName.{SlotName}
+use Rattle.pa_slot.specs.declared.word.Step.{Step}
+use Rattle.pa_slot.specs.Run.{Mark}
 use Rattle.pa_trace.specs.Limits.{most_partitions}
 use Rattle.pa_rules.specs.declared.played.Played.{Played}
 use Rattle.pa_rules.specs.Played.{mark_of, marks_of}
 use Rattle.pa_rules.specs.Flow.{at_step}
-use Rattle.pa_machine.specs.Kinds.{issues, frees, enters, leaves}
+use Rattle.pa_slot.specs.Kinds.{issues, frees, enters, leaves}
 use Rattle.pa_legal.specs.Tallies.{weight_of, one_of, bytes_of}
 use Rattle.pa_region.specs.Totals.{is_of_kind}
 use Rattle.pa_totals.specs.declared.owed.Owed.{Owed}
@@ -78,14 +78,14 @@ counts_append home xs ys a b c first rest = record {
 
 -- ---- a record that counts nothing
 
--- it has no mark, or one that passes no test
+-- a record has no mark, or one that passes no test
 abbrev pub Uncounted : Option Mark → Type 0
 Uncounted None = Unit {0}
 Uncounted (Some m) =
     (at_step issues m.found m.step ≡ false) × (at_step frees m.found m.step ≡ false) × (at_step enters m.found m.step ≡ false)
     × (at_step leaves m.found m.step ≡ false)
 
--- so it is of none of the four kinds
+-- a mark that passes no test is of none of the four kinds
 of_no_kind : (m : Mark) (q : ℕ) → Uncounted (Some m) → at_step (is_of_kind q) m.found m.step ≡ false
 of_no_kind m q (a, b, c, d) = go m.step a b c d
   where

@@ -2,9 +2,9 @@
 use Rattle.std.proofs.Common.{◌≡◌, ℕ, ◌+◌, ◌<◌, ◌≤◌, Bool, true, false, List, [], ◌∷◌, ◌++◌, refl, sym, ◌∙◌, ap, subst, arith, inl, inr, map, ◌⊎◌, append_assoc}
 use Rattle.std.specs.Prelude.{◌==◌, Contains, filter, nat_lt, if◌then◌else◌}
 use Rattle.std.proofs.lemmas.List.{append-nil}
-use Rattle.pa_machine.specs.declared.title.Title.{Title}
-use Rattle.pa_machine.specs.Titles.{IsWellFormed}
-use Rattle.pa_machine.specs.Holdings.{one}
+use Rattle.pa_slot.specs.declared.title.Title.{Title}
+use Rattle.pa_slot.specs.Titles.{IsWellFormed}
+use Rattle.pa_slot.specs.Holdings.{one}
 use Rattle.pa_region.specs.declared.view.View.{View}
 use Rattle.pa_region.specs.Views.{free_of, seen_of, stake_of}
 use Rattle.pa_region.specs.Lists.{list_of, IsBeginning, list_among, entry_in, entered_in}
@@ -12,7 +12,7 @@ use Rattle.pa_region.specs.Takes.{log_of}
 use Rattle.pa_op_specs.specs.Stocks.{StockValue}
 use Rattle.std.proofs.lemmas.List.Elements.{Contains-append_cases}
 use Rattle.std.proofs.lemmas.Bool.Decides.{nat_tests}
-use Rattle.pa_machine.specs.Count.{number_of}
+use Rattle.pa_slot.specs.Count.{number_of}
 use Rattle.pa_trace.specs.declared.script.Op.{Op}
 use Rattle.pa_trace.specs.declared.script.Op.TheVariants as ops
 use Rattle.pa_record.specs.declared.entry.Answer.{Answer}
@@ -47,8 +47,8 @@ use Rattle.pa_op_specs.specs.Plays.{DoesOp, AnswersIn}
 use Rattle.pa_op_specs.proofs.Touching.{Touches, Touched}
 use Rattle.pa_op_specs.proofs.Quiet.{quiet_record}
 
--- What stays of a view when no log gets an entry: stakes and logs; it has seen all that it had, and no more of the titles that it
--- holds free, which are no fewer.
+-- What stays of a view when no log gets an entry: stakes and logs. It has seen all that it had, and no more of the titles that
+-- it holds free, which are no fewer.
 pub record Rests (v w : View) : Type 0 where
   pub stakes : (k : ℕ) → stake_of w k ≡ stake_of v k
   pub logs : (k : ℕ) → log_of k w ≡ log_of k v
@@ -58,8 +58,8 @@ pub record Rests (v w : View) : Type 0 where
   pub numbers : (n : ℕ) (t : Title) → IsWellFormed n t → 0 < free_of v t → seen_of w t ≡ seen_of v t
   pub budget : v.budget ≤ w.budget
 
--- What an entry of such a log segment says: a step or a look finds nothing older than was seen before, and what it leaves is seen
--- after; an entry of a list, below the cells', is of this line; nothing is added to a total.
+-- What an entry of such a log segment says. A step or a look finds nothing older than was seen before, and what it leaves is
+-- seen after. An entry of a list, below the cells', is of this line. Nothing is added to a total.
 abbrev pub TellsOf : ℕ → View → View → Entry → Type 0
 TellsOf line v w (Counted t step found value) = (seen_of v t ≤ number_of found) × (number_of found + 1 ≤ seen_of w t)
 TellsOf line v w (Looked t found) = (seen_of v t ≤ number_of found) × (number_of found ≤ seen_of w t)
@@ -254,7 +254,7 @@ cells_none stake line es v w entering = go es entering.each
 abbrev pub acts_in : List RootEntry → List RootAct
 acts_in es = map (λ (e : RootEntry). e.act) es
 
--- In each journal the acts of the line are those that the record entered; past the fourth there are none.
+-- In each journal the acts of the line are those that the record entered. Past the fourth there are none.
 pub record LineActs (o : Outcome) (x : ToldRecord) (it : Enters x) : Type 0 where
   pub here : (p : ℕ) → p < 4 → acts_of o.roots x.played.line p ≡ acts_in (it.roots p)
   pub past : (p : ℕ) → 4 ≤ p → acts_of o.roots x.played.line p ≡ []
@@ -267,7 +267,7 @@ line_acts o x it is acts = record {
       ap (λ (es : List RootEntry). acts_in (filter (λ (e : RootEntry). e.line == x.played.line) es)) (is.past p past);
 }
 
--- so there are none if it entered none
+-- there are no acts of the line in a journal in which the record entered none
 pub none_here : (o : Outcome) (x : ToldRecord) (it : Enters x) → LineActs o x it → (p : ℕ) → it.roots p ≡ [] → acts_of o.roots x.played.line p ≡ []
 none_here o x it acts p none = go (nat_lt p 4) refl
   where
@@ -328,10 +328,11 @@ makes_each x it pools each p m e low among says =
 
 -- What is left to say of a record whose log segment is as above.
 --   cells: its op is no exchange
---   it, asked: what it entered in the lists of the roots and the pool; it asked the pool at most once
---   refused, uncuts: a record that is full names its entry; a title that was uncut is one that it unmaps
+--   it, asked: what it entered in the lists of the roots and the pool, which it asked at most once
+--   refused: a record that is full names its entry
+--   uncuts: a title that was uncut is one that it unmaps
 --   homes: in the journal of a partition past the run's it made no entry, or its seat had seen one there before
---   owes, words: it owes what its step does; and a refusal changes no known word
+--   owes, words: it owes what its step does, and a refusal changes no known word
 --   answers: in each run in which the acts of its line are these
 pub record SaysEntered (s after : StockValue) (x : ToldRecord) : Type 0 where
   pub cells : (list : List Made) → entered_in 5 x.stretch ≡ [] → EntersCells x.played.op list x

@@ -3,10 +3,10 @@ use Rattle.std.proofs.Common.{◌≡◌, ℕ, List, [], ◌∷◌, ◌++◌, Opt
 use Rattle.std.specs.Prelude.{if◌then◌else◌}
 use Rattle.std.specs.List.{sum_by}
 use Rattle.std.proofs.lemmas.List.Sums.{sum_by-cons}
-use Rattle.pa_machine.specs.declared.title.Title.{Title}
-use Rattle.pa_machine.specs.declared.word.SlotName.{SlotName}
-use Rattle.pa_machine.specs.declared.word.Step.{Step}
-use Rattle.pa_machine.specs.declared.word.Step.TheVariants as steps
+use Rattle.pa_slot.specs.declared.title.Title.{Title}
+use Rattle.pa_slot.specs.declared.word.SlotName.{SlotName}
+use Rattle.pa_slot.specs.declared.word.Step.{Step}
+use Rattle.pa_slot.specs.declared.word.Step.TheVariants as steps
 use Rattle.pa_trace.specs.declared.script.Op.{Op}
 use Rattle.pa_record.specs.declared.entry.Seen.{Seen}
 use Rattle.pa_record.specs.declared.entry.Answer.TheVariants as answers
@@ -52,7 +52,7 @@ owes_step q t step found value es (looks, are, is) =
     last : sum_by (owes_as q) (Counted t step found value ∷ []) ≡ (if is_of_kind q step found then t.len else 0)
     last = let a = sum_by-cons (owes_as q) (Counted t step found value) [] in omega arith
 
--- so for a slot that was made, of this many bytes
+-- what an allocation owes, of a slot that was made with this many bytes
 pub owes_made : (registers : List StockRegister) (op : Op) (seen : Seen) (usable bytes : ℕ) (es : List Entry) →
     IsStepTold (title_of (λ (s : SlotName). bytes) seen.slot) steps.Issue seen.found.0 0 es → bytes_stepped registers op (answers.Made seen usable) ≡ bytes →
     OwesOf registers op (answers.Made seen usable) es
@@ -60,7 +60,7 @@ owes_made registers op seen usable bytes es told long q =
     owes_step q (title_of (λ (s : SlotName). bytes) seen.slot) steps.Issue seen.found.0 0 es told
     ∙ ap (λ (n : ℕ). if is_of_kind q steps.Issue seen.found.0 then n else 0) (sym long)
 
--- and for a step on the slot of a register
+-- what an op owes for a step on the slot of a register
 pub owes_done : (registers : List StockRegister) (op : Op) (seen : Seen) (bytes : ℕ) (es : List Entry) →
     IsDoneTold (λ (s : SlotName). bytes) (step_of op) (value_by op) seen es → bytes_stepped registers op (answers.Done seen) ≡ bytes →
     OwesOf registers op (answers.Done seen) es

@@ -1,10 +1,10 @@
 -- What a view has seen of lists and numbers, and what follows of a handle's slot in any run.
 use Rattle.std.proofs.Common.{◌≡◌, ℕ, ◌≤◌, Bool, true, false, length, Option, Some, None, refl, sym, ap, subst, arith, inl, inr}
 use Rattle.std.specs.Prelude.{Contains, max, if◌then◌else◌}
-use Rattle.pa_machine.specs.declared.title.Title.{Title}
-use Rattle.pa_machine.specs.Run.{Mark}
-use Rattle.pa_machine.specs.Titles.{same_title}
-use Rattle.pa_machine.proofs.Same.{title_tells}
+use Rattle.pa_slot.specs.declared.title.Title.{Title}
+use Rattle.pa_slot.specs.Run.{Mark}
+use Rattle.pa_slot.specs.Titles.{same_title}
+use Rattle.pa_slot.proofs.Same.{title_tells}
 use Rattle.pa_record.specs.declared.root.RootEntry.{RootEntry}
 use Rattle.pa_record.specs.Spans.{name_of}
 use Rattle.pa_lists.proofs.Members.{of_some}
@@ -54,7 +54,7 @@ pub record IsSlotIn (o : Outcome) (h : Handle) : Type 0 where
 title_by : (t : Title) (n : ℕ) → n ≡ t.len → record { start = t.start; len = n; born = t.born } ≡ t
 title_by t n e = ap (λ m. record t { len = m }) e
 
--- and that of its class
+-- the slot of a title that an act hands out has the act's class
 class_by : (roots : Journals) (p : ℕ) (e : RootEntry) (class : Option ℕ) (t : Title) (c : ℕ) → Contains (roots p) e → HandsOut class t e.act → class ≡ Some c →
     IsOfClass roots (name_of t) p c
 class_by roots p e class t c among out is =

@@ -2,9 +2,9 @@
 use Rattle.std.proofs.Common.{◌≡◌, ℕ, zero, suc, ◌<◌, ◌≤◌, List, [], ◌∷◌, length, ◌∙◌, ap, subst, arith, inl, inr}
 use Rattle.std.specs.List.{sum_by}
 use Rattle.std.proofs.lemmas.List.Sums.{sum_by-cons}
-use Rattle.pa_machine.specs.declared.title.Title.{Title}
-use Rattle.pa_machine.specs.Holdings.{one}
-use Rattle.pa_machine.proofs.Same.{title_self}
+use Rattle.pa_slot.specs.declared.title.Title.{Title}
+use Rattle.pa_slot.specs.Holdings.{one}
+use Rattle.pa_slot.proofs.Same.{title_self}
 use Rattle.pa_region.specs.declared.view.View.{View}
 use Rattle.pa_region.specs.Views.{free_of, own_of, ref_of, stake_of}
 use Rattle.pa_region.specs.Shares.{IsUser}
@@ -34,7 +34,7 @@ register_has s i h is below (inr ref) =
     let sum = is.handles.refs h.title in
     (omega arith, subst (IsMadeFor s.view) ref (is.handles.made i))
 
--- it owns what the register owns
+-- the seat has the Own that a register owns
 pub register_owns : (s : StockValue) (i : ℕ) (h : Handle) → IsStock s → i < 64 → register_in s.registers i ≡ Own h → 0 < own_of s.view h.title
 register_owns s i h is below own =
     let part = part_of (owns_one h.title) s.registers i (let n = is.handles.count in omega arith) in
@@ -42,7 +42,7 @@ register_owns s i h is below own =
     let sum = is.handles.owns h.title in
     omega arith
 
--- it has a Ref if the register has one
+-- the seat has a Ref if a register has one
 pub register_points : (s : StockValue) (i : ℕ) (h : Handle) → IsStock s → i < 64 → register_in s.registers i ≡ Ref h → 0 < ref_of s.view h.title
 register_points s i h is below ref =
     let part = part_of (refs_one h.title) s.registers i (let n = is.handles.count in omega arith) in

@@ -1,15 +1,15 @@
 -- What a worker counts of its own steps: for each partition the slots that it made live, freed, quarantined by a free, and released
--- from quarantine by the last reset; and of their bytes those that it owes to the totals words.
+-- from quarantine by the last reset. Of their bytes it counts those that it owes to the totals words.
 use Rattle.std.specs.Prelude.{◌≡◌, ℕ, ◌+◌, ◌*◌, ◌<◌, ◌≤◌, List, length, Bool, if◌then◌else◌, Option, Some, None, slice_index_or, slice_set}
-use Rattle.pa_machine.specs.declared.word.SlotName.{SlotName}
-use Rattle.pa_machine.specs.declared.word.Step.{Step}
+use Rattle.pa_slot.specs.declared.word.SlotName.{SlotName}
+use Rattle.pa_slot.specs.declared.word.Step.{Step}
 use Rattle.pa_record.specs.declared.entry.Answer.{Answer}
 use Rattle.pa_record.specs.declared.entry.Answer.TheVariants as answers
 use Rattle.pa_record.specs.declared.entry.Seen.{Seen}
 use Rattle.pa_trace.specs.Limits.{most_partitions}
 use Rattle.pa_rules.specs.declared.played.Played.{Played}
 use Rattle.pa_rules.specs.Played.{marks_of}
-use Rattle.pa_machine.specs.Kinds.{issues, frees, enters, leaves}
+use Rattle.pa_slot.specs.Kinds.{issues, frees, enters, leaves}
 use Rattle.pa_legal.specs.Tallies.{weight_of, one_of}
 use Rattle.pa_cells.specs.declared.handle.Handle.{Handle}
 use Rattle.pa_totals.specs.declared.owed.Owed.{Owed}
@@ -18,11 +18,11 @@ use Rattle.pa_op_specs.specs.declared.counts.Count.{Count}
 use Rattle.pa_rules.specs.declared.register.Register.TheVariants.{Empty, Own, Ref, Freed, Cleared}
 use Rattle.pa_op_specs.specs.Stocks.{StockRegister}
 
--- nothing counted; the count of a partition
+-- the count of a partition of which nothing was counted
 abbrev pub no_count : Count
 no_count = record { issued = 0; freed = 0; entered = 0; left = 0 }
 
--- the count of partition p; all 0 if there is none
+-- the count of partition p, all 0 if there is none
 abbrev pub counted_in : List Count → ℕ → Count
 counted_in counts p = slice_index_or counts p no_count
 
@@ -57,14 +57,14 @@ counts_after step (Some h) None counts = counts
 counts_after step (Some h) (Some seen) counts =
     slice_set counts h.partition (after_step step seen.found.0 (counted_in counts h.partition))
 
--- and what is owed then
+-- what is owed after an op that made this step on the slot of a handle, if it made one
 abbrev pub owed_after : Step → Option Handle → Option Seen → List Owed → List Owed
 owed_after step None seen owed = owed
 owed_after step (Some h) None owed = owed
 owed_after step (Some h) (Some seen) owed =
     slice_set owed h.partition (owed_after_step step seen.found.0 h.title.len (owed_at owed h.partition))
 
--- the handle of a register that owns its slot, and of one that points to it
+-- the handle of a register that owns its slot, if it does
 abbrev pub owned_in : StockRegister → Option Handle
 owned_in Empty = None
 owned_in (Own h) = Some h
@@ -80,7 +80,7 @@ pointed_in (Ref h) = Some h
 pointed_in Freed = None
 pointed_in Cleared = None
 
--- what an answer says was found by a step that was made, and what was found of a slot that was made
+-- what an answer says was found by a step that was made
 abbrev pub done_seen : Answer → Option Seen
 done_seen (answers.Done seen) = Some seen
 done_seen answer = None
@@ -110,7 +110,7 @@ pub record IsOwedBySteps (steps : ℕ) (owed : List Owed) : Type 0 where
 abbrev pub GrewBy : (Step → ℕ → Bool) → (SlotName → ℕ) → ℕ → List Played → (before after : ℕ) → Type 0
 GrewBy test home p xs before after = after ≡ before + weight_of test (one_of home p) (marks_of xs)
 
--- so did each count by these records, with this as the partition of each slot
+-- each of the four counts of each partition grew by these records, with this as the partition of each slot
 pub record CountsBy (home : SlotName → ℕ) (xs : List Played) (before after : List Count) : Type 0 where
   pub issued : (p : ℕ) → p < most_partitions → GrewBy issues home p xs (counted_in before p).issued (counted_in after p).issued
   pub freed : (p : ℕ) → p < most_partitions → GrewBy frees home p xs (counted_in before p).freed (counted_in after p).freed

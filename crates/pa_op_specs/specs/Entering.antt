@@ -1,6 +1,6 @@
 -- What an op entered in the lists of roots, pool and cells, by the lists that its seat has seen then.
 use Rattle.std.specs.Prelude.{◌≡◌, ℕ, ◌<◌, ◌≤◌, ◌⊎◌, List, [], ◌∷◌, ◌++◌, length, Contains}
-use Rattle.pa_machine.specs.declared.title.Title.{Title}
+use Rattle.pa_slot.specs.declared.title.Title.{Title}
 use Rattle.pa_trace.specs.declared.script.Op.{Op}
 use Rattle.pa_trace.specs.declared.script.Op.TheVariants as ops
 use Rattle.pa_record.specs.declared.entry.Answer.TheVariants as answers
@@ -31,7 +31,7 @@ pub record EntersExchange (list : List Made) (x : ToldRecord) (k : ℕ) : Type 0
   pub answer : x.played.answer ≡ answers.Swapped (length (made_with_cell k older))
   pub entered : entered_in 5 x.stretch ≡ made ∷ []
 
--- of all ops only an exchange enters something there
+-- of all ops only an exchange enters something in the cells' list
 abbrev pub EntersCells : Op → List Made → ToldRecord → Type 0
 EntersCells (ops.Alloc reg partition size) list x = entered_in 5 x.stretch ≡ []
 EntersCells (ops.Copy from to) list x = entered_in 5 x.stretch ≡ []
@@ -42,7 +42,7 @@ EntersCells (ops.Read reg place) list x = entered_in 5 x.stretch ≡ []
 EntersCells (ops.Swap cell reg) list x = EntersExchange list x cell
 EntersCells ops.Purge list x = entered_in 5 x.stretch ≡ []
 
--- What a record entered; `lists` are those that its seat has seen after it.
+-- What a record entered. `lists` are those that its seat has seen after it.
 --   lines: all is of its line
 --   asked: it asked the pool at most once
 --   refused: if it was full, it names its entry
@@ -56,7 +56,7 @@ pub record EntersOwn (lists : ℕ → List Made) (x : ToldRecord) : Type 0 where
   pub uncuts : (t : Title) → Contains x.stretch (Uncut t) → Unmaps x t
   pub cells : EntersCells x.played.op (lists 5) x
 
--- The view has seen an entry of list q; and what it has seen there that the stake made is what the stake's log entered.
+-- The view has seen an entry of list q, and what it has seen there that the stake made is what the stake's log entered.
 pub record HasSeenSome (stake q : ℕ) (v : View) : Type 0 where
   pub some : (m : Made) × Contains (list_of q v) m
   pub own : made_with stake (list_of q v) ≡ entered_in q (log_of stake v)

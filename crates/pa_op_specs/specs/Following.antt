@@ -20,7 +20,7 @@ pub record FitsAll (o : Outcome) (partitions : ℕ) (v : View) (xs : List ToldRe
   pub seen : IsSeenOf o v
   pub acts : (x : ToldRecord) → Contains xs x → ActsAreOf o x
 
--- Two plays one after the other are one play; and in every run that fits, what was played has the answers, lists, log segments, counts
+-- Two plays one after the other are one play. In every run that fits, what was played has the answers, lists, log segments, counts
 -- and bytes that the rules require.
 pub record PlaysFollow : Type 0 where
   pub composes : (w u v : WorkerValue) (xs ys : List ToldRecord) → PlaysAll w xs u → PlaysAll u ys v → PlaysAll w (xs ++ ys) v

@@ -1,7 +1,7 @@
 -- What a run became, and what of it a seat has seen on the way.
 use Rattle.std.specs.Prelude.{◌≡◌, ℕ, ◌-◌, ◌<◌, ◌≤◌, List, [], ◌∷◌, ◌++◌, map, length, Option, Some, Contains, slice_get}
-use Rattle.pa_machine.specs.declared.title.Title.{Title}
-use Rattle.pa_machine.specs.declared.word.SlotName.{SlotName}
+use Rattle.pa_slot.specs.declared.title.Title.{Title}
+use Rattle.pa_slot.specs.declared.word.SlotName.{SlotName}
 use Rattle.pa_record.specs.declared.history.CellEntry.{CellEntry}
 use Rattle.pa_record.specs.declared.pool.PoolEntry.{PoolEntry}
 use Rattle.pa_record.specs.declared.root.RootEntry.{RootEntry}
@@ -33,8 +33,8 @@ pub record Outcome : Type 0 where
 abbrev pub row_facts : Outcome → Facts
 row_facts o = record { usable_of = usable_of; usable_at = λ s. o.sizes s - 8; cells = o.cells }
 
--- It is one of a run: no partition past its own has a journal, and a slot has the length with which a journal hands it out, and
--- that journal's partition.
+-- The outcome is one of a run. No partition past its own has a journal, and a slot has the length with which a journal hands it out,
+-- and that journal's partition.
 pub record IsOutcome (o : Outcome) : Type 0 where
   pub few : o.partitions ≤ most_partitions
   pub past : (p : ℕ) → o.partitions ≤ p → o.roots p ≡ []

@@ -33,7 +33,7 @@ bytes_through registers (ops.Read reg place) = 0
 bytes_through registers (ops.Swap cell reg) = 0
 bytes_through registers ops.Purge = 0
 
--- of a slot that was made all bytes but those of its count word are usable
+-- The bytes of the slot on which an op with this answer steps. Of a slot that was made all but those of its count word are usable.
 abbrev pub bytes_stepped : List StockRegister → Op → Answer → ℕ
 bytes_stepped registers op (answers.Made seen usable) = usable + 8
 bytes_stepped registers op answer = bytes_through registers op
@@ -47,7 +47,7 @@ owed_by q (Some d) bytes = if is_of_kind q d.step d.found then bytes else 0
 abbrev pub OwesOf : List StockRegister → Op → Answer → List Entry → Type 0
 OwesOf registers op answer es = (q : ℕ) → sum_by (owes_as q) es ≡ owed_by q (step_in op answer) (bytes_stepped registers op answer)
 
--- It adds nothing to the totals words.
+-- the log segment adds nothing to the totals words
 abbrev pub AddsNothing : List Entry → Type 0
 AddsNothing es = (word bytes : ℕ) → Contains es (Added word bytes) → ⊥
 

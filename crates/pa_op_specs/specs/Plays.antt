@@ -1,9 +1,9 @@
 -- What an op of a worker says of its own seat: its record, the log segment of its thread's log, and what these are in any run.
 use Rattle.std.specs.Prelude.{◌≡◌, ℕ, ◌+◌, ◌<◌, ◌≤◌, ◌==◌, List, [], ◌∷◌, ◌++◌, if◌then◌else◌, Some, Contains}
-use Rattle.pa_machine.specs.declared.title.Title.{Title}
-use Rattle.pa_machine.specs.declared.word.Step.{Step}
-use Rattle.pa_machine.specs.Count.{number_of}
-use Rattle.pa_machine.specs.Run.{Mark}
+use Rattle.pa_slot.specs.declared.title.Title.{Title}
+use Rattle.pa_slot.specs.declared.word.Step.{Step}
+use Rattle.pa_slot.specs.Count.{number_of}
+use Rattle.pa_slot.specs.Run.{Mark}
 use Rattle.pa_trace.specs.declared.script.Op.{Op}
 use Rattle.pa_record.specs.declared.entry.Answer.{Answer}
 use Rattle.pa_record.specs.declared.root.RootEntry.{RootEntry}
@@ -88,14 +88,15 @@ pub record Does (before after : StockValue) (x : ToldRecord) : Type 0 where
   pub words : KeepsWords x.played.answer before.view after.view
   pub answers : (o : Outcome) → FitsRun o before.partitions after.view x → AnswersIn o before after x
 
--- So an op on this line does, with this answer, in whatever phase the line is. An op adds nothing to the totals words: a settling does.
+-- What an op on this line does, with this answer, in whatever phase the line is. An op adds nothing to the totals words: a settling
+-- does.
 abbrev pub DoesOp : (line : ℕ) → Op → Answer → (before after : StockValue) → Type 0
 DoesOp line op answer before after =
     (phase : ℕ) → (x : ToldRecord)
     × (x.played ≡ record { line = line; thread = before.thread; phase = phase; op = op; answer = answer })
     × Does before after x × AddsNothing x.stretch
 
--- An op was played: the worker has its record besides; all else is what the op did with its thread state; and in every run that fits
+-- An op was played. The worker has its record besides, and all else is what the op did with its thread state. In every run that fits
 -- its counts grew by the record's step, and it booked the bytes of that to the totals words.
 pub record PlaysOne (before after : WorkerValue) (x : ToldRecord) : Type 0 where
   pub records : after.records ≡ before.records ++ entry_of x.played ∷ []
@@ -105,7 +106,7 @@ pub record PlaysOne (before after : WorkerValue) (x : ToldRecord) : Type 0 where
   pub bytes : (o : Outcome) → FitsRun o before.stock.partitions after.stock.view x →
       BooksBy o.homes o.sizes (x.played ∷ []) before after
 
--- So a worker plays an op on this line, with this answer, in whatever phase the line is.
+-- A worker plays an op on this line, with this answer, in whatever phase the line is.
 abbrev pub PlaysOp : (line : ℕ) → Op → Answer → (before after : WorkerValue) → Type 0
 PlaysOp line op answer before after =
     (phase : ℕ) → (x : ToldRecord)

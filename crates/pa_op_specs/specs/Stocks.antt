@@ -1,9 +1,9 @@
--- What a worker has: a seat, registers, and lists of free slots; as contracts see it, and what is always true of it.
+-- What a worker has: a seat, registers, and lists of free slots, as contracts see it, and what is always true of it.
 use Rattle.std.specs.Prelude.{◌≡◌, ℕ, ◌+◌, ◌*◌, ◌%◌, ◌<◌, ◌≤◌, List, [], length, nat_lt, if◌then◌else◌, ◌⊎◌, Some, Contains, slice_index_or}
 use Rattle.std.specs.List.{sum_by}
-use Rattle.pa_machine.specs.declared.title.Title.{Title}
-use Rattle.pa_machine.specs.Titles.{same_title, IsWellFormed}
-use Rattle.pa_machine.specs.Holdings.{one}
+use Rattle.pa_slot.specs.declared.title.Title.{Title}
+use Rattle.pa_slot.specs.Titles.{same_title, IsWellFormed}
+use Rattle.pa_slot.specs.Holdings.{one}
 use Rattle.pa_buckets.specs.Limits.{class_count}
 use Rattle.pa_record.specs.Spans.{name_of}
 use Rattle.pa_trace.specs.Limits.{register_count, most_partitions, most_threads}
@@ -22,12 +22,12 @@ use Rattle.pa_cells.specs.Handles.{HasSeenMade}
 use Rattle.pa_root.specs.Handing.{numbered_by}
 use Rattle.pa_rules.specs.declared.register.Register.TheVariants.{Empty, Own, Ref, Freed, Cleared}
 
--- what a register of a worker has; of a handle's slot the title, partition and class are known
+-- What a register of a worker has. Of a handle's slot the title, partition and class are known.
 abbrev pub StockRegister : Type 0
 StockRegister = Register Handle
 
--- A worker's thread state, as contracts see it: the number of its thread; how many partitions the run has; the view of its seat; its
--- registers; and a cache for each of 4 partitions and 59 classes, those of partition 0 first.
+-- A worker's thread state, as contracts see it: the number of its thread, how many partitions the run has, the view of its seat, its
+-- registers, and a cache for each of 4 partitions and 59 classes, those of partition 0 first.
 pub record StockValue : Type 0 where
   pub thread : ℕ
   pub partitions : ℕ
@@ -35,7 +35,7 @@ pub record StockValue : Type 0 where
   pub registers : List StockRegister
   pub caches : List CacheList
 
--- what a register has; there are 64
+-- what register number i has, which is nothing if it isn't there
 abbrev pub register_in : List StockRegister → ℕ → StockRegister
 register_in registers i = slice_index_or registers i Empty
 
@@ -47,11 +47,11 @@ cache_place p class = class_count * p + class
 abbrev pub no_cache : CacheList
 no_cache = record { class = 0; titles = [] }
 
--- its titles, front first; none of a class that isn't there
+-- the titles in the cache of a partition and a class, front first, or none if there is no such class
 abbrev pub titles_in : List CacheList → ℕ → ℕ → List Title
 titles_in caches p class = if nat_lt class class_count then (slice_index_or caches (cache_place p class) no_cache).titles else []
 
--- A register, and a worker's registers, as the rules of a run have them.
+-- a worker's register, as the rules of a run have it
 abbrev pub as_reg : StockRegister → Reg
 as_reg r = named (λ (h : Handle). name_of h.title) r
 
@@ -63,7 +63,7 @@ regs_of registers i = as_reg (register_in registers i)
 abbrev pub listed_in : StockValue → Cache
 listed_in s p class = numbered_by s.view (titles_in s.caches p class)
 
--- 1 if the register has the title's Own, or a Ref of it, else 0
+-- 1 if the register has the title's Own, else 0
 abbrev pub owns_one : Title → StockRegister → ℕ
 owns_one t Empty = 0
 owns_one t (Own h) = one (same_title h.title t)
@@ -99,8 +99,8 @@ IsMadeFor v (Ref h) = HasSeenMade h v
 IsMadeFor v Freed = Unit {0}
 IsMadeFor v Cleared = Unit {0}
 
--- The handles. The seat has each Own and each Ref as many times as registers have it, and no Own is unclean; and it has seen how
--- each of their slots was made.
+-- What is known of handles. The seat has each Own and each Ref as many times as registers have it, and no Own is unclean. It has seen
+-- how each of their slots was made.
 pub record HoldsHandles (registers : List StockRegister) (v : View) : Type 0 where
   pub count : length registers ≡ register_count
   pub owns : (t : Title) → own_of v t ≡ sum_by (owns_one t) registers
@@ -112,8 +112,8 @@ pub record HoldsHandles (registers : List StockRegister) (v : View) : Type 0 whe
 abbrev pub listed_slot : ℕ → ℕ → Title → Handle
 listed_slot p class t = record { title = t; partition = p; class = Some class }
 
--- The lists. None is longer than its class's limit. The seat has each listed title free, none is in two lists,
--- and it has seen the fill that handed the slot out, of its partition and class; each title is well formed.
+-- What is known of the lists. None is longer than its class's limit. The seat has each listed title free, none is in two lists, and
+-- it has seen the fill that handed the slot out, of its partition and class. Each title is well formed.
 pub record HoldsLists (caches : List CacheList) (v : View) : Type 0 where
   pub count : length caches ≡ list_count
   pub sound : (k : ℕ) → IsCache (slice_index_or caches k no_cache)

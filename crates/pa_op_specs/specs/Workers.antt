@@ -12,8 +12,8 @@ use Rattle.pa_op_specs.specs.declared.counts.Count.{Count}
 use Rattle.pa_op_specs.specs.Counts.{AreOfSteps, IsOwedBySteps, counted_in, no_count}
 use Rattle.pa_op_specs.specs.Stocks.{StockValue, IsStock, IsNewStock}
 
--- A worker: its thread state; its records so far, and for how many in all there is room; whether an op ran out of memory; what
--- it counted of its steps, for each of 4 partitions; and of their bytes those that it owes to the totals words of each partition.
+-- A worker: its thread state, its records so far, for how many in all there is room, whether an op ran out of memory, what it counted
+-- of its steps, for each of 4 partitions, and the bytes of those steps that it owes to the totals words of each partition.
 pub record WorkerValue : Type 0 where
   pub stock : StockValue
   pub records : List Entry
@@ -22,18 +22,18 @@ pub record WorkerValue : Type 0 where
   pub counts : List Count
   pub owed : List Owed
 
--- it has its stake
+-- the thread state's seat has the stake of its thread
 abbrev pub HasItsStake : StockValue → Type 0
 HasItsStake s = 0 < stake_of s.view s.thread
 
--- While it has its stake, of each kind its log's steps owe at least what its log added and what is still owed.
+-- While a worker has its stake, of each kind its log's steps owe at least what its log added and what is still owed.
 abbrev pub IsCovered : List Owed → StockValue → Type 0
 IsCovered owed s =
     HasItsStake s → (q : ℕ) →
     sum_by (added_as q) (log_of s.thread s.view) + owed_in q owed ≤ sum_by (owes_as q) (log_of s.thread s.view)
 
--- What is always true of it. There is a counted step in its budget for each record to come; it counted at most one step for each
--- record, and these owe what is owed; and that may be added to the totals words.
+-- What is always true of a worker. There is a counted step in its budget for each record to come. It counted at most one step for
+-- each record. These steps owe what is owed, and that may be added to the totals words.
 pub record IsWorker (w : WorkerValue) : Type 0 where
   pub stock : IsStock w.stock
   pub budget : w.room ≤ length w.records + w.stock.view.budget
@@ -41,14 +41,14 @@ pub record IsWorker (w : WorkerValue) : Type 0 where
   pub owed : IsOwedBySteps (length w.records) w.owed
   pub covered : IsCovered w.owed w.stock
 
--- it can play an op: it isn't stopped, it has its stake, and there is room for one more record
+-- the worker can play an op: it isn't stopped, it has its stake, and there is room for one more record
 pub record CanPlayOp (w : WorkerValue) : Type 0 where
   pub going : w.stopped ≡ false
   pub stake : HasItsStake w.stock
   pub room : length w.records < w.room
 
--- After an op that didn't run out of memory it isn't stopped, has its stake and one more record, and room for as many in all as
--- before.
+-- After an op that didn't run out of memory the worker isn't stopped, has its stake and one more record, and room for as many in all
+-- as before.
 pub record KeepsOn (before after : WorkerValue) : Type 0 where
   pub going : after.stopped ≡ false
   pub stake : HasItsStake after.stock

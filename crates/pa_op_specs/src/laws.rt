@@ -10,8 +10,8 @@ pub fn plays_follow()
     ensures { PlaysFollow }
 {}
 
-/// A worker that settles what its log owes at the end of a phase, in which it played an op, has played ops with the same records; the
-/// additions are at the end of the last one's log segment.
+/// A worker that settles what its log owes at the end of a phase, in which it played an op, has played ops with the same
+/// records. The additions are at the end of the last one's log segment.
 pub fn settlings_end_phases()
     ensures { SettlingEndsPhase }
 {

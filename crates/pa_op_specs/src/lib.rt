@@ -2,7 +2,7 @@
 //! laws. Nothing here runs.
 //!
 //! A worker has a seat of the region, 64 registers, and for each partition and class a list of free slots. What an op says
-//! of its own seat alone is an annotated record; the run is legal by the laws over all of them.
+//! of its own seat alone is an annotated record. The run is legal by the laws over all of them.
 #![tactic(auto)]
 
 mod counts;

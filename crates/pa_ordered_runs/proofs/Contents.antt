@@ -3,13 +3,13 @@ use Rattle.std.proofs.Common.{◌≡◌, ℕ, ◌+◌, ◌/◌, ◌<◌, true, L
 use Rattle.std.specs.Prelude.{Contains}
 use Rattle.std.specs.List.{filter_map}
 use Rattle.std.proofs.lemmas.List.Elements.{Contains-push_cases}
-use Rattle.pa_machine.specs.declared.word.SlotName.{SlotName}
-use Rattle.pa_machine.specs.declared.word.Step.{Step}
-use Rattle.pa_machine.specs.declared.word.Step.TheVariants as steps
-use Rattle.pa_machine.specs.Count.{CanStep, number_of, held_of, stepped}
-use Rattle.pa_machine.specs.Run.{Mark}
-use Rattle.pa_machine.specs.Titles.{poison}
-use Rattle.pa_machine.proofs.Runs.{same_slot_cases, same_slot_yes, same_slot_no, number_stepped}
+use Rattle.pa_slot.specs.declared.word.SlotName.{SlotName}
+use Rattle.pa_slot.specs.declared.word.Step.{Step}
+use Rattle.pa_slot.specs.declared.word.Step.TheVariants as steps
+use Rattle.pa_slot.specs.Count.{CanStep, number_of, held_of, stepped}
+use Rattle.pa_slot.specs.Run.{Mark}
+use Rattle.pa_slot.specs.Titles.{poison}
+use Rattle.pa_slot.proofs.Runs.{same_slot_cases, same_slot_yes, same_slot_no, number_stepped}
 use Rattle.pa_trace.specs.declared.script.Op.{Op}
 use Rattle.pa_trace.specs.declared.script.Op.TheVariants as ops
 use Rattle.pa_record.specs.declared.entry.Seen.{Seen}
@@ -240,7 +240,7 @@ along a place s front (x ∷ xs) back h inside parts known =
     subst (IsKnown a place s) (append_assoc front (x ∷ []) xs)
     (along a place s (front ++ x ∷ []) xs back h inside (parts ∙ sym (append_assoc front (x ∷ []) (xs ++ back))) next)
 
--- so it is known before each record
+-- the content of the slot is known before each record
 pub known_before : (a : Parts) (place : ℕ) (s : SlotName) (front back : List Played) → IsFiled a → IsInside a place s →
     a.ps ≡ front ++ back → IsKnown a place s front
 known_before a place s front back h inside parts = along a place s [] front back h inside parts (known_start a place s)

@@ -1,11 +1,11 @@
 -- Journals, the pool and exchanges of a run in the order of its lines: record by record, what its steps enter is what the list has on
 -- its line.
-use Rattle.std.proofs.Common.{◌≡◌, ℕ, ◌<◌, ◌≤◌, ◌⊎◌, List, [], ◌∷◌, ◌++◌, map, Option, Some, None, refl, sym, ◌∙◌, ap, subst, arith, inl, inr, append-nil}
+use Rattle.std.proofs.Common.{◌≡◌, ℕ, ◌<◌, ◌⊎◌, List, [], ◌∷◌, ◌++◌, map, Option, Some, None, refl, sym, ◌∙◌, ap, subst, arith, inl, inr, append-nil}
 use Rattle.std.specs.Prelude.{Contains}
 use Rattle.std.specs.List.{cons_option, filter_map, flat_map, range_with_len}
 use Rattle.std.proofs.lemmas.Bool.{cases_eq, cases_lt, eq-eqb, ne_eqb}
 use Rattle.std.proofs.lemmas.List.Concat.{flat_map_single}
-use Rattle.pa_machine.specs.declared.word.Step.{Step}
+use Rattle.pa_slot.specs.declared.word.Step.{Step}
 use Rattle.pa_trace.specs.declared.script.Op.{Op}
 use Rattle.pa_trace.specs.declared.script.Op.TheVariants as ops
 use Rattle.pa_record.specs.declared.entry.Seen.{Seen}
@@ -24,22 +24,18 @@ use Rattle.pa_rules.specs.Played.{mark_of, step_of}
 use Rattle.pa_rules.specs.Caches.{Cache, acts_of, OnlyActs, NoActs, gives, spilled, FilledFirst, MadeRow, FullRow, ReturnRow, DoneRow, PurgedRow, CacheRow, unmap_at}
 use Rattle.pa_timeline.specs.Timeline.{Part, Entering, Swapping, Moment, asking_before, act_parts, entry_parts, answer_parts, slot_words, part_enters, part_asks, part_swaps, journal_made, asked_lines, swap_lines}
 use Rattle.pa_rules.specs.Registers.{usable_in}
+use Rattle.pa_rules.proofs.Batches.{batch_names_none, purge_names_none}
 use Rattle.pa_one_run.specs.Parts.{Parts, entry_line, pool_line, cell_line}
 use Rattle.pa_one_run.specs.Before.{on}
 use Rattle.pa_one_run.proofs.Filed.{IsFiled}
 use Rattle.pa_one_run.proofs.lines.Cuts.{record_row, entries_recorded, pool_recorded, cells_recorded}
-use Rattle.pa_one_run.proofs.placing.CacheRows.{batch_asks_none, purge_asks_none}
+use Rattle.pa_one_run.proofs.placing.CacheRows.{no_acts_past}
 use Rattle.pa_one_run.proofs.roots.Asking.{asks_pool, asks_nothing}
 use Rattle.pa_one_run.proofs.rows.Rows.{swap_cases}
 use Rattle.pa_one_run.proofs.rows.Exchanges.{exchange_here, exchange_none, cell_steady}
 use Rattle.pa_timeline.proofs.Ranges.{in_range}
 use Rattle.pa_ordered_runs.proofs.Pieces.{filter_map_flat, filter_map_map, filter_map_none, map_flat, flat_same, flat_none, by_lines}
 use Rattle.pa_ordered_runs.proofs.Steps.{moment, steps_in, moments_at, line_by_line, entries_kept, made_kept, done_kept}
-
--- ---- journals past the partitions
-
-no_acts_past : (a : Parts) (line p : ℕ) → IsFiled a → a.partitions ≤ p → acts_of a.roots line p ≡ []
-no_acts_past a line p h past = ap (λ (es : List RootEntry). map (λ (e : RootEntry). e.act) (on entry_line line es)) (h.journals.none_past p past)
 
 -- ---- the entries of a line
 
@@ -145,7 +141,7 @@ module _ (a : Parts) (h : IsFiled a) (line : ℕ) where
   only_asks p act (Some j) only asks = inr (p, j, act, only, asks)
 
   gives_ask : (p : ℕ) (xs : List Numbered) → OnlyActs a.roots line p (gives xs) → Asks
-  gives_ask p xs only = inl (λ q act among. batch_asks_none _ xs act (only_in p q (gives xs) act only among))
+  gives_ask p xs only = inl (λ q act among. batch_names_none _ xs act (only_in p q (gives xs) act only among))
 
 -- a row of the caches asks so
 module _ (a : Parts) (h : IsFiled a) (x : Played) where
@@ -172,7 +168,7 @@ module _ (a : Parts) (h : IsFiled a) (x : Played) where
 
   purged_asks : (slots : ℕ) (cache next : Cache) → PurgedRow a.partitions a.roots x slots cache next → Asks a h x.line
   purged_asks slots cache next (acts, counted, empty) = inl (λ q act among. elim (cases_lt q a.partitions) [
-    | inl less ↦ purge_asks_none (cache q) 0 59 act (subst (λ zs. Contains zs act) (acts q less) among)
+    | inl less ↦ purge_names_none (cache q) 0 59 act (subst (λ zs. Contains zs act) (acts q less) among)
     | inr past ↦ absurd (not_in_none act (subst (λ zs. Contains zs act) (no_acts_past a x.line q h past) among))
   ])
 

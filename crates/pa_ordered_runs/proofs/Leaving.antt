@@ -5,9 +5,9 @@ use Rattle.std.specs.List.{cons_option, filter_map, range_with_len}
 use Rattle.std.proofs.lemmas.Bool.{eq-eqb, ne_eqb}
 use Rattle.std.proofs.lemmas.List.{append-nil}
 use Rattle.std.proofs.lemmas.List.Concat.{flat_map-append}
-use Rattle.pa_machine.specs.declared.word.SlotName.{SlotName}
-use Rattle.pa_machine.specs.Run.{Mark}
-use Rattle.pa_machine.specs.Titles.{poison}
+use Rattle.pa_slot.specs.declared.word.SlotName.{SlotName}
+use Rattle.pa_slot.specs.Run.{Mark}
+use Rattle.pa_slot.specs.Titles.{poison}
 use Rattle.pa_trace.specs.declared.script.Op.{Op}
 use Rattle.pa_trace.specs.declared.script.Op.TheVariants as ops
 use Rattle.pa_record.specs.declared.entry.Seen.{Seen}
@@ -42,7 +42,7 @@ content_beside s place content x (part ∷ parts) other =
     let none : moment_leaves s place (moment x part) ≡ None = rw other refl in
     ap (λ o. content_after s place (changed_to o content) (map (moment x) parts)) none ∙ content_beside s place content x parts other
 
--- and of a record of the slot what its parts leave
+-- the parts of a record of the slot leave the last content that one of them leaves
 pub content_here : (s : SlotName) (place content : ℕ) (x : Played) (parts : List Part) → is_of_slot s (mark_of x) ≡ true →
     content_after s place content (map (moment x) parts) ≡ last_of content (filter_map (part_leaves place x) parts)
 content_here s place content x [] same = refl
@@ -52,7 +52,7 @@ content_here s place content x (part ∷ parts) same =
     ∙ content_here s place (changed_to (part_leaves place x part) content) x parts same
     ∙ one_more (part_leaves place x part) content (filter_map (part_leaves place x) parts)
 
--- one record more
+-- the content after one record more is what that record's moments leave of the content before it
 pub content_next : (a : Parts) (s : SlotName) (place : ℕ) (front : List Played) (x : Played) →
     content_after s place 0 (line_by_line a (front ++ x ∷ [])) ≡ content_after s place (content_after s place 0 (line_by_line a front)) (moments_at a x)
 content_next a s place front x =
@@ -69,7 +69,7 @@ pub record IsQuiet (answer : Answer) : Type 0 where
 looked : (line : ℕ) (seen : Seen) (m : Mark) → look_at line (Some seen) ≡ Some m → m.step ≡ None
 looked line seen m is = ap (λ (z : Mark). z.step) (sym (of_some (mark_at line seen None) m is))
 
--- so it made none
+-- a record with a quiet answer made no step
 pub quiet_step : (line : ℕ) (op : Op) (answer : Answer) (m : Mark) → IsQuiet answer → mark_of_answer line op answer ≡ Some m → m.step ≡ None
 quiet_step line op (answers.Made seen usable) m quiet is = absurd (quiet.not_made seen usable refl)
 quiet_step line op (answers.Done seen) m quiet is = absurd (quiet.not_done seen refl)

@@ -1,9 +1,9 @@
 -- What a record reads is what the steps before it left in its word.
 use Rattle.std.proofs.Common.{◌≡◌, ℕ, ◌-◌, ◌*◌, ◌%◌, ◌<◌, Bool, true, false, if◌then◌else◌, List, [], ◌∷◌, ◌++◌, map, Some, None, refl, sym, ◌∙◌, ap, subst, arith, inl, inr, drop, get_or}
-use Rattle.pa_machine.specs.declared.word.SlotName.{SlotName}
-use Rattle.pa_machine.specs.Count.{number_of, held_of}
-use Rattle.pa_machine.specs.Run.{Mark}
-use Rattle.pa_machine.specs.Titles.{poison}
+use Rattle.pa_slot.specs.declared.word.SlotName.{SlotName}
+use Rattle.pa_slot.specs.Count.{number_of, held_of}
+use Rattle.pa_slot.specs.Run.{Mark}
+use Rattle.pa_slot.specs.Titles.{poison}
 use Rattle.pa_buckets.proofs.Facts.{IsRow-of}
 use Rattle.pa_direct.proofs.Serving.{Serves-of}
 use Rattle.pa_trace.specs.declared.script.Op.{Op}

@@ -115,7 +115,7 @@ touch_is : (part : Part) → IsTouch part → touching part ≡ Some 0
 touch_is part (inl e) = ap touching e
 touch_is part (inr e) = ap touching e
 
--- so before the touch of a record it has no other
+-- before its touch a record has no other touch
 pub first_touch : (a : Parts) (x : Played) (us vs : List Part) (part : Part) → steps_in a x ≡ us ++ part ∷ vs → IsTouch part →
     filter_map touching us ≡ []
 first_touch a x us vs part cut touch =

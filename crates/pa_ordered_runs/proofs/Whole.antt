@@ -5,8 +5,8 @@ use Rattle.std.proofs.lemmas.Bool.{cases_lt, eq-eqb, ne_eqb}
 use Rattle.std.proofs.lemmas.List.{map-append}
 use Rattle.std.proofs.lemmas.List.Elements.{filter-append}
 use Rattle.std.proofs.lemmas.List.Concat.{flat_map-append}
-use Rattle.pa_machine.specs.Count.{number_of}
-use Rattle.pa_machine.specs.Run.{Mark}
+use Rattle.pa_slot.specs.Count.{number_of}
+use Rattle.pa_slot.specs.Run.{Mark}
 use Rattle.pa_record.specs.declared.entry.Seen.{Seen}
 use Rattle.pa_lists.proofs.Members.{first_in, later_in}
 use Rattle.pa_lists.proofs.Elements.{all_from_members, parts_at, pairs_across, pairs_after}
@@ -38,7 +38,7 @@ own_parts : (x : Played) (line : ℕ) (parts : List Part) → x.line ≡ line �
 own_parts x line [] same = refl
 own_parts x line (part ∷ parts) same = rw (eq-eqb x.line line same) (ap (λ ps. part ∷ ps) (own_parts x line parts same))
 
--- and of no other
+-- a record has no parts on another line
 other_parts : (x : Played) (line : ℕ) (parts : List Part) → (x.line ≡ line → ⊥) → parts_in line (map (moment x) parts) ≡ []
 other_parts x line [] other = refl
 other_parts x line (part ∷ parts) other = rw (ne_eqb x.line line other) (other_parts x line parts other)

@@ -1,5 +1,5 @@
 -- The bounds of a span's numbers.
-use Rattle.std.proofs.Common.{◌≡◌, ℕ, ◌+◌, ◌*◌, ◌/◌, ◌<◌, ◌≤◌, max, List, [], ◌∷◌, length, refl, sym, ◌∙◌, ap, subst, arith}
+use Rattle.std.proofs.Common.{◌≡◌, ℕ, ◌+◌, ◌*◌, ◌<◌, ◌≤◌, List, [], ◌∷◌, length, refl, sym, ◌∙◌, ap, subst, arith}
 use Rattle.std.specs.Prelude.{Contains}
 use Rattle.std.proofs.Math.Nat.{mul-le-mul_left}
 use Rattle.pa_buckets.specs.Table.{slot_of, pages_of, slots_of}
@@ -7,7 +7,7 @@ use Rattle.pa_buckets.proofs.Facts.{IsRow-of}
 use Rattle.pa_record.specs.Spans.{Span, bytes_of, more_pages, more_slots, with_list, with_free, without_front}
 use Rattle.pa_record.specs.Sound.{IsCounted}
 use Rattle.pa_lists.proofs.Members.{first_in}
-use Rattle.pa_record.proofs.SpanSteps.{with_free_front, size_some}
+use Rattle.pa_record.proofs.SpanSteps.{with_free_front, size_some, pages_most}
 use Rattle.pa_place.specs.Served.{IsLow}
 
 pub few_bytes : (c : ℕ) → c < 59 → 16384 * pages_of c ≤ 917504
@@ -40,9 +40,6 @@ pub record HasRoom (s : Span) : Type 0 where
   pub committed : s.committed ≤ 224
   pub pages : more_pages s ≤ 225
   pub most : more_slots s ≤ slots_of s.class
-
-pages_most : (committed bytes : ℕ) → committed ≤ 224 → bytes ≤ 917504 → max (committed + 1) ((bytes + 4095) / 4096) ≤ 225
-pages_most committed bytes low less = omega arith
 
 pub has_room : (s : Span) → IsCounted s → s.provisioned < slots_of s.class → HasRoom s
 has_room s h below =

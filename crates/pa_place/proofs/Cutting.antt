@@ -1,7 +1,7 @@
 -- The batches of slots that takes make.
 use Rattle.std.proofs.Common.{◌≡◌, ℕ, suc, ◌<◌, ◌≤◌, arith, List, ◌++◌, sym, ◌∙◌, ap, Some, None, append_assoc}
 use Rattle.std.proofs.lemmas.List.{append-nil}
-use Rattle.pa_machine.specs.declared.title.Title.{Title}
+use Rattle.pa_slot.specs.declared.title.Title.{Title}
 use Rattle.pa_record.specs.Root.{Root, span_for, one_take}
 use Rattle.pa_buckets.specs.Table.{slots_of}
 use Rattle.pa_record.specs.Spans.{Span, with_free, without_front}
@@ -33,6 +33,6 @@ served_most s u title counted left served =
     let class = ap (λ (z : Span). slots_of z.class) served.after in
     omega arith
 
--- it tells the batch that it has more than it had
+-- a span that served a slot has made the same batch as it had when it was ready for the take
 pub served_cut : (before : ℕ) (s u : Span) (title : Title) → IsServed s u title → made_from before u ≡ made_from before (with_free s)
 served_cut before s u title served = ap (made_from before) served.after

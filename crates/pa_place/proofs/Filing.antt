@@ -10,7 +10,7 @@ use Rattle.pa_buckets.specs.declared.spans.State.{State}
 use Rattle.pa_buckets.specs.declared.spans.State.TheVariants as state
 use Rattle.pa_record.specs.Spans.{Span, is_in, is_of, same_state, state_in_use, with_list, without_front}
 use Rattle.pa_buckets.specs.Table.{slots_of}
-use Rattle.pa_machine.specs.declared.title.Title.{Title}
+use Rattle.pa_slot.specs.declared.title.Title.{Title}
 use Rattle.pa_place.specs.Served.{IsServed}
 use Rattle.pa_record.specs.Root.{Root, in_state, turn_after}
 use Rattle.pa_record.specs.Sound.{IsSound}
@@ -22,7 +22,6 @@ use Rattle.pa_place.specs.Listing.{IsListing, AreListed, HasListRoom, is_class}
 use Rattle.pa_place.specs.Filed.{AreFiled, HasRoomToList, CanRefileAt, IsRefiledAt, CanFile, IsFiledAnew}
 use Rattle.pa_place.specs.Store.{IsFiled, HaveTurns, EntersAt}
 use Rattle.pa_place.specs.declared.store.Store.{Store}
-use Rattle.pa_place.proofs.Placing.{there}
 use Rattle.pa_place.proofs.Listing.{IsLast, stands, stays, alike, refiled_by, listed_in_turn}
 use Rattle.pa_place.proofs.Setting.{set_same, set_parts, count_set, counts_less}
 use Rattle.pa_lists.proofs.Indexed.{at_in}

@@ -17,10 +17,9 @@ use Rattle.pa_lists.proofs.Members.{of_some}
 use Rattle.pa_record.proofs.Entering.{same_state-true}
 use Rattle.pa_place.specs.Listing.{IsSooner, IsListing, AreListed, is_class}
 use Rattle.pa_place.specs.Filed.{last_of}
-use Rattle.pa_place.proofs.Placing.{there}
 use Rattle.pa_place.proofs.Listing.{last_is_latest, listed_within, place_of}
 use Rattle.pa_place.proofs.Filing.{in_class, in_one}
-use Rattle.pa_lists.proofs.Indexed.{at_in}
+use Rattle.pa_lists.proofs.Indexed.{at_in, element_at}
 
 -- spans in one of the states that are listed have entered it
 tests_used : (a : State) (class : ℕ) (r : Root) → same_state a state.None ≡ false → TestsUsed (is_of class a) r
@@ -34,7 +33,7 @@ pub record IsLatestAt (test : Span → Bool) (ss : List Span) (o : Option ℕ) :
 pub class_latest : (a : State) (class : ℕ) (r : Root) (lists : List (Vec ℕ Global)) (o : Option ℕ) → same_state a state.None ≡ false → IsSound r → class < 59 → AreListed a r.spans lists →
     ((list : Vec ℕ Global) → slice_get lists class ≡ Some list → o ≡ last_of list.items) → IsLatestAt (is_of class a) r.spans o
 class_latest a class r lists o used sound real h last =
-    let (list, e) = there lists class (let k = h.classes in omega arith) in
+    let (list, e) = element_at lists class (let k = h.classes in omega arith) in
     let k = h.listing class list e in
     record {
       latest = last_is_latest (is_of class a) r list.items o sound (tests_used a class r used) k (last list e);

@@ -20,8 +20,7 @@ use Rattle.pa_place.specs.Scans.{span_at}
 use Rattle.pa_place.specs.Listing.{IsSooner, IsListing, IsInTurn, without_index, refiled}
 use Rattle.pa_place.specs.Filed.{last_of}
 use Rattle.pa_place.proofs.Setting.{set_same, set_other, set_parts, count_set}
-use Rattle.pa_place.proofs.Placing.{there}
-use Rattle.pa_lists.proofs.Indexed.{at_in}
+use Rattle.pa_lists.proofs.Indexed.{at_in, element_at}
 
 without_in : (i j : ℕ) (ids : List ℕ) → Contains (without_index i ids) j → Contains ids j
 without_in i j [] among = among
@@ -304,7 +303,7 @@ listed_in_turn test ss ids h = record {
 -- so no index is twice in it
 pub once_in_turn : (ss : List Span) (ids : List ℕ) → IsInTurn ss ids → AllPairs ◌≢◌ ids
 once_in_turn ss ids h = pairs_give (IsSooner ss) ◌≢◌ ids h.order (λ j k first second sooner same.
-    let (v, f) = there ss j (h.within j first) in
+    let (v, f) = element_at ss j (h.within j first) in
     not_sooner ss j v f (subst (λ z. IsSooner ss j z) (sym same) sooner))
 
 -- and if one is last, the list without it ends before it

@@ -3,7 +3,7 @@ use Rattle.std.proofs.Common.{◌≡◌, ℕ, zero, suc, ◌+◌, ◌-◌, ◌*�
 use Rattle.std.specs.Prelude.{Contains, AllPairs, ◌↔◌}
 use Rattle.std.proofs.lemmas.Bool.{cases_Bool, ltb-true, ltb-false, leb-true}
 use Rattle.std.proofs.lemmas.List.Elements.{Contains-push, Contains-push_cases, Contains-append_cases, Contains-append_left, Contains-append_right}
-use Rattle.pa_machine.specs.declared.title.Title.{Title}
+use Rattle.pa_slot.specs.declared.title.Title.{Title}
 use Rattle.pa_buckets.specs.declared.spans.State.{State}
 use Rattle.pa_buckets.specs.Table.{slot_of, pages_of, slots_of}
 use Rattle.pa_record.specs.declared.taken.SuperPage.{SuperPage}
@@ -147,7 +147,7 @@ one_batch m s = elim (cases_Bool (ltb m s.made)) [
     Apart : Made → Made → Type 0
     Apart b c = (t : Title) → IsInBatch b t → IsInBatch c t → ⊥
 
--- a span that stands somewhere tells the slots of one that is like it
+-- the slots of a span between two numbers are those of one that is like it
 between_like : (m k : ℕ) (s u : Span) (t : Title) → IsLike u s → IsBetween m k u t → IsBetween m k s t
 between_like m k s u t like (n, from, below, e) = (n, from, below, e ∙ title_like u s n like)
 

@@ -4,7 +4,7 @@ use Rattle.std.specs.Prelude.{Contains, AllPairs, slice_get, IfSome, is_some}
 use Rattle.std.proofs.lemmas.Bool.{cases_Bool, both_ways, true≢false, leb-true, le-leb}
 use Rattle.std.proofs.lemmas.List.Elements.{All-pop}
 use Rattle.std.proofs.lemmas.List.{length-append}
-use Rattle.pa_machine.specs.declared.title.Title.{Title}
+use Rattle.pa_slot.specs.declared.title.Title.{Title}
 use Rattle.pa_buckets.specs.declared.spans.State.{State}
 use Rattle.pa_buckets.specs.Table.{pages_of, slots_of}
 use Rattle.pa_record.specs.declared.taken.SuperPage.{SuperPage}
@@ -20,7 +20,7 @@ use Rattle.pa_record.proofs.Taking.{front_from}
 use Rattle.pa_place.specs.Scans.{span_at}
 use Rattle.pa_place.specs.Served.{blank_span, IsLow, IsServed}
 use Rattle.pa_place.specs.Store.{IsReady, FindsPlace, HasBlanks, room_for}
-use Rattle.pa_lists.proofs.Indexed.{at_in, slice_get_at}
+use Rattle.pa_lists.proofs.Indexed.{at_in, slice_get_at, element_at}
 
 -- a span in place of the one in its place, by where it is
 pub put_set : (s t : Span) (ts : List Span) (i : ℕ) → AllPairs IsElsewhere ts → slice_get ts i ≡ Some t → same_place t s ≡ true → put s ts ≡ set ts i s
@@ -138,17 +138,11 @@ served_root r i s u next title turn sound e served is after =
     ∙ ap (λ n. last (record r { spans = set r.spans i next; turn = n }) (Some (title_at (with_free s) served.number))) (sym after)
     ∙ ap (λ v. last (record r { spans = set r.spans i next; turn = turn }) (Some v)) (sym served.title)
 
--- what is at an index of a list
-pub there : {A : Type 0} (xs : List A) (i : ℕ) → i < length xs → (x : A) × (slice_get xs i ≡ Some x)
-there [] i below = absurd (omega arith)
-there (x ∷ xs) zero below = (x, refl)
-there (x ∷ xs) (suc i) below = there xs i (omega arith)
-
 -- the listed span by its place
 pub listed_place : (class : ℕ) (r : Root) (o : Option ℕ) → span_at r.spans o ≡ listed class r.spans → IfSome o (λ at. at < length r.spans) → is_some o ≡ true → FindsPlace class r r o
 listed_place class r None e within some = absurd (true≢false (sym some))
 listed_place class r (Some at) e within some =
-    let (s, f) = there r.spans at within in
+    let (s, f) = element_at r.spans at within in
     (record { span = s; root = r }, listed_found class r s (sym e ∙ f), refl, f)
 
 -- one of the blank spans is used

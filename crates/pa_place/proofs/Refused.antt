@@ -1,7 +1,7 @@
 -- A call gives no slot exactly when the pool had no room.
 use Rattle.std.proofs.Common.{◌≡◌, ℕ, zero, suc, ◌<◌, ◌≤◌, List, [], length, sym, ap, subst, arith, Option, Some, None}
 use Rattle.std.specs.Prelude.{◌↔◌}
-use Rattle.pa_machine.specs.declared.title.Title.{Title}
+use Rattle.pa_slot.specs.declared.title.Title.{Title}
 use Rattle.pa_record.specs.Pool.{PoolState, IsLowest}
 use Rattle.pa_record.specs.Root.{Root, Filled, takes, opened}
 use Rattle.pa_record.specs.Sound.{IsSound, IsBornBelow}

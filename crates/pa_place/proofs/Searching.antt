@@ -3,7 +3,7 @@ use Rattle.std.proofs.Common.{◌≡◌, ◌∙◌, ap, get_or, ℕ, zero, suc, 
 use Rattle.std.specs.Prelude.{AllPairs, slice_get, find}
 use Rattle.std.proofs.lemmas.Bool.{cases_Bool, both_ways, and_parts, or_cases, or_left, or_right, and_from, eqb-true, eq-eqb, leb-true, ltb-true, lt-ltb, cases_lt}
 use Rattle.std.proofs.lemmas.Option.{slice_get_within, get_or_from_slice_get}
-use Rattle.pa_machine.specs.declared.word.SlotName.{SlotName}
+use Rattle.pa_slot.specs.declared.word.SlotName.{SlotName}
 use Rattle.pa_record.specs.Spans.{Span, bytes_of, holds}
 use Rattle.pa_lists.proofs.Members.{of_some, not_some}
 use Rattle.pa_place.specs.Order.{IsBefore, starts_after, IsCut}

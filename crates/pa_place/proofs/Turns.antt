@@ -7,10 +7,9 @@ use Rattle.pa_record.specs.Spans.{Span}
 use Rattle.pa_lists.proofs.Members.{of_some, not_some, first_in, later_in}
 use Rattle.pa_lists.proofs.Pairs.{pairs_head, pairs_tail}
 use Rattle.pa_place.specs.Listing.{IsSooner, IsInTurn, IsTurnCut, without_index}
-use Rattle.pa_place.proofs.Placing.{there}
 use Rattle.pa_place.proofs.Searching.{pairs_at}
 use Rattle.pa_place.proofs.Listing.{once_in_turn}
-use Rattle.pa_lists.proofs.Indexed.{at_in}
+use Rattle.pa_lists.proofs.Indexed.{at_in, element_at}
 
 -- a step of the search for a turn
 pub turns_below : (ss : List Span) (turn : ℕ) (ids : List ℕ) (m i : ℕ) (v : Span) → IsInTurn ss ids → slice_get ids m ≡ Some i → slice_get ss i ≡ Some v → v.turn < turn →
@@ -46,8 +45,8 @@ at_cut ss ids at k count s h cut e f = elim (cases_lt k count) [
   | inr no_sooner ↦ elim (cases_lt count k) [
     | inl later ↦
         let within = slice_get_within ids k at f in
-        let (i, g) = there ids count (omega arith) in
-        let (v, q) = there ss i (h.within i (at_in ids count i g)) in
+        let (i, g) = element_at ids count (omega arith) in
+        let (v, q) = element_at ss i (h.within i (at_in ids count i g)) in
         let less = (pairs_at (IsSooner ss) ids count k i at h.order later g f) v s q e in
         let more = cut.after count i v (omega arith) g q in
         omega arith

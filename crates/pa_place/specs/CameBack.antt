@@ -2,7 +2,7 @@
 use Rattle.std.specs.Prelude.{◌≡◌, ℕ, ◌+◌, ◌<◌, ◌≤◌, ◌==◌, if◌then◌else◌, List, [], ◌∷◌, length, slice_index_or}
 use Rattle.pa_buckets.specs.Table.{slots_of}
 
--- the numbers, the last that came back first; and the bound that they are below, which is also how many there is room for
+-- the numbers that came back, the last one first, and the bound that they are below, which is also how many there is room for
 pub record CameBack : Type 0 where
   pub items : List ℕ
   pub room : ℕ

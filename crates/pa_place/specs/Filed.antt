@@ -26,7 +26,7 @@ pub record HasRoomToList (class n : ℕ) (lists : Lists) : Type 0 where
   pub active : HasListRoom class n lists.active.items
   pub decommitted : HasListRoom class n lists.decommitted.items
 
--- the list of the class can be refiled; and it was, and those of the other classes are as they were
+-- the list of the class can be refiled
 abbrev pub CanRefileAt : List Span → ℕ → Bool → Bool → List (Vec ℕ Global) → Type 0
 CanRefileAt ss class was is lists = (list : Vec ℕ Global) → slice_get lists class ≡ Some list → CanRefile ss was is list
 
@@ -36,7 +36,7 @@ IsRefiledAt class was is i old new =
     (list : Vec ℕ Global) × (next : Vec ℕ Global) × (slice_get old class ≡ Some list) × IsRefiled was is i list next
     × (new ≡ slice_set old class next)
 
--- the lists can take a span of the class from one state into another; and they did
+-- the lists can take a span of the class from one state into another
 pub record CanFile (ss : List Span) (class : ℕ) (was to : State) (lists : Lists) : Type 0 where
   pub classes : HasClasses lists
   pub empty : CanRefile ss (same_state was state.Empty) (same_state to state.Empty) lists.empty

@@ -17,7 +17,7 @@ pub record IsListing (test : Span → Bool) (ss : List Span) (ids : List ℕ) : 
   pub order : AllPairs (IsSooner ss) ids
   pub many : length ids ≡ count_by test ss
 
--- a span of the class
+-- the test whether a span is of the class
 abbrev pub is_class : ℕ → Span → Bool
 is_class class s = s.class == class
 
@@ -59,7 +59,7 @@ pub record CanRefile (ss : List Span) (was is : Bool) (list : Vec ℕ Global) : 
   pub order : IsInTurn ss list.items
   pub room : was ≡ false → is ≡ true → length list.items < vec_capacity list
 
--- the list after that, with as much room
+-- the list after the span at i was refiled, with as much room as before
 pub record IsRefiled (was is : Bool) (i : ℕ) (old new : Vec ℕ Global) : Type 0 where
   pub items : new.items ≡ refiled was is i old.items
   pub room : vec_capacity new ≡ vec_capacity old

@@ -1,6 +1,6 @@
 -- Which slots a take makes for the first time.
 use Rattle.std.specs.Prelude.{◌≡◌, ℕ, zero, suc, ◌+◌, ◌-◌, ◌*◌, ◌^◌, ◌<◌, ◌≤◌, ◌↔◌, ◌⊎◌, ◌++◌, nat_lt, if◌then◌else◌, List, [], ◌∷◌, Option, Some, None, Contains, AllPairs}
-use Rattle.pa_machine.specs.declared.title.Title.{Title}
+use Rattle.pa_slot.specs.declared.title.Title.{Title}
 use Rattle.pa_buckets.specs.Table.{slot_of}
 use Rattle.pa_record.specs.Spans.{Span, title_at, with_free}
 use Rattle.pa_record.specs.Root.{Root, Found, Took, span_for, one_take}
@@ -38,12 +38,12 @@ pub record AreMadeNow (class : ℕ) (r after : Root) (bs : List Made) : Type 0 w
 abbrev pub made_from : ℕ → Span → List Made
 made_from before s = if nat_lt before s.made then record { first = title_at s before; count = s.made - before } ∷ [] else []
 
--- the batch that one take makes, and those of takes one after another
+-- the batch that one take makes of the span that it found, if it makes one
 abbrev pub cut_in : Option Found → List Made
 cut_in None = []
 cut_in (Some f) = made_from f.span.made (with_free f.span)
 
--- the batches of a take and of those after it; none if the take gave no slot
+-- the batches of a take and of those after it, or none if the take gave no slot
 abbrev pub and_cut : Took → List Made → (Root → List Made) → List Made
 and_cut t first further = elim t.title as (λ o. List Made) [ None ↦ [] | Some title ↦ first ++ further t.root ]
 

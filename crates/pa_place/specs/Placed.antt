@@ -1,6 +1,6 @@
 -- What a fill and a direct map do to a placement and its pool.
 use Rattle.std.specs.Prelude.{◌≡◌, ℕ, ◌+◌, ◌≤◌, ◌↔◌, [], ◌∷◌, Option, Some, None, IsSome, IsNone}
-use Rattle.pa_machine.specs.declared.title.Title.{Title}
+use Rattle.pa_slot.specs.declared.title.Title.{Title}
 use Rattle.pa_layout.specs.Pages.{page_place, supers_for}
 use Rattle.pa_record.specs.Pool.{PoolState, IsLowest, took}
 use Rattle.pa_record.specs.Root.{Root, Filled, span_for, takes, opened, map_title, mapped}
@@ -43,7 +43,7 @@ Maps len pool next r filled (Some entry) =
 abbrev pub with_slots : Root → Placed → Filled
 with_slots after p = record { root = after; titles = p.titles.items }
 
--- what a fill did, and a direct map
+-- what a fill of `want` slots of the class did to the pool and the root
 abbrev pub FillDid : ℕ → ℕ → PoolState → PoolState → Root → Root → Placed → Type 0
 FillDid class want pool next r after p = Fills class want pool next r (with_slots after p) p.pool
 

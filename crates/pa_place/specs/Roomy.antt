@@ -8,7 +8,7 @@ pub record RoomyRoot : Type 0 where
   pub root : Root
   pub room : Room
 
--- no room, room for a fill of that many slots of the class, and room for a direct map
+-- room for nothing
 abbrev pub no_room : Room
 no_room = record { class = 0; takes = 0; super_page = false; map = false }
 

@@ -1,7 +1,7 @@
 -- A span before it has a place, and what a take leaves of one.
 use Rattle.std.specs.Prelude.{◌≡◌, ℕ, ◌+◌, ◌<◌, ◌≤◌, ◌^◌, List, [], ◌∷◌, All, slice_index_or, Vec, vec_len}
 use Rattle.std.specs.declared.alloc.Global.{Global}
-use Rattle.pa_machine.specs.declared.title.Title.{Title}
+use Rattle.pa_slot.specs.declared.title.Title.{Title}
 use Rattle.pa_buckets.specs.declared.spans.State.TheVariants as state
 use Rattle.pa_buckets.specs.Limits.{class_count}
 use Rattle.pa_record.specs.Spans.{Span, bytes_of, title_at, with_free, without_front}
@@ -17,11 +17,11 @@ pub record AreBlank (lists : Vec (Vec Span Global) Global) : Type 0 where
   pub blank : (class : ℕ) (d : Vec Span Global) → class < class_count →
       All (λ s. s ≡ blank_span class) (slice_index_or lists.items class d).items
 
--- the same span there
+-- the span at this place, in the super page that this entry of the pool took
 abbrev pub stands_at : ℕ → ℕ → Span → Span
 stands_at place born s = record s { place = place; born = born }
 
--- its bytes lie in the region
+-- the span ends at the byte 2^32 or below it
 abbrev pub IsLow : Span → Type 0
 IsLow s = s.place + bytes_of s ≤ 2 ^ 32
 

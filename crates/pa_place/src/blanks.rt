@@ -4,7 +4,7 @@ ghost use Rattle.pa_place.specs.Store.{HasBlanks};
 
 use crate::plain_span::PlainSpan;
 use pa_buckets::Class;
-use pa_machine::OutOfMemory;
+use pa_slot::OutOfMemory;
 use std::alloc::Global;
 use std::marker::Model;
 use std::mem;

@@ -1,7 +1,7 @@
 ghost use Rattle.std.specs.Prelude.{◌<◌};
 
 use pa_layout::{PARTITION_PAGE, SUPER_PAGE};
-use pa_machine::OutOfMemory;
+use pa_slot::OutOfMemory;
 use std::alloc::Global;
 
 // The partition pages of the region: it has 64 super pages at most.

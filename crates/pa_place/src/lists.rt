@@ -9,7 +9,7 @@ ghost use Rattle.pa_place.specs.Filed.{AreFiled, HasClasses, HasRoomToList, CanR
 
 use crate::plain_span::PlainSpan;
 use pa_buckets::{Class, State};
-use pa_machine::OutOfMemory;
+use pa_slot::OutOfMemory;
 use std::alloc::Global;
 
 // The number of classes.

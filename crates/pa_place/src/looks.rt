@@ -14,8 +14,8 @@ use crate::scans::index_holding;
 use crate::store::{Store, place_named};
 use pa_buckets::{State, slot_size};
 use pa_layout::{SUPER_PAGE, SYSTEM_PAGE};
-use pa_machine::{SlotName, Title};
 use pa_record::{Census, Tally, mapped_of};
+use pa_slot::{SlotName, Title};
 
 impl Store {
     // The slot or direct map of that name, if it is out.
@@ -73,7 +73,7 @@ struct Sums {
     decommitted: u32,
 }
 
-// They are counted in one pass.
+// What these spans have together, counted in one pass.
 fn sums_of(spans: &[PlainSpan]) -> Sums
     requires few { length spans.now ≤ 2147483647 }
     requires bytes { sum_by bytes_kept spans.now < 2 ^ 64 }

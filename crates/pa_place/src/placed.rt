@@ -1,5 +1,5 @@
 use arrayvec::ArrayVec;
-use pa_machine::Title;
+use pa_slot::Title;
 
 /// What a fill or a direct map did: the index of the pool's entry that it made, if it asked the pool, and the slots that
 /// it took, in order. There are none exactly when there was no room.

@@ -18,8 +18,8 @@ use crate::pool_plan::PoolPlan;
 use arrayvec::ArrayVec;
 use pa_buckets::Class;
 use pa_layout::{super_page_of, supers_for};
-use pa_machine::{OutOfMemory, SlotName, Title};
 use pa_record::Census;
+use pa_slot::{OutOfMemory, SlotName, Title};
 use std::alloc::Global;
 use std::marker::Model;
 
@@ -84,8 +84,8 @@ impl Placement {
         })
     }
 
-    /// The same, but the slots are put into `titles`, which has none. Returns the index of the pool's entry that it made, if it
-    /// asked the pool. If memory runs out, the placement, the pool and `titles` are unchanged.
+    /// Takes slots as `fill` does, but puts them into `titles`, which has none. Returns the index of the pool's entry that it
+    /// made, if it asked the pool. If memory runs out, the placement, the pool and `titles` are unchanged.
     #[inline(always)]
     pub fn fill_into(
         &mut self,

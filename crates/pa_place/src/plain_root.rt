@@ -1,4 +1,4 @@
-ghost use Rattle.std.specs.Prelude.{◌≡◌, ◌≢◌, ℕ, ◌+◌, ◌<◌, ◌≤◌, ◌^◌, [], true, false, IfOk, IfSome, IfNone, OnOk, All, AllPairs, Contains, is_none, length, map};
+ghost use Rattle.std.specs.Prelude.{◌≡◌, ◌≢◌, ℕ, ◌+◌, ◌<◌, ◌≤◌, ◌^◌, [], true, false, IfOk, IfSome, IfNone, OnOk, OnErr, All, AllPairs, Contains, is_none, length, map};
 ghost use Rattle.pa_record.specs.Spans.{name_of};
 ghost use Rattle.pa_record.specs.Root.{new_root, span_for, opened, takes, mapped, unmapped, all_returned, purged, IsOut};
 ghost use Rattle.pa_record.specs.Census.{census};
@@ -6,7 +6,7 @@ ghost use Rattle.pa_record.specs.Sound.{IsSound, IsSettled, IsBornBelow};
 ghost use Rattle.pa_place.specs.Made.{AreMadeNow};
 ghost use Rattle.pa_place.specs.Out.{IsOutAs, IsNotOut};
 ghost use Rattle.pa_place.specs.Placed.{IsStep, map_in};
-ghost use Rattle.pa_place.specs.Roomy.{fill_room, map_room, opened_room, HasTakes};
+ghost use Rattle.pa_place.specs.Roomy.{no_room, fill_room, map_room, opened_room, HasTakes};
 
 use crate::blanks::Blanks;
 use crate::placed::{Made, Out};
@@ -15,8 +15,8 @@ use crate::room::Room;
 use crate::store::Store;
 use arrayvec::ArrayVec;
 use pa_buckets::Class;
-use pa_machine::{OutOfMemory, SlotName, Title};
 use pa_record::Census;
+use pa_slot::{OutOfMemory, SlotName, Title};
 use std::alloc::Global;
 use std::marker::Model;
 use std::mem;
@@ -79,12 +79,13 @@ impl PlainRoot {
         !self.store.has_span(class)
     }
 
-    /// Makes room for `takes` takes of the class, 1 to 8, and for a super page: after it `open` and `take` need no memory.
-    /// The root is unchanged, even if memory runs out.
+    /// Makes room for `want` takes of the class, 1 to 8, and for a super page: after it `open` and `take` need no memory.
+    /// The root is unchanged, even if memory runs out; but then there is no room, not even what there was before.
     pub fn ready(&mut self, class: Class, want: u32) -> Result<(), OutOfMemory>
         requires some { 1 ≤ want }
         requires few { want ≤ 8 }
         ensures room { OnOk result (self.new.room ≡ fill_room class want) }
+        ensures none { OnErr result (self.new.room ≡ no_room) }
         ensures root { self.new.root ≡ self.old.root }
     {
         self.room = Room::none();
@@ -136,9 +137,11 @@ impl PlainRoot {
         made
     }
 
-    /// Makes room for a direct map: after it `map` needs no memory. The root is unchanged, even if memory runs out.
+    /// Makes room for a direct map: after it `map` needs no memory. The root is unchanged, even if memory runs out; but then there is
+    /// no room, not even what there was before.
     pub fn ready_map(&mut self) -> Result<(), OutOfMemory>
         ensures room { OnOk result (self.new.room ≡ map_room) }
+        ensures none { OnErr result (self.new.room ≡ no_room) }
         ensures root { self.new.root ≡ self.old.root }
     {
         self.room = Room::none();

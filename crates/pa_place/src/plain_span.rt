@@ -14,7 +14,7 @@ use crate::returned::Returned;
 use arrayvec::ArrayVec;
 use pa_buckets::{Class, State, slot_size, span_of};
 use pa_layout::{PARTITION_PAGE, SYSTEM_PAGE};
-use pa_machine::{OutOfMemory, SlotName, Title};
+use pa_slot::{OutOfMemory, SlotName, Title};
 use std::alloc::Global;
 use std::marker::Model;
 
@@ -307,7 +307,7 @@ impl PlainSpan {
         turn + 1
     }
 
-    // The state after a take, and after a return.
+    // The state after a take: full if all slots are out, and else active.
     pub(crate) fn state_in_use(&self) -> State
         ensures { result ≡ state_in_use self.now }
     {
@@ -318,6 +318,7 @@ impl PlainSpan {
         }
     }
 
+    // The state after a return: empty if no slot is out, and else active.
     pub(crate) fn state_back(&self) -> State
         ensures { result ≡ state_back self.now }
     {

@@ -3,8 +3,8 @@ ghost use Rattle.std.specs.Vec.{vec_capacity};
 ghost use Rattle.pa_record.specs.declared.taken.Taken.{Taken as Run};
 ghost use Rattle.pa_record.specs.Pool.{new_pool, took, gave, without_run, IsApart, IsFreeRun, IsLowest, IsOneTake};
 
-use pa_machine::OutOfMemory;
 use pa_record::Taken;
+use pa_slot::OutOfMemory;
 use std::alloc::Global;
 use std::marker::Model;
 

@@ -1,6 +1,6 @@
 ghost use Rattle.std.specs.Prelude.{◌≡◌, ◌+◌, ◌-◌, ◌<◌, ◌≤◌, ◌↔◌, [], ◌∷◌, ◌++◌, Contains, IfNone, IfOk, IsTrue, length, option_to_list, slice_index_or, slice_set};
 
-use pa_machine::OutOfMemory;
+use pa_slot::OutOfMemory;
 use std::alloc::Global;
 use std::collections::VecDeque;
 use std::marker::Model;
@@ -26,7 +26,7 @@ impl Model for Returned {
 }
 
 impl Returned {
-    // None, with room for `room` numbers.
+    // No numbers, with room for `room` of them.
     pub(crate) fn new(alloc: Global, room: usize) -> Result<Returned, OutOfMemory>
         ensures { IfOk result (λ r. r ≡ record { items = []; room = room }) }
     {
@@ -75,7 +75,7 @@ impl Returned {
         }
     }
 
-    // Drops all.
+    // Drops all numbers.
     pub(crate) fn clear(&mut self)
         ensures { self.new ≡ record { items = []; room = self.old.room } }
     {

@@ -9,7 +9,7 @@ use crate::lists::first_listed;
 use crate::scans::index_holding;
 use crate::store::Store;
 use pa_buckets::State;
-use pa_machine::{SlotName, Title};
+use pa_slot::{SlotName, Title};
 
 // The most spans that stay empty.
 const MOST_EMPTY: usize = 16;

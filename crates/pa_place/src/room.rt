@@ -49,7 +49,7 @@ impl Room {
         }
     }
 
-    // The same, without the room for a super page.
+    // The room without that for a super page.
     pub(crate) fn opened(self) -> Room
         ensures { result ≡ opened_room self }
     {

@@ -6,7 +6,7 @@ ghost use Rattle.pa_place.specs.Scans.{span_at};
 use crate::homes::Homes;
 use crate::plain_span::PlainSpan;
 use pa_buckets::{Class, State};
-use pa_machine::SlotName;
+use pa_slot::SlotName;
 
 // The index of the span that contains the slot of that name. The spans are in order. They are searched only if the span
 // isn't the one that was last made over the slot's page.
@@ -24,7 +24,7 @@ pub(crate) fn index_holding(spans: &[PlainSpan], homes: &Homes, name: SlotName) 
     }
 }
 
-// The same, by a binary search.
+// The index of the span that contains the slot of that name, by a binary search.
 fn search(spans: &[PlainSpan], name: SlotName) -> Option<usize>
     requires order { AllPairs IsBefore spans.now }
     ensures holding { span_at spans.now result ≡ find (holds name) spans.now }

@@ -10,8 +10,8 @@ use crate::lists::Lists;
 use crate::plain_span::PlainSpan;
 use pa_buckets::Class;
 use pa_layout::page_start;
-use pa_machine::{OutOfMemory, SlotName, Title};
 use pa_record::SuperPage;
+use pa_slot::{OutOfMemory, SlotName, Title};
 use std::alloc::Global;
 
 // The most members of a list of the store.

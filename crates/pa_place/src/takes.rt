@@ -18,8 +18,8 @@ use crate::store::Store;
 use arrayvec::ArrayVec;
 use pa_buckets::{Class, span_of};
 use pa_layout::page_start;
-use pa_machine::Title;
 use pa_record::SuperPage;
+use pa_slot::Title;
 
 // The partition pages of a super page that come before its last guard.
 const LAST_PAGE: u32 = 127;

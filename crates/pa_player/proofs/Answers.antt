@@ -1,12 +1,20 @@
--- Ops that leave the player as it is: what no handle, a stale one or a full register is answered, and looks at a slot.
-use Rattle.std.proofs.Common.{◌≡◌, ℕ, ◌<◌, List, None, refl, sym, subst, inl}
-use Rattle.pa_machine.specs.declared.word.SlotName.{SlotName}
+-- Ops that leave the player as it is: those that their register alone refuses, and those that find a register full.
+use Rattle.std.proofs.Common.{◌≡◌, ℕ, ◌<◌, List, refl, sym, subst, inl}
+use Rattle.std.specs.Prelude.{Err}
 use Rattle.pa_trace.specs.declared.script.Op.TheVariants as ops
+use Rattle.pa_record.specs.declared.entry.Answer.{Answer}
 use Rattle.pa_record.specs.declared.entry.Answer.TheVariants as answers
-use Rattle.pa_rules.specs.Registers.{Regs, Facts, AllocRow, CopyRow, CopyToRow, ResetRow, FreeRow, WriteRow, ReadRow}
+use Rattle.pa_rules.specs.Registers.{Regs, Facts, RequestRow, AllocRow, CopyRow, CopyToRow}
+use Rattle.pa_rules.specs.Nexts.{HasSomeHandle, copy_next, reset_next, free_next, write_next, read_next}
+use Rattle.pa_rules.specs.declared.register.Register.{Register}
+use Rattle.pa_rules.specs.declared.register.Register.TheVariants.{Empty, Own, Ref, Freed, Cleared}
+use Rattle.pa_rules.specs.declared.register.Next.TheVariants.{Refused}
+use Rattle.pa_rules.proofs.Nexts.{copy_refusal, reset_refusal, free_refusal, write_refusal, read_refusal}
+use Rattle.pa_rules.proofs.Nexts.{copy_refused, reset_refused, free_refused, write_refused, read_refused}
+use Rattle.pa_rules.proofs.Nexts.{alloc_filled as alloc_row_filled, copy_filled as copy_row_filled}
+use Rattle.pa_heap_effects.specs.Ops.{KeepsLists}
 use Rattle.pa_slot_effects.specs.Known.{facts_of}
-use Rattle.pa_player.specs.declared.handle.Handle.{Handle}
-use Rattle.pa_player.specs.declared.handle.Handle.TheVariants.{Empty, Own, Ref, Freed, Cleared}
+use Rattle.pa_slot_effects.specs.Turns.{TellsNone}
 use Rattle.pa_player.specs.declared.table.Slot.{Slot}
 use Rattle.pa_player.specs.Player.{Player}
 use Rattle.pa_player.specs.Tables.{named_at, Points, HasNone}
@@ -14,137 +22,86 @@ use Rattle.pa_player.specs.Playing.{shown, reg_of, register_at}
 use Rattle.pa_player.specs.Plays.{Plays}
 use Rattle.pa_player.proofs.Quiet.{none_plays}
 
--- the handle is of a slot, whichever
-abbrev pub HasSlot : Handle → Type 0
-HasSlot Empty = ⊥
-HasSlot (Own place) = Unit {0}
-HasSlot (Ref place) = Unit {0}
-HasSlot Freed = ⊥
-HasSlot Cleared = ⊥
+-- ---- a copy, a reset, a free, a write or a read that its register alone refuses
 
--- ---- no handle
+pub copy_refuses : (p : Player) (thread from to : ℕ) (answer : Answer) → copy_next (register_at p thread from) ≡ Err answer
+    → Plays p thread (ops.Copy from to) p answer
+copy_refuses p thread from to answer refused =
+    let r = register_at p thread from in
+    none_plays p thread (ops.Copy from to) answer (copy_refusal TellsNone r answer refused tt tt)
+    (copy_refusal (KeepsLists (ops.Copy from to)) r answer refused tt tt) (λ cell reg e. cc)
+    (copy_refused (named_at p.table) r answer ((shown p).regs thread) to refused)
 
-pub copy_nothing : (p : Player) (thread from to : ℕ) → register_at p thread from ≡ Empty → Plays p thread (ops.Copy from to) p answers.Nothing
-copy_nothing p thread from to is = none_plays p thread (ops.Copy from to) answers.Nothing tt tt (λ cell reg e. cc)
-    (subst (λ z. CopyRow (reg_of p.table z) ((shown p).regs thread) to answers.Nothing ((shown p).regs thread)) (sym is) (refl, λ k. refl))
+pub reset_refuses : (p : Player) (thread reg : ℕ) (answer : Answer) → reset_next (register_at p thread reg) ≡ Err answer
+    → Plays p thread (ops.Reset reg) p answer
+reset_refuses p thread reg answer refused =
+    let r = register_at p thread reg in
+    none_plays p thread (ops.Reset reg) answer (reset_refusal TellsNone r answer refused tt tt tt)
+    (reset_refusal (KeepsLists (ops.Reset reg)) r answer refused tt tt tt) (λ cell i e. cc)
+    (reset_refused (named_at p.table) r answer ((shown p).regs thread) reg refused)
 
-pub reset_nothing : (p : Player) (thread reg : ℕ) → register_at p thread reg ≡ Empty → Plays p thread (ops.Reset reg) p answers.Nothing
-reset_nothing p thread reg is = none_plays p thread (ops.Reset reg) answers.Nothing tt tt (λ cell r e. cc)
-    (subst (λ z. ResetRow (reg_of p.table z) ((shown p).regs thread) reg answers.Nothing ((shown p).regs thread)) (sym is) (refl, λ k. refl))
+pub free_refuses : (p : Player) (thread reg : ℕ) (answer : Answer) → free_next (register_at p thread reg) ≡ Refused answer
+    → Plays p thread (ops.Free reg) p answer
+free_refuses p thread reg answer refused =
+    let r = register_at p thread reg in
+    none_plays p thread (ops.Free reg) answer (free_refusal TellsNone r answer refused tt tt tt)
+    (free_refusal (KeepsLists (ops.Free reg)) r answer refused tt tt tt) (λ cell i e. cc)
+    (free_refused (named_at p.table) r answer ((shown p).regs thread) reg refused)
 
-pub free_nothing : (p : Player) (thread reg : ℕ) → register_at p thread reg ≡ Empty → Plays p thread (ops.Free reg) p answers.Nothing
-free_nothing p thread reg is = none_plays p thread (ops.Free reg) answers.Nothing tt tt (λ cell r e. cc)
-    (subst (λ z. FreeRow (reg_of p.table z) ((shown p).regs thread) reg answers.Nothing ((shown p).regs thread)) (sym is) (refl, λ k. refl))
+pub write_refuses : (p : Player) (thread reg value : ℕ) (answer : Answer) → write_next (register_at p thread reg) ≡ Refused answer
+    → Plays p thread (ops.Write reg value) p answer
+write_refuses p thread reg value answer refused =
+    let r = register_at p thread reg in
+    none_plays p thread (ops.Write reg value) answer (write_refusal TellsNone r answer refused tt tt)
+    (write_refusal (KeepsLists (ops.Write reg value)) r answer refused tt tt) (λ cell i e. cc)
+    (write_refused (named_at p.table) r answer ((shown p).regs thread) refused)
 
-pub write_nothing : (p : Player) (thread reg value : ℕ) → register_at p thread reg ≡ Empty → Plays p thread (ops.Write reg value) p answers.Nothing
-write_nothing p thread reg value is = none_plays p thread (ops.Write reg value) answers.Nothing tt tt (λ cell r e. cc)
-    (subst (λ z. WriteRow (reg_of p.table z) ((shown p).regs thread) answers.Nothing ((shown p).regs thread)) (sym is) (refl, λ k. refl))
+pub read_refuses : (p : Player) (thread reg place : ℕ) (answer : Answer) → read_next (register_at p thread reg) ≡ Err answer
+    → Plays p thread (ops.Read reg place) p answer
+read_refuses p thread reg place answer refused =
+    let r = register_at p thread reg in
+    none_plays p thread (ops.Read reg place) answer (read_refusal TellsNone r answer refused tt tt)
+    (read_refusal (KeepsLists (ops.Read reg place)) r answer refused tt tt) (λ cell i e. cc)
+    (read_refused (named_at p.table) r answer (facts_of (shown p).usable (shown p).cells) ((shown p).regs thread) place refused)
 
-pub read_nothing : (p : Player) (thread reg place : ℕ) → register_at p thread reg ≡ Empty → Plays p thread (ops.Read reg place) p answers.Nothing
-read_nothing p thread reg place is = none_plays p thread (ops.Read reg place) answers.Nothing tt tt (λ cell r e. cc)
-    (subst (λ z. ReadRow (reg_of p.table z) (facts_of (shown p).usable (shown p).cells) ((shown p).regs thread) place answers.Nothing ((shown p).regs thread)) (sym is) (refl, λ k. refl))
+-- ---- a register that is full
 
--- ---- a handle that was given up
-
--- the register's handle was freed or cleared
-abbrev pub IsStale : Handle → Type 0
-IsStale Empty = ⊥
-IsStale (Own place) = ⊥
-IsStale (Ref place) = ⊥
-IsStale Freed = Unit {0}
-IsStale Cleared = Unit {0}
-
-stale_copy : (slots : List Slot) (x : Handle) (regs : Regs) (to : ℕ) → IsStale x → CopyRow (reg_of slots x) regs to (answers.StaleUse None) regs
-stale_copy slots Empty regs to stale = absurd stale
-stale_copy slots (Own place) regs to stale = absurd stale
-stale_copy slots (Ref place) regs to stale = absurd stale
-stale_copy slots Freed regs to stale = (refl, λ k. refl)
-stale_copy slots Cleared regs to stale = (refl, λ k. refl)
-
-pub copy_stale : (p : Player) (thread from to : ℕ) → IsStale (register_at p thread from) → Plays p thread (ops.Copy from to) p (answers.StaleUse None)
-copy_stale p thread from to stale = none_plays p thread (ops.Copy from to) (answers.StaleUse None) tt tt (λ cell reg e. cc)
-    (stale_copy p.table (register_at p thread from) ((shown p).regs thread) to stale)
-
-stale_write : (slots : List Slot) (x : Handle) (regs : Regs) → IsStale x → WriteRow (reg_of slots x) regs (answers.StaleUse None) regs
-stale_write slots Empty regs stale = absurd stale
-stale_write slots (Own place) regs stale = absurd stale
-stale_write slots (Ref place) regs stale = absurd stale
-stale_write slots Freed regs stale = (refl, λ k. refl)
-stale_write slots Cleared regs stale = (refl, λ k. refl)
-
-pub write_stale : (p : Player) (thread reg value : ℕ) → IsStale (register_at p thread reg) → Plays p thread (ops.Write reg value) p (answers.StaleUse None)
-write_stale p thread reg value stale = none_plays p thread (ops.Write reg value) (answers.StaleUse None) tt tt (λ cell r e. cc)
-    (stale_write p.table (register_at p thread reg) ((shown p).regs thread) stale)
-
-stale_read : (slots : List Slot) (facts : Facts) (x : Handle) (regs : Regs) (place : ℕ) → IsStale x → ReadRow (reg_of slots x) facts regs place (answers.StaleUse None) regs
-stale_read slots facts Empty regs place stale = absurd stale
-stale_read slots facts (Own i) regs place stale = absurd stale
-stale_read slots facts (Ref i) regs place stale = absurd stale
-stale_read slots facts Freed regs place stale = (refl, λ k. refl)
-stale_read slots facts Cleared regs place stale = (refl, λ k. refl)
-
-pub read_stale : (p : Player) (thread reg place : ℕ) → IsStale (register_at p thread reg) → Plays p thread (ops.Read reg place) p (answers.StaleUse None)
-read_stale p thread reg place stale = none_plays p thread (ops.Read reg place) (answers.StaleUse None) tt tt (λ cell r e. cc)
-    (stale_read p.table (facts_of (shown p).usable (shown p).cells) (register_at p thread reg) ((shown p).regs thread) place stale)
-
-pub free_stale : (p : Player) (thread reg : ℕ) → register_at p thread reg ≡ Cleared → Plays p thread (ops.Free reg) p (answers.StaleUse None)
-free_stale p thread reg is = none_plays p thread (ops.Free reg) (answers.StaleUse None) tt tt (λ cell r e. cc)
-    (subst (λ z. FreeRow (reg_of p.table z) ((shown p).regs thread) reg (answers.StaleUse None) ((shown p).regs thread)) (sym is) (refl, λ k. refl))
-
-pub free_again : (p : Player) (thread reg : ℕ) → register_at p thread reg ≡ Freed → Plays p thread (ops.Free reg) p (answers.SecondFree None)
-free_again p thread reg is = none_plays p thread (ops.Free reg) (answers.SecondFree None) tt tt (λ cell r e. cc)
-    (subst (λ z. FreeRow (reg_of p.table z) ((shown p).regs thread) reg (answers.SecondFree None) ((shown p).regs thread)) (sym is) (refl, λ k. refl))
-
-pub reset_stale : (p : Player) (thread reg : ℕ) → register_at p thread reg ≡ Cleared → Plays p thread (ops.Reset reg) p answers.StaleReset
-reset_stale p thread reg is = none_plays p thread (ops.Reset reg) answers.StaleReset tt tt (λ cell r e. cc)
-    (subst (λ z. ResetRow (reg_of p.table z) ((shown p).regs thread) reg answers.StaleReset ((shown p).regs thread)) (sym is) (refl, λ k. refl))
-
--- ---- a reset of no raw_ptr, and a register that is full
-
-pub reset_freed : (p : Player) (thread reg : ℕ) → register_at p thread reg ≡ Freed → Plays p thread (ops.Reset reg) p answers.NotRef
-reset_freed p thread reg is = none_plays p thread (ops.Reset reg) answers.NotRef tt tt (λ cell r e. cc)
-    (subst (λ z. ResetRow (reg_of p.table z) ((shown p).regs thread) reg answers.NotRef ((shown p).regs thread)) (sym is) (refl, λ k. refl))
-
-pub reset_owner : (p : Player) (thread reg i : ℕ) → register_at p thread reg ≡ Own i → Plays p thread (ops.Reset reg) p answers.NotRef
-reset_owner p thread reg i is = none_plays p thread (ops.Reset reg) answers.NotRef tt tt (λ cell r e. cc)
-    (subst (λ z. ResetRow (reg_of p.table z) ((shown p).regs thread) reg answers.NotRef ((shown p).regs thread)) (sym is) (refl, λ k. refl))
-
-filled_copy_to : (slots : List Slot) (y : Handle) (s : SlotName) (regs : Regs) (to : ℕ) → HasSlot y → CopyToRow (reg_of slots y) s regs to answers.Filled regs
-filled_copy_to slots Empty s regs to full = absurd full
-filled_copy_to slots (Own place) s regs to full = (refl, λ k. refl)
-filled_copy_to slots (Ref place) s regs to full = (refl, λ k. refl)
-filled_copy_to slots Freed s regs to full = absurd full
-filled_copy_to slots Cleared s regs to full = absurd full
-
-filled_copy : (slots : List Slot) (x y : Handle) (i : ℕ) (regs : Regs) (to : ℕ) → Points x i → HasSlot y → regs to ≡ reg_of slots y → CopyRow (reg_of slots x) regs to answers.Filled regs
+filled_copy : (slots : List Slot) (x y : Register ℕ) (i : ℕ) (regs : Regs) (to : ℕ) → Points x i → HasSomeHandle y
+    → regs to ≡ reg_of slots y → CopyRow (reg_of slots x) regs to answers.Filled regs
 filled_copy slots Empty y i regs to points full is = absurd points
-filled_copy slots (Own place) y i regs to points full is = subst (λ z. CopyToRow z (named_at slots place) regs to answers.Filled regs) (sym is) (filled_copy_to slots y (named_at slots place) regs to full)
-filled_copy slots (Ref place) y i regs to points full is = subst (λ z. CopyToRow z (named_at slots place) regs to answers.Filled regs) (sym is) (filled_copy_to slots y (named_at slots place) regs to full)
+filled_copy slots (Own place) y i regs to points full is =
+    subst (λ z. CopyToRow z (named_at slots place) regs to answers.Filled regs) (sym is)
+    (copy_row_filled (named_at slots) y (named_at slots place) regs to full)
+filled_copy slots (Ref place) y i regs to points full is =
+    subst (λ z. CopyToRow z (named_at slots place) regs to answers.Filled regs) (sym is)
+    (copy_row_filled (named_at slots) y (named_at slots place) regs to full)
 filled_copy slots Freed y i regs to points full is = absurd points
 filled_copy slots Cleared y i regs to points full is = absurd points
 
-pub copy_filled : (p : Player) (thread from to i : ℕ) → Points (register_at p thread from) i → HasSlot (register_at p thread to) → Plays p thread (ops.Copy from to) p answers.Filled
+pub copy_filled : (p : Player) (thread from to i : ℕ) → Points (register_at p thread from) i → HasSomeHandle (register_at p thread to)
+    → Plays p thread (ops.Copy from to) p answers.Filled
 copy_filled p thread from to i points full = none_plays p thread (ops.Copy from to) answers.Filled tt tt (λ cell reg e. cc)
     (filled_copy p.table (register_at p thread from) (register_at p thread to) i ((shown p).regs thread) to points full refl)
 
-filled_alloc : (slots : List Slot) (x : Handle) (facts : Facts) (regs : Regs) (reg size : ℕ) → HasSlot x → AllocRow (reg_of slots x) facts regs reg size answers.Filled regs
-filled_alloc slots Empty facts regs reg size full = absurd full
-filled_alloc slots (Own place) facts regs reg size full = (refl, λ k. refl)
-filled_alloc slots (Ref place) facts regs reg size full = (refl, λ k. refl)
-filled_alloc slots Freed facts regs reg size full = absurd full
-filled_alloc slots Cleared facts regs reg size full = absurd full
-
-pub alloc_filled : (p : Player) (thread reg partition size : ℕ) → HasSlot (register_at p thread reg) → Plays p thread (ops.Alloc reg partition size) p answers.Filled
+pub alloc_filled : (p : Player) (thread reg partition size : ℕ) → HasSomeHandle (register_at p thread reg)
+    → Plays p thread (ops.Alloc reg partition size) p answers.Filled
 alloc_filled p thread reg partition size full = none_plays p thread (ops.Alloc reg partition size) answers.Filled tt tt (λ cell r e. cc)
-    (filled_alloc p.table (register_at p thread reg) (facts_of (shown p).usable (shown p).cells) ((shown p).regs thread) reg size full)
+    (alloc_row_filled (named_at p.table) (register_at p thread reg) (facts_of (shown p).usable (shown p).cells) ((shown p).regs thread) reg size full)
 
-large_alloc : (slots : List Slot) (x : Handle) (facts : Facts) (regs : Regs) (reg size : ℕ) → HasNone x → 33521656 < size → AllocRow (reg_of slots x) facts regs reg size answers.TooLarge regs
-large_alloc slots Empty facts regs reg size none large = inl (large, refl, λ k. refl)
-large_alloc slots (Own place) facts regs reg size none large = absurd none
-large_alloc slots (Ref place) facts regs reg size none large = absurd none
-large_alloc slots Freed facts regs reg size none large = inl (large, refl, λ k. refl)
-large_alloc slots Cleared facts regs reg size none large = inl (large, refl, λ k. refl)
+-- ---- a request
 
-pub alloc_too_large : (p : Player) (thread reg partition size : ℕ) → HasNone (register_at p thread reg) → 33521656 < size → Plays p thread (ops.Alloc reg partition size) p answers.TooLarge
-alloc_too_large p thread reg partition size none large = none_plays p thread (ops.Alloc reg partition size) answers.TooLarge tt tt (λ cell r e. cc)
-    (large_alloc p.table (register_at p thread reg) (facts_of (shown p).usable (shown p).cells) ((shown p).regs thread) reg size none large)
+-- an allocation to a register that has no handle
+pub request_row : (slots : List Slot) (x : Register ℕ) (facts : Facts) (regs : Regs) (reg size : ℕ) (answer : Answer) → HasNone x
+    → RequestRow facts regs reg size answer regs → AllocRow (reg_of slots x) facts regs reg size answer regs
+request_row slots Empty facts regs reg size answer none row = row
+request_row slots (Own place) facts regs reg size answer none row = absurd (none tt)
+request_row slots (Ref place) facts regs reg size answer none row = absurd (none tt)
+request_row slots Freed facts regs reg size answer none row = row
+request_row slots Cleared facts regs reg size answer none row = row
+
+pub alloc_too_large : (p : Player) (thread reg partition size : ℕ) → HasNone (register_at p thread reg) → 33521656 < size
+    → Plays p thread (ops.Alloc reg partition size) p answers.TooLarge
+alloc_too_large p thread reg partition size none large =
+    none_plays p thread (ops.Alloc reg partition size) answers.TooLarge tt tt (λ cell r e. cc)
+    (request_row p.table (register_at p thread reg) (facts_of (shown p).usable (shown p).cells) ((shown p).regs thread) reg size
+    answers.TooLarge none (inl (large, refl, λ k. refl)))

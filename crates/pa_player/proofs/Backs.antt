@@ -2,16 +2,15 @@
 use Rattle.std.proofs.Common.{◌≡◌, ℕ, zero, suc, ◌+◌, ◌*◌, ◌<◌, ◌≤◌, ◌⊎◌, inl, inr, List, [], ◌∷◌, ◌++◌, map, length, take, drop, Option, Some, None, refl, sym, ap, ◌∙◌, subst, arith, length-append}
 use Rattle.std.specs.Prelude.{Contains}
 use Rattle.std.proofs.lemmas.List.{length-drop}
-use Rattle.pa_machine.specs.declared.word.SlotName.{SlotName}
-use Rattle.pa_machine.specs.Count.{number_of}
-use Rattle.pa_machine.proofs.Runs.{same_slot_eq}
+use Rattle.pa_slot.specs.declared.word.SlotName.{SlotName}
+use Rattle.pa_slot.specs.Count.{number_of}
+use Rattle.pa_slot.proofs.Runs.{same_slot_eq}
 use Rattle.pa_record.specs.declared.numbered.Numbered.{Numbered}
 use Rattle.pa_record.specs.declared.pool.PoolEntry.{PoolEntry}
 use Rattle.pa_record.specs.declared.root.RootEntry.{RootEntry}
 use Rattle.pa_record.specs.declared.root.RootAct.{RootAct}
 use Rattle.pa_record.specs.declared.root.RootAct.TheVariants.{Give}
 use Rattle.pa_record.specs.Root.{Root}
-use Rattle.pa_record.specs.RunText.{NamesSlots}
 use Rattle.pa_lists.proofs.Members.{not_in_none, first_in, later_in, in_cases}
 use Rattle.pa_lists.proofs.Joined.{map_cases, filter_cases, flat_cases}
 use Rattle.pa_rules.specs.Roots.{Journals}
@@ -115,22 +114,18 @@ slots_back partitions slots pools more roots root after n acts h back mapped = r
 pub record GivesOf (xs : List Numbered) (a : RootAct) : Type 0 where
   pub slots : List Numbered
   pub give : a ≡ Give slots
-  pub some : 0 < length slots
   pub among : (n : Numbered) → Contains slots n → Contains xs n
 
 batch_of : (k : ℕ) (xs all : List Numbered) (a : RootAct) → ((n : Numbered) → Contains xs n → Contains all n) → Contains (batches k xs) a → GivesOf all a
 batch_of zero xs all a within among = absurd (not_in_none a among)
 batch_of (suc k) [] all a within among = absurd (not_in_none a among)
 batch_of (suc k) (x ∷ xs) all a within among = elim (in_cases (Give (take 16 (x ∷ xs))) a (batches k (drop 16 (x ∷ xs))) among) [
-  | inl e ↦ record { slots = take 16 (x ∷ xs); give = sym e; some = omega arith; among = λ n there. within n (take_in 16 (x ∷ xs) n there) }
+  | inl e ↦ record { slots = take 16 (x ∷ xs); give = sym e; among = λ n there. within n (take_in 16 (x ∷ xs) n there) }
   | inr rest ↦ batch_of k (drop 16 (x ∷ xs)) all a (λ n there. within n (drop_in 16 (x ∷ xs) n there)) rest
 ]
 
 pub gives_of : (xs : List Numbered) (a : RootAct) → Contains (gives xs) a → GivesOf xs a
 gives_of xs a among = batch_of (length xs) xs xs a (λ n there. there) among
-
-pub gives_names : (xs : List Numbered) (a : RootAct) → Contains (gives xs) a → NamesSlots a
-gives_names xs a among = let g = gives_of xs a among in subst NamesSlots (sym g.give) g.some
 
 -- at most one act for each 16 slots
 batches_few : (k : ℕ) (xs : List Numbered) → 16 * length (batches k xs) ≤ length xs + 15

@@ -1,9 +1,9 @@
 -- A copy, a reset that returns nothing, a free into quarantine, and a write.
 use Rattle.std.proofs.Common.{◌≡◌, ℕ, ◌+◌, length, set, Some, refl, sym, ap, ◌∙◌, subst, arith, length-set}
-use Rattle.pa_machine.specs.declared.word.Step.{Step}
-use Rattle.pa_machine.specs.declared.word.Step.TheVariants as steps
-use Rattle.pa_machine.specs.Count.{stepped}
-use Rattle.pa_machine.specs.Run.{IsReturning}
+use Rattle.pa_slot.specs.declared.word.Step.{Step}
+use Rattle.pa_slot.specs.declared.word.Step.TheVariants as steps
+use Rattle.pa_slot.specs.Count.{stepped}
+use Rattle.pa_slot.specs.Run.{IsReturning}
 use Rattle.pa_trace.specs.declared.script.Op.{Op}
 use Rattle.pa_trace.specs.declared.script.Op.TheVariants as ops
 use Rattle.pa_record.specs.declared.entry.Answer.TheVariants as answers
@@ -12,7 +12,7 @@ use Rattle.pa_rules.specs.Played.{step_of, mark_at}
 use Rattle.pa_heap_effects.specs.Ops.{KeepsLists}
 use Rattle.pa_slot_effects.specs.Turns.{after_copy, after_reset}
 use Rattle.pa_slot_effects.proofs.Ops.{copy_goes_on, reset_goes_on}
-use Rattle.pa_player.specs.declared.handle.Handle.TheVariants.{Ref, Cleared}
+use Rattle.pa_rules.specs.declared.register.Register.TheVariants.{Ref, Cleared}
 use Rattle.pa_player.specs.declared.table.Slot.{Slot}
 use Rattle.pa_player.specs.Player.{Player}
 use Rattle.pa_player.specs.Tables.{slot_at, Points, HasNone}
@@ -25,7 +25,7 @@ use Rattle.pa_player.proofs.Showing.{points_names, none_holds, content_stays}
 use Rattle.pa_player.proofs.Quiet.{quiet_plays, can_play, counts_still}
 use Rattle.pa_player.proofs.Weighing.{copy_adds, reset_adds}
 use Rattle.pa_player.proofs.Stepping.{in_table, word_is, step_quiet, lists_kept, shows_step}
-use Rattle.pa_machine.proofs.Runs.{some_same}
+use Rattle.pa_slot.proofs.Runs.{some_same}
 
 -- a slot with another word
 abbrev pub word_as : ℕ → Slot → Slot

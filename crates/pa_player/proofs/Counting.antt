@@ -116,7 +116,7 @@ totals_one w all others k (suc n) t below same = elim (cases_eq n t) [
 totals_same : (w : ℕ → List Numbered → ℕ) (all others : Caches) (k n : ℕ) → ((t c : ℕ) → others t k c ≡ all t k c) → totals w others k n ≡ totals w all k n
 totals_same w all others k n same = totals_past w all others k n n (omega arith) (λ u c ne. same u c)
 
--- one list of one thread
+-- the total over the threads changes by as much as the one list that is set
 totals_set : (w : ℕ → List Numbered → ℕ) (all : Caches) (n t q class k : ℕ) (xs : List Numbered) → t < n → class < 59
     → totals w (with_cache all t (with_list (all t) q class xs)) k n + (if q == k then w class (all t q class) else 0)
     ≡ totals w all k n + (if q == k then w class xs else 0)
@@ -193,7 +193,7 @@ cached_bytes_set all threads t q class k xs below real =
     let whole = totals_set bytes_by all threads t q class k xs below real in
     omega arith
 
--- the same lists have the same
+-- the same lists have the same number of cached slots
 pub cached_slots_same : (all others : Caches) (threads k : ℕ) → ((t q class : ℕ) → others t q class ≡ all t q class) → cached_slots others k threads ≡ cached_slots all k threads
 cached_slots_same all others threads k same =
     totals_slots others k threads ∙ totals_same slots_by all others k threads (λ t c. same t k c) ∙ sym (totals_slots all k threads)

@@ -4,8 +4,8 @@ use Rattle.std.specs.List.{All}
 use Rattle.std.proofs.lemmas.Bool.{cases_lt}
 use Rattle.std.proofs.lemmas.List.{get_or_past}
 use Rattle.pa_record.specs.Root.{Root, new_root}
-use Rattle.pa_player.specs.declared.handle.Handle.{Handle}
-use Rattle.pa_player.specs.declared.handle.Handle.TheVariants.{Empty}
+use Rattle.pa_rules.specs.declared.register.Register.{Register}
+use Rattle.pa_rules.specs.declared.register.Register.TheVariants.{Empty}
 use Rattle.pa_player.specs.Begun.{AreEmpty, AreClear, AreNew}
 
 pub empties : {X : Type 0} (xs : List (List X)) → All (λ h. h ≡ []) xs → (i : ℕ) → get_or xs i [] ≡ []
@@ -27,17 +27,17 @@ are_new n xs many h = record {
   ];
 }
 
-pub clear_at : (n r : ℕ) → get_or (replicate n Empty) r Empty ≡ Empty
+pub clear_at : (n r : ℕ) → get_or {A = Register ℕ} (replicate n Empty) r Empty ≡ Empty
 clear_at zero r = get_or_past [] r Empty (omega arith)
 clear_at (suc n) zero = refl
 clear_at (suc n) (suc r) = clear_at n r
 
-pub are_clear : (n : ℕ) (xs : List (List Handle)) → length xs ≡ n → All (λ row. row ≡ replicate 64 Empty) xs → AreClear n xs
+pub are_clear : (n : ℕ) (xs : List (List (Register ℕ))) → length xs ≡ n → All (λ row. row ≡ replicate 64 Empty) xs → AreClear n xs
 are_clear n xs many h = record {
   count = many;
   sixty_four = λ t lt. ap length (h t [] (omega (arith, lt, many)));
   clear = λ t r. elim (cases_lt t (length xs)) [
-    | inl lt ↦ ap (λ (row : List Handle). get_or row r Empty) (h t [] lt) ∙ clear_at 64 r
-    | inr le ↦ ap (λ (row : List Handle). get_or row r Empty) (get_or_past xs t [] le) ∙ get_or_past [] r Empty (omega arith)
+    | inl lt ↦ ap (λ (row : List (Register ℕ)). get_or row r Empty) (h t [] lt) ∙ clear_at 64 r
+    | inr le ↦ ap (λ (row : List (Register ℕ)). get_or row r Empty) (get_or_past xs t [] le) ∙ get_or_past [] r Empty (omega arith)
   ];
 }

@@ -3,8 +3,8 @@ use Rattle.std.proofs.Common.{◌≡◌, ℕ, ◌+◌, List, [], length, get_or,
 use Rattle.std.specs.Prelude.{All, Contains}
 use Rattle.std.specs.List.{AllByRecursion}
 use Rattle.std.proofs.lemmas.List.Elements.{All-weaker, All-from_get_or, recursion_from_All, Contains-append_left, Contains-get_or}
-use Rattle.pa_machine.specs.declared.word.SlotName.{SlotName}
-use Rattle.pa_machine.specs.Run.{IsLive, IsQuarantined}
+use Rattle.pa_slot.specs.declared.word.SlotName.{SlotName}
+use Rattle.pa_slot.specs.Run.{IsLive, IsQuarantined}
 use Rattle.pa_trace.specs.declared.script.Trace.{Trace}
 use Rattle.pa_trace.specs.declared.script.Line.{Line}
 use Rattle.pa_record.specs.declared.census.Census.{Census}
@@ -150,7 +150,7 @@ module _ (t : Trace) (p : Player) (h : IsPlaying t.region t.partitions t.threads
 pub ends_filed : (t : Trace) (p : Player) (r : Run) → IsPlaying t.region t.partitions t.threads t.lines p → IsToldRun (phase_ended p).told r → IsFileRun t r
 ends_filed t p r h is = subst (IsFileTold t) (sym (told_same (phase_ended p).told r is)) (file_told t p h)
 
--- and it has a text
+-- journals can be printed if each of their entries names slots
 journals_print : (journals : List (List RootEntry)) → ((q : ℕ) (e : RootEntry) → Contains (get_or journals q []) e → NamesSlots e.act)
     → AllByRecursion (AllByRecursion (λ (e : RootEntry). NamesSlots e.act)) journals
 journals_print journals h =

@@ -1,8 +1,8 @@
 -- An allocation that fills its list first.
-use Rattle.std.proofs.Common.{◌≡◌, ℕ, ◌+◌, ◌<◌, ◌≤◌, List, [], ◌∷◌, ◌++◌, length, Option, Some, None, refl, sym, ap, ◌∙◌, subst, arith}
+use Rattle.std.proofs.Common.{◌≡◌, ℕ, ◌+◌, ◌<◌, ◌≤◌, List, [], ◌++◌, length, Option, Some, None, refl, sym, ap, ◌∙◌, subst, arith}
 use Rattle.std.specs.Prelude.{Contains, AllPairs, ◌≢◌}
 use Rattle.std.proofs.lemmas.List.{append-nil}
-use Rattle.pa_machine.specs.declared.title.Title.{Title}
+use Rattle.pa_slot.specs.declared.title.Title.{Title}
 use Rattle.pa_buckets.specs.Table.{slot_of}
 use Rattle.pa_buckets.specs.Bands.{fill_of, limit_of}
 use Rattle.pa_buckets.proofs.Tests.{at_most_below}
@@ -63,7 +63,7 @@ fill_of_root class want before next r after titles (Some entry) sound born real 
     taken_is class want r (opened first entry r) after titles refl refl
     (takes_filled class want (opened first entry r) (opened_sound first entry r sound (subst (λ k. IsBornBelow k r) (sym ask.entry) born)) real) is
 
--- the pool's entry of a call, told
+-- the entry that a call made of the pool, if it asked, comes after the pool's entries so far
 pub asked_told : (q count : ℕ) (titles : List Title) (o : Option ℕ) (p : Player)
     → asked_in q count titles o p ≡ record p { told = record p.told { pools = p.told.pools ++ asked_for p.told.line q count titles o } }
 asked_told q count titles None p = ap (λ (zs : List PoolEntry). record p { told = record p.told { pools = zs } }) (sym (append-nil p.told.pools))

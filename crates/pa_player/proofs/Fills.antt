@@ -4,10 +4,10 @@ use Rattle.std.specs.Prelude.{Contains, AllPairs, ◌≢◌}
 use Rattle.std.proofs.Math.Nat.{mul-add, mul-one, mul-zero}
 use Rattle.std.proofs.lemmas.Bool.{cases_lt}
 use Rattle.std.proofs.lemmas.List.{get_or-set_same, get_or-set_other, set-set, length-map}
-use Rattle.pa_machine.specs.declared.title.Title.{Title}
-use Rattle.pa_machine.specs.declared.word.SlotName.{SlotName}
-use Rattle.pa_machine.specs.declared.word.Step.TheVariants as steps
-use Rattle.pa_machine.specs.Count.{stepped}
+use Rattle.pa_slot.specs.declared.title.Title.{Title}
+use Rattle.pa_slot.specs.declared.word.SlotName.{SlotName}
+use Rattle.pa_slot.specs.declared.word.Step.TheVariants as steps
+use Rattle.pa_slot.specs.Count.{stepped}
 use Rattle.pa_buckets.specs.Table.{slot_of}
 use Rattle.pa_buckets.specs.Bands.{fill_of, limit_of}
 use Rattle.pa_buckets.specs.Classes.{IsClassOf}
@@ -44,8 +44,8 @@ use Rattle.pa_player.specs.Player.{Player}
 use Rattle.pa_player.specs.Tables.{no_slot, slot_at, named_at, new_slot, HasNone}
 use Rattle.pa_player.specs.Tallies.{no_tally, tally_at}
 use Rattle.pa_player.specs.Playing.{journals, caches, numbered_at, list_place, list_at, root_of, register_at, IsLetOut, AreShaped, IsPlaying}
-use Rattle.pa_player.specs.declared.handle.Handle.TheVariants.{Own}
-use Rattle.pa_player.specs.Changes.{acted, with_acts, registered, tallied_more, placed_in, list_in, listed, cached_less, issued, made_at, seen_at, answered, tallied_less, IsFilled, IsFilledFirst}
+use Rattle.pa_rules.specs.declared.register.Register.TheVariants.{Own}
+use Rattle.pa_player.specs.Changes.{acted, with_acts, registered, tallied_more, placed_in, list_in, listed, cached_less, issued, made_at, seen_at, tallied_less, IsFilled, IsFilledFirst}
 use Rattle.pa_player.specs.Plays.{CanGoOn, Plays, PlaysAfter}
 use Rattle.pa_player.proofs.Shaping.{shaped_table, shaped_listed, shaped_cached}
 use Rattle.pa_player.proofs.Alone.{listed_away}

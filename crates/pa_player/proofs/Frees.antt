@@ -1,23 +1,22 @@
 -- A free into quarantine, and a write.
-use Rattle.std.proofs.Common.{◌≡◌, ℕ, ◌+◌, ◌<◌, ◌≤◌, List, [], ◌∷◌, ◌++◌, length, set, Some, refl, sym, ap, ◌∙◌, subst, arith, length-set}
+use Rattle.std.proofs.Common.{◌≡◌, ℕ, ◌+◌, ◌<◌, ◌≤◌, List, length, set, Some, refl, sym, ap, ◌∙◌, subst, arith, length-set}
 use Rattle.std.proofs.lemmas.List.{get_or-set_same, set-set}
-use Rattle.pa_machine.specs.declared.title.Title.{Title}
-use Rattle.pa_machine.specs.declared.word.Step.TheVariants as steps
-use Rattle.pa_machine.specs.Count.{refs_of, stepped}
+use Rattle.pa_slot.specs.declared.title.Title.{Title}
+use Rattle.pa_slot.specs.declared.word.Step.TheVariants as steps
+use Rattle.pa_slot.specs.Count.{refs_of, stepped}
 use Rattle.pa_trace.specs.declared.script.Op.TheVariants as ops
-use Rattle.pa_trace.specs.declared.script.Line.TheVariants.{Do}
 use Rattle.pa_record.specs.declared.entry.Answer.TheVariants as answers
 use Rattle.pa_rules.specs.Played.{mark_at}
-use Rattle.pa_machine.specs.Kinds.{issues, frees, enters, leaves}
+use Rattle.pa_slot.specs.Kinds.{issues, frees, enters, leaves}
 use Rattle.pa_slot_effects.specs.Turns.{after_free, after_write}
 use Rattle.pa_slot_effects.proofs.Ops.{free_goes_on, write_goes_on}
-use Rattle.pa_player.specs.declared.handle.Handle.TheVariants.{Own, Freed}
+use Rattle.pa_rules.specs.declared.register.Register.TheVariants.{Own, Freed}
 use Rattle.pa_player.specs.declared.table.Slot.{Slot}
 use Rattle.pa_player.specs.Player.{Player}
 use Rattle.pa_player.specs.Tables.{no_slot, slot_at, named_at, AreNamed, Points}
 use Rattle.pa_player.specs.Tallies.{tally_at}
 use Rattle.pa_player.specs.Playing.{shown, caches, reg_of, register_at, cell_at, home_in, len_in}
-use Rattle.pa_player.specs.Changes.{answered, stepped_at, filled_at, registered, seen_at, freed_at, quarantined_more, tallied_less, tallied_more}
+use Rattle.pa_player.specs.Changes.{stepped_at, filled_at, registered, seen_at, freed_at, quarantined_more, tallied_less, tallied_more}
 use Rattle.pa_player.specs.Plays.{Plays, PlaysAfter}
 use Rattle.pa_player.proofs.Slots.{IsSame, slot_here, keeps_set, keeps_named, named_as}
 use Rattle.pa_player.proofs.Shaping.{shaped_table, shaped_registered, shaped_live, shaped_quarantined}

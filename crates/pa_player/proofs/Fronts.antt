@@ -1,12 +1,12 @@
 -- An allocation that takes the front of its list.
-use Rattle.std.proofs.Common.{◌≡◌, ℕ, suc, ◌+◌, ◌-◌, ◌*◌, ◌<◌, max, List, [], ◌∷◌, ◌++◌, map, length, set, get_or, Option, Some, None, refl, sym, ap, ◌∙◌, subst, arith, length-set, inl, inr}
+use Rattle.std.proofs.Common.{◌≡◌, ℕ, suc, ◌+◌, ◌-◌, ◌*◌, ◌<◌, max, List, [], ◌∷◌, map, length, set, get_or, Option, Some, None, refl, sym, ap, ◌∙◌, subst, arith, length-set, inl, inr}
 use Rattle.std.specs.Prelude.{if◌then◌else◌, ◌==◌, Contains}
 use Rattle.std.proofs.Math.Nat.{mul-suc}
 use Rattle.std.proofs.lemmas.Bool.{cases_eq, eq-eqb, ne_eqb}
 use Rattle.std.proofs.lemmas.List.{get_or-set_same, get_or-set_other}
-use Rattle.pa_machine.specs.declared.word.Step.TheVariants as steps
-use Rattle.pa_machine.specs.Count.{number_of, stepped}
-use Rattle.pa_machine.specs.Run.{Mark}
+use Rattle.pa_slot.specs.declared.word.Step.TheVariants as steps
+use Rattle.pa_slot.specs.Count.{number_of, stepped}
+use Rattle.pa_slot.specs.Run.{Mark}
 use Rattle.pa_buckets.specs.Table.{slot_of}
 use Rattle.pa_buckets.specs.Classes.{IsClassOf}
 use Rattle.pa_buckets.proofs.Facts.{IsRow-of}
@@ -25,18 +25,18 @@ use Rattle.pa_rules.specs.Caches.{with_list, with_cache}
 use Rattle.pa_rules.specs.Report.{cached_slots, cached_bytes}
 use Rattle.pa_rules.specs.Sizes.{usable_of}
 use Rattle.pa_rules.proofs.Sizes.{sizes_fit}
-use Rattle.pa_machine.specs.Kinds.{issues, frees, enters, leaves}
+use Rattle.pa_slot.specs.Kinds.{issues, frees, enters, leaves}
 use Rattle.pa_heap_effects.proofs.Acting.{front_leaves}
 use Rattle.pa_slot_effects.specs.Turns.{LeadsTo, played_at, after_made}
 use Rattle.pa_slot_effects.proofs.Ops.{made_goes_on}
 use Rattle.pa_slot_effects.proofs.Marking.{some_mark}
-use Rattle.pa_player.specs.declared.handle.Handle.TheVariants.{Own}
+use Rattle.pa_rules.specs.declared.register.Register.TheVariants.{Own}
 use Rattle.pa_player.specs.declared.table.Slot.{Slot}
 use Rattle.pa_player.specs.Player.{Player}
 use Rattle.pa_player.specs.Tables.{no_slot, slot_at, named_at, HasNone}
 use Rattle.pa_player.specs.Tallies.{tally_at}
 use Rattle.pa_player.specs.Playing.{shown, journals, caches, register_at, numbered_at, list_place, list_at, root_of, IsLetOut, AreShaped, IsPlaying}
-use Rattle.pa_player.specs.Changes.{answered, IsFrontIssued, registered, listed, issued, cached_less, seen_at, tallied_more, tallied_less}
+use Rattle.pa_player.specs.Changes.{IsFrontIssued, registered, listed, issued, cached_less, seen_at, tallied_more, tallied_less}
 use Rattle.pa_player.specs.Plays.{CanGoOn, Plays, PlaysAfter}
 use Rattle.pa_player.proofs.OneList.{place_below, caches_here, caches_listed}
 use Rattle.pa_player.proofs.Slots.{IsSame, keeps_set, keeps_named}
@@ -64,7 +64,7 @@ let_out_class roots x None class is of = absurd (none_some class is)
     none_some : (n : ℕ) → None ≡ Some n → ⊥
     none_some n e = cc
 
--- So much less in partition q, as a list has.
+-- If a tally was what the lists have, and both fall by the same number in partition q, it still is.
 less_by : (q k a before after was now n m : ℕ) → (q ≡ k → n ≡ m + a) → now + (if q == k then n else 0) ≡ was + (if q == k then m else 0)
     → before ≡ after + (if q == k then a else 0) → before ≡ was → after ≡ now
 less_by q k a before after was now n m step lists less is = elim (cases_eq q k) [
@@ -266,7 +266,7 @@ module _ (p : Player) (thread reg q size class i : ℕ) (rest : List ℕ) (none 
       subst (λ slots. PlaysAfter region partitions threads ls p thread (ops.Alloc reg q size) (record after { table = slots }) (answers.Made (seen_at p.table i) (x.title.len - 8)))
       (sym (set_both p.table i 0 (stepped steps.Issue x.word.0) (here region partitions threads ls can).0)) made
 
--- so an allocation is played where its list has a front
+-- an allocation is played if its list has a front
 pub front_plays : (p r : Player) (thread reg q size class : ℕ) (answer : Answer) → HasNone (register_at p thread reg) → IsClassOf (max size 1 + 8) class
     → IsFrontIssued thread reg q (list_place p.partitions thread q class) p r answer → Plays p thread (ops.Alloc reg q size) r answer
 front_plays p r thread reg q size class answer none of h =

@@ -98,7 +98,7 @@ with_same p rs rs' js js' ts ts' a b c =
 tally_same : (a b c d : ℕ) → a ≡ c → b ≡ d → tally_of a b ≡ tally_of c d
 tally_same a b c d e f = ap (λ z. tally_of z b) e ∙ ap (tally_of c) f
 
--- nothing went back
+-- if no slots go back, the player stays as it is
 pub gave_none : (q : ℕ) (p : Player) → gave_back q [] p ≡ p
 gave_none q p =
     let t = tally_at p.cached.of q in

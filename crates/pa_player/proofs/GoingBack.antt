@@ -4,11 +4,11 @@ use Rattle.std.specs.Prelude.{◌≢◌, All, AllPairs, Contains}
 use Rattle.std.proofs.lemmas.Bool.{eq-eqb}
 use Rattle.std.proofs.lemmas.List.{length-map}
 use Rattle.std.proofs.lemmas.List.Sums.{sum_by-cons}
-use Rattle.pa_machine.specs.declared.title.Title.{Title}
-use Rattle.pa_machine.specs.declared.word.SlotName.{SlotName}
-use Rattle.pa_machine.specs.declared.word.Step.{Step}
-use Rattle.pa_machine.specs.Count.{held_of, refs_of}
-use Rattle.pa_machine.specs.Run.{IsReturning}
+use Rattle.pa_slot.specs.declared.title.Title.{Title}
+use Rattle.pa_slot.specs.declared.word.SlotName.{SlotName}
+use Rattle.pa_slot.specs.declared.word.Step.{Step}
+use Rattle.pa_slot.specs.Count.{held_of, refs_of}
+use Rattle.pa_slot.specs.Run.{IsReturning}
 use Rattle.pa_layout.specs.Pages.{super_page_at, supers_for}
 use Rattle.pa_buckets.specs.Table.{slot_of}
 use Rattle.pa_buckets.proofs.Facts.{IsRow-of}
@@ -28,7 +28,7 @@ use Rattle.pa_heap_effects.specs.Ops.{AreOut, Returns, returned_by}
 use Rattle.pa_heap_effects.proofs.Returned.{return_is_done}
 use Rattle.pa_heap_effects.proofs.Unmapping.{maps_are_taken}
 use Rattle.pa_slot_effects.specs.Turns.{played_at}
-use Rattle.pa_player.specs.declared.handle.Handle.{Handle}
+use Rattle.pa_rules.specs.declared.register.Register.{Register}
 use Rattle.pa_player.specs.declared.table.Slot.{Slot}
 use Rattle.pa_player.specs.declared.tallies.Tallies.{Tallies}
 use Rattle.pa_player.specs.Player.{Player}
@@ -96,7 +96,7 @@ module _ (region partitions threads : ℕ) (ls : List Line) (p : Player) (h : Is
 
 module _ (region partitions threads : ℕ) (ls : List Line) (p : Player) (h : IsPlaying region partitions threads ls p) (thread : ℕ) (op : Op) (short : length ls ≤ 65535) (few : threads ≤ 16)
     (below : thread < threads) (i : ℕ) (inside : i < length p.table) (step : Step) (makes : step_of op ≡ Some step) (returning : IsReturning step (slot_at p.table i).word.0)
-    (table : List Slot) (keeps : KeepsSlots p.table table) (registers : List (List Handle)) (live quarantined : Tallies) where
+    (table : List Slot) (keeps : KeepsSlots p.table table) (registers : List (List (Register ℕ))) (live quarantined : Tallies) where
   low : (slot_at p.table i).partition < partitions
   low = h.slots.among i inside
 

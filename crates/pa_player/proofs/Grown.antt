@@ -4,8 +4,8 @@ use Rattle.std.specs.Prelude.{Contains}
 use Rattle.std.proofs.lemmas.Bool.{cases_lt}
 use Rattle.std.proofs.lemmas.List.{get_or_append_left, get_or-append_right}
 use Rattle.std.proofs.lemmas.List.Elements.{Contains-get_or}
-use Rattle.pa_machine.specs.declared.word.SlotName.{SlotName}
-use Rattle.pa_machine.specs.Count.{held_of}
+use Rattle.pa_slot.specs.declared.word.SlotName.{SlotName}
+use Rattle.pa_slot.specs.Count.{held_of}
 use Rattle.pa_slot_effects.specs.Shown.{IsLike}
 use Rattle.pa_player.specs.declared.table.Slot.{Slot}
 use Rattle.pa_player.specs.Player.{Player}
@@ -86,7 +86,7 @@ like_grown partitions threads p after news shaped named g =
       ];
     }
 
--- the lists show the same
+-- the lists show the same slots after the table grew
 pub lists_grown : (partitions threads : ℕ) (p : Player) (after news : List Slot) → AreShaped partitions threads p → IsGrown p.table after news
     → (t k c : ℕ) → caches (record p { table = after }) t k c ≡ caches p t k c
 lists_grown partitions threads p after news shaped g =

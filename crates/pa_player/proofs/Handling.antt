@@ -1,14 +1,14 @@
 -- What the handles of registers let the ops of their thread do.
 use Rattle.std.proofs.Common.{◌≡◌, ℕ, ◌+◌, ◌<◌, List, length, refl, sym, ap, ◌∙◌, subst, arith}
-use Rattle.pa_machine.specs.declared.word.Step.TheVariants as steps
-use Rattle.pa_machine.specs.Count.{CanStep, held_of, refs_of}
+use Rattle.pa_slot.specs.declared.word.Step.TheVariants as steps
+use Rattle.pa_slot.specs.Count.{CanStep, held_of, refs_of}
 use Rattle.pa_trace.specs.declared.script.Op.{Op}
 use Rattle.pa_trace.specs.declared.script.Line.{Line}
 use Rattle.pa_trace.specs.declared.script.Line.TheVariants.{Do}
 use Rattle.pa_slot_effects.specs.Turns.{CanPlay}
 use Rattle.pa_slot_effects.specs.Laws.{LetsStep}
 use Rattle.pa_slot_effects.proofs.Words.{handle_lets}
-use Rattle.pa_player.specs.declared.handle.Handle.TheVariants.{Own, Ref}
+use Rattle.pa_rules.specs.declared.register.Register.TheVariants.{Own, Ref}
 use Rattle.pa_player.specs.declared.table.Slot.{Slot}
 use Rattle.pa_player.specs.Player.{Player}
 use Rattle.pa_player.specs.Tables.{slot_at, named_at, Points}

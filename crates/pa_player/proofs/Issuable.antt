@@ -4,9 +4,9 @@ use Rattle.std.specs.Prelude.{Contains}
 use Rattle.std.proofs.lemmas.Bool.{cases_lt, eq-eqb}
 use Rattle.std.proofs.lemmas.List.{get_or-set_same, get_or_append_left, get_or_push, length_push}
 use Rattle.std.proofs.lemmas.List.Elements.{Contains-push_cases}
-use Rattle.pa_machine.specs.declared.title.Title.{Title}
-use Rattle.pa_machine.specs.declared.word.Step.TheVariants as steps
-use Rattle.pa_machine.specs.Count.{CanStep}
+use Rattle.pa_slot.specs.declared.title.Title.{Title}
+use Rattle.pa_slot.specs.declared.word.Step.TheVariants as steps
+use Rattle.pa_slot.specs.Count.{CanStep}
 use Rattle.pa_buckets.specs.Table.{slot_of}
 use Rattle.pa_buckets.proofs.Facts.{IsRow-of}
 use Rattle.pa_record.specs.declared.numbered.Numbered.{Numbered}
@@ -111,7 +111,7 @@ issuable_home before after t q class place fine (inr h) =
     let P : List Slot → ℕ → Type 0 = λ zs k. IsIssuable zs q class k in
     subst (λ k. P after k) (sym h.1) (subst (λ zs. P zs (length before)) (sym h.0) (issuable_new before t q class fine.0))
 
--- and those of the titles that come after it
+-- the titles that come after one are still fine once that one is in the table
 fine_home : (before after : List Slot) (t u : Title) (q class place : ℕ) → IsFine before q class t → IsFine before q class u → IsHome before after (new_slot t q (Some class)) place
     → IsFine after q class u
 fine_home before after t u q class place fine h (inl e) = subst (λ zs. IsFine zs q class u) (sym e.0) h
@@ -157,7 +157,7 @@ fillable_more thread q class at s t after place fine home h =
       size = omega (arith, product, bytes, h.size, fine.0);
     }
 
--- so are those that are put into it
+-- a list that is fillable still is after slots were put into it
 pub fillable_put : (thread q class at : ℕ) (ts : List Title) (s r : Player) (xs : List Numbered) → IsFillable thread q class at s → ((t : Title) → Contains ts t → IsFine s.table q class t)
     → ArePut q at class ts s r xs → IsFillable thread q class at r
 fillable_put thread q class at [] s r xs h fine put = subst (IsFillable thread q class at) (sym put.0) h

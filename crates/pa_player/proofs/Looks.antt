@@ -1,26 +1,31 @@
 -- Looks at a slot: a free and a write through a raw_ptr, a write of a shared slot, and reads.
-use Rattle.std.proofs.Common.{◌≡◌, ℕ, ◌-◌, ◌*◌, ◌/◌, ◌<◌, ◌≤◌, ◌⊎◌, List, length, Some, refl, sym, subst, arith, inl, inr}
+use Rattle.std.proofs.Common.{◌≡◌, ℕ, ◌-◌, ◌*◌, ◌/◌, ◌<◌, ◌≤◌, ◌⊎◌, List, length, Some, refl, sym, ap, ◌∙◌, subst, arith, inl, inr}
 use Rattle.std.proofs.lemmas.Bool.{cases_eq}
-use Rattle.pa_machine.specs.Count.{held_of, refs_of}
-use Rattle.pa_machine.specs.Titles.{poison}
+use Rattle.pa_slot.specs.Count.{held_of, refs_of}
+use Rattle.pa_slot.specs.Titles.{poison}
 use Rattle.pa_trace.specs.declared.script.Op.TheVariants as ops
 use Rattle.pa_trace.specs.declared.script.Line.{Line}
+use Rattle.pa_slot.specs.declared.word.SlotName.{SlotName}
+use Rattle.pa_slot.specs.declared.word.Word.{Word}
 use Rattle.pa_record.specs.declared.entry.Answer.{Answer}
+use Rattle.pa_record.specs.declared.entry.Seen.{Seen}
 use Rattle.pa_record.specs.declared.entry.Answer.TheVariants as answers
 use Rattle.pa_rules.specs.Registers.{Regs, Facts, FreeRow, WriteRow, ReadRow, ReadFromRow}
+use Rattle.pa_rules.specs.Nexts.{looked_free, looked_write}
+use Rattle.pa_rules.proofs.Nexts.{by_held}
 use Rattle.pa_heap_effects.specs.Ops.{KeepsLists}
 use Rattle.pa_slot_effects.specs.Known.{facts_of}
 use Rattle.pa_slot_effects.specs.Turns.{Looks}
-use Rattle.pa_player.specs.declared.handle.Handle.{Handle}
-use Rattle.pa_player.specs.declared.handle.Handle.TheVariants.{Empty, Own, Ref, Freed, Cleared}
+use Rattle.pa_rules.specs.declared.register.Register.{Register}
+use Rattle.pa_rules.specs.declared.register.Register.TheVariants.{Empty, Own, Ref, Freed, Cleared}
 use Rattle.pa_player.specs.declared.table.Slot.{Slot}
 use Rattle.pa_player.specs.Player.{Player}
 use Rattle.pa_player.specs.Tables.{slot_at, named_at, Points}
 use Rattle.pa_player.specs.Playing.{shown, reg_of, register_at, IsPlaying}
-use Rattle.pa_player.specs.Changes.{seen_at, LooksAt, Reads}
+use Rattle.pa_player.specs.Changes.{seen_at, Reads}
 use Rattle.pa_player.specs.Plays.{Plays}
 use Rattle.pa_player.proofs.Bounds.{IsLength, length_of}
-use Rattle.pa_player.proofs.Showing.{at_name, points_in}
+use Rattle.pa_player.proofs.Showing.{at_name, handle_points, points_in}
 use Rattle.pa_player.proofs.Quiet.{none_plays_by, look_plays, look_plays_by}
 
 -- ---- through a raw_ptr
@@ -31,49 +36,58 @@ not_held w other = elim (cases_eq (held_of w) 0) [
   | inr some ↦ absurd (other (omega (arith, some)))
 ]
 
--- the register has a handle to the slot in a place
-points_by : (p : Player) (thread reg i : ℕ) (x : Handle) → register_at p thread reg ≡ x → Points x i → Points (register_at p thread reg) i
-points_by p thread reg i x is points = subst (λ z. Points z i) (sym is) points
+-- what a look at the slot in a place shows
+pub was_seen : (slots : List Slot) (i : ℕ) (s : Seen) → s.slot ≡ named_at slots i → s.found ≡ (slot_at slots i).word → s ≡ seen_at slots i
+was_seen slots i s slot found =
+    ap (λ (n : SlotName). record { slot = n; found = s.found }) slot ∙ ap (λ (w : Word). record { slot = named_at slots i; found = w }) found
 
-pub free_looks : (p : Player) (thread reg i : ℕ) (answer : Answer) → register_at p thread reg ≡ Ref i → LooksAt i (answers.SecondFree (Some (seen_at p.table i))) p answer
+pub free_looked : (p : Player) (thread reg i : ℕ) (answer : Answer) → register_at p thread reg ≡ Ref i → answer ≡ looked_free (seen_at p.table i)
     → Plays p thread (ops.Free reg) p answer
-free_looks p thread reg i answer is (inl (owned, says)) =
+free_looked p thread reg i answer is says =
     let seen = seen_at p.table i in
-    subst (λ a. Plays p thread (ops.Free reg) p a) (sym says)
-    (look_plays p thread reg i (ops.Free reg) (answers.NotOwner seen) (λ n w. w) (points_by p thread reg i (Ref i) is refl) refl tt (λ cell r e. cc)
-    (subst (λ z. FreeRow (reg_of p.table z) ((shown p).regs thread) reg (answers.NotOwner seen) ((shown p).regs thread)) (sym is) (seen, refl, λ k. refl, inl (owned, refl))))
-free_looks p thread reg i answer is (inr (free, says)) =
-    let seen = seen_at p.table i in
-    subst (λ a. Plays p thread (ops.Free reg) p a) (sym says)
-    (look_plays p thread reg i (ops.Free reg) (answers.SecondFree (Some seen)) (λ n w. w) (points_by p thread reg i (Ref i) is refl) refl tt (λ cell r e. cc)
-    (subst (λ z. FreeRow (reg_of p.table z) ((shown p).regs thread) reg (answers.SecondFree (Some seen)) ((shown p).regs thread)) (sym is)
-    (seen, refl, λ k. refl, inr (not_held seen.found.0 free, refl))))
+    let points = handle_points (register_at p thread reg) i (inr is) in
+    elim (by_held seen.found.0 (answers.NotOwner seen) (answers.SecondFree (Some seen))) [
+      | inl h ↦
+          subst (λ a. Plays p thread (ops.Free reg) p a) (sym (says ∙ h.1))
+          (look_plays p thread reg i (ops.Free reg) (answers.NotOwner seen) (λ n w. w) points refl tt (λ cell r e. cc)
+          (subst (λ z. FreeRow (reg_of p.table z) ((shown p).regs thread) reg (answers.NotOwner seen) ((shown p).regs thread)) (sym is)
+          (seen, refl, λ k. refl, inl (h.0, refl))))
+      | inr h ↦
+          subst (λ a. Plays p thread (ops.Free reg) p a) (sym (says ∙ h.1))
+          (look_plays p thread reg i (ops.Free reg) (answers.SecondFree (Some seen)) (λ n w. w) points refl tt (λ cell r e. cc)
+          (subst (λ z. FreeRow (reg_of p.table z) ((shown p).regs thread) reg (answers.SecondFree (Some seen)) ((shown p).regs thread)) (sym is)
+          (seen, refl, λ k. refl, inr (h.0, refl))))
+    ]
 
-pub write_looks : (p : Player) (thread reg value i : ℕ) (answer : Answer) → register_at p thread reg ≡ Ref i → LooksAt i (answers.StaleUse (Some (seen_at p.table i))) p answer
-    → Plays p thread (ops.Write reg value) p answer
-write_looks p thread reg value i answer is (inl (owned, says)) =
+pub write_looked : (p : Player) (thread reg value i : ℕ) (answer : Answer) → register_at p thread reg ≡ Ref i
+    → answer ≡ looked_write (seen_at p.table i) → Plays p thread (ops.Write reg value) p answer
+write_looked p thread reg value i answer is says =
     let seen = seen_at p.table i in
-    subst (λ a. Plays p thread (ops.Write reg value) p a) (sym says)
-    (look_plays p thread reg i (ops.Write reg value) (answers.NotOwner seen) (λ n w. w) (points_by p thread reg i (Ref i) is refl) refl tt (λ cell r e. cc)
-    (subst (λ z. WriteRow (reg_of p.table z) ((shown p).regs thread) (answers.NotOwner seen) ((shown p).regs thread)) (sym is) (seen, refl, λ k. refl, inl (owned, refl))))
-write_looks p thread reg value i answer is (inr (free, says)) =
-    let seen = seen_at p.table i in
-    subst (λ a. Plays p thread (ops.Write reg value) p a) (sym says)
-    (look_plays p thread reg i (ops.Write reg value) (answers.StaleUse (Some seen)) (λ n w. w) (points_by p thread reg i (Ref i) is refl) refl tt (λ cell r e. cc)
-    (subst (λ z. WriteRow (reg_of p.table z) ((shown p).regs thread) (answers.StaleUse (Some seen)) ((shown p).regs thread)) (sym is)
-    (seen, refl, λ k. refl, inr (not_held seen.found.0 free, refl))))
+    let points = handle_points (register_at p thread reg) i (inr is) in
+    elim (by_held seen.found.0 (answers.NotOwner seen) (answers.StaleUse (Some seen))) [
+      | inl h ↦
+          subst (λ a. Plays p thread (ops.Write reg value) p a) (sym (says ∙ h.1))
+          (look_plays p thread reg i (ops.Write reg value) (answers.NotOwner seen) (λ n w. w) points refl tt (λ cell r e. cc)
+          (subst (λ z. WriteRow (reg_of p.table z) ((shown p).regs thread) (answers.NotOwner seen) ((shown p).regs thread)) (sym is)
+          (seen, refl, λ k. refl, inl (h.0, refl))))
+      | inr h ↦
+          subst (λ a. Plays p thread (ops.Write reg value) p a) (sym (says ∙ h.1))
+          (look_plays p thread reg i (ops.Write reg value) (answers.StaleUse (Some seen)) (λ n w. w) points refl tt (λ cell r e. cc)
+          (subst (λ z. WriteRow (reg_of p.table z) ((shown p).regs thread) (answers.StaleUse (Some seen)) ((shown p).regs thread)) (sym is)
+          (seen, refl, λ k. refl, inr (h.0, refl))))
+    ]
 
 -- a write by the owner, if raw_ptrs point to the slot
 pub write_shared : (p : Player) (thread reg value i : ℕ) → register_at p thread reg ≡ Own i → 0 < refs_of (slot_at p.table i).word.0
     → Plays p thread (ops.Write reg value) p (answers.Shared (seen_at p.table i))
 write_shared p thread reg value i is some =
     let seen = seen_at p.table i in
-    look_plays p thread reg i (ops.Write reg value) (answers.Shared seen) (λ n w. w) (points_by p thread reg i (Own i) is refl) refl tt (λ cell r e. cc)
+    look_plays p thread reg i (ops.Write reg value) (answers.Shared seen) (λ n w. w) (handle_points (register_at p thread reg) i (inl is)) refl tt (λ cell r e. cc)
     (subst (λ z. WriteRow (reg_of p.table z) ((shown p).regs thread) (answers.Shared seen) ((shown p).regs thread)) (sym is) (seen, refl, λ k. refl, inl (some, refl)))
 
 -- ---- reads
 
-read_row : (slots : List Slot) (facts : Facts) (x : Handle) (i : ℕ) (regs : Regs) (place : ℕ) (answer : Answer) → Points x i → ReadFromRow (named_at slots i) facts regs place answer regs
+read_row : (slots : List Slot) (facts : Facts) (x : Register ℕ) (i : ℕ) (regs : Regs) (place : ℕ) (answer : Answer) → Points x i → ReadFromRow (named_at slots i) facts regs place answer regs
     → ReadRow (reg_of slots x) facts regs place answer regs
 read_row slots facts Empty i regs place answer points row = absurd points
 read_row slots facts (Own j) i regs place answer points row = subst (λ k. ReadFromRow (named_at slots k) facts regs place answer regs) (sym points) row

@@ -3,10 +3,10 @@ use Rattle.std.proofs.Common.{◌≡◌, ℕ, ◌+◌, ◌-◌, ◌<◌, inl, in
 use Rattle.std.specs.Prelude.{Contains}
 use Rattle.std.proofs.lemmas.List.{get_or_push, get_or-set_other}
 use Rattle.std.proofs.lemmas.List.Elements.{Contains-append_left, Contains-push}
-use Rattle.pa_machine.specs.declared.title.Title.{Title}
-use Rattle.pa_machine.specs.declared.word.SlotName.{SlotName}
-use Rattle.pa_machine.specs.declared.word.Step.TheVariants as steps
-use Rattle.pa_machine.specs.Count.{stepped}
+use Rattle.pa_slot.specs.declared.title.Title.{Title}
+use Rattle.pa_slot.specs.declared.word.SlotName.{SlotName}
+use Rattle.pa_slot.specs.declared.word.Step.TheVariants as steps
+use Rattle.pa_slot.specs.Count.{stepped}
 use Rattle.pa_direct.specs.Shapes.{shape_of}
 use Rattle.pa_trace.specs.declared.script.Op.TheVariants as ops
 use Rattle.pa_trace.specs.declared.script.Line.{Line}
@@ -38,7 +38,7 @@ use Rattle.pa_player.specs.declared.table.Slot.{Slot}
 use Rattle.pa_player.specs.Player.{Player}
 use Rattle.pa_player.specs.Tables.{no_slot, slot_at, named_at, new_slot, HasNone, NoneNamed}
 use Rattle.pa_player.specs.Playing.{journals, caches, numbered_at, root_of, register_at, IsLetOut, AreShaped, IsPlaying}
-use Rattle.pa_player.specs.Changes.{acted, pooled, placed_in, issued, made_at, answered, seen_at, IsMapPlaced, IsMapIssued}
+use Rattle.pa_player.specs.Changes.{acted, pooled, placed_in, issued, made_at, seen_at, IsMapPlaced, IsMapIssued}
 use Rattle.pa_player.specs.Plays.{CanGoOn, Plays, PlaysAfter}
 use Rattle.pa_player.proofs.Slots.{IsPlaceOf, named_home, home_place}
 use Rattle.pa_player.proofs.Shaping.{shaped_table}

@@ -5,7 +5,7 @@ use Rattle.pa_record.specs.declared.report.ReportLine.{ReportLine}
 use Rattle.pa_player.specs.Player.{Player}
 use Rattle.pa_player.specs.Changes.{report_line, report_lines}
 
--- a player that told this report
+-- the player with this report
 abbrev pub with_report : Player → List ReportLine → Player
 with_report p report = record p { told = record p.told { report = report } }
 

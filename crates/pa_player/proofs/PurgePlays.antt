@@ -1,10 +1,10 @@
 -- A purge is played.
-use Rattle.std.proofs.Common.{◌≡◌, ℕ, zero, suc, ◌+◌, ◌*◌, ◌<◌, ◌≤◌, inl, inr, List, [], ◌∷◌, ◌++◌, map, length, Some, None, refl, sym, ap, ◌∙◌, subst, arith, length-append}
+use Rattle.std.proofs.Common.{◌≡◌, ℕ, zero, suc, ◌+◌, ◌*◌, ◌<◌, ◌≤◌, inl, inr, List, [], ◌++◌, map, length, Some, None, refl, sym, ap, ◌∙◌, subst, arith, length-append}
 use Rattle.std.specs.Prelude.{Contains, slice_index_or}
 use Rattle.std.proofs.lemmas.Bool.{cases_eq, cases_lt, lt-ltb, le-ltb}
 use Rattle.std.proofs.lemmas.List.{append-nil, length-map}
 use Rattle.std.proofs.lemmas.List.Elements.{Contains-append_cases}
-use Rattle.pa_machine.specs.Run.{Mark}
+use Rattle.pa_slot.specs.Run.{Mark}
 use Rattle.pa_buckets.proofs.Facts.{IsRow-of}
 use Rattle.pa_trace.specs.declared.script.Op.TheVariants as ops
 use Rattle.pa_trace.specs.declared.script.Line.{Line}
@@ -25,13 +25,14 @@ use Rattle.pa_record.proofs.Mapping.{born_same}
 use Rattle.pa_record.proofs.Lawful.{journal_leaves}
 use Rattle.pa_rules.specs.Played.{mark_of}
 use Rattle.pa_rules.specs.Caches.{with_cache, gives, purge_acts, all_listed}
+use Rattle.pa_rules.proofs.Batches.{gives_names}
 use Rattle.pa_heap_effects.specs.Deeds.{Acts, entries_at, grown, root_at}
 use Rattle.pa_heap_effects.specs.Pooled.{pool_at, IsDone}
 use Rattle.pa_heap_effects.specs.Ops.{AreOut, all_of, purge_in}
 use Rattle.pa_heap_effects.proofs.Acting.{only_here, only_else}
 use Rattle.pa_heap_effects.proofs.Listed.{lists_are_out}
 use Rattle.pa_heap_effects.proofs.Returned.{purge_is_done}
-use Rattle.pa_machine.specs.Kinds.{issues, frees, enters, leaves}
+use Rattle.pa_slot.specs.Kinds.{issues, frees, enters, leaves}
 use Rattle.pa_slot_effects.specs.Shown.{IsLike}
 use Rattle.pa_slot_effects.specs.Turns.{played_at}
 use Rattle.pa_slot_effects.proofs.Looking.{none_goes_on, none_mark}
@@ -39,12 +40,12 @@ use Rattle.pa_player.specs.Player.{Player}
 use Rattle.pa_player.specs.Tables.{slot_at}
 use Rattle.pa_player.specs.Tallies.{tally_at}
 use Rattle.pa_player.specs.Playing.{shown, journals, caches, root_of, numbered_at, list_at, IsLetOut, AreShaped, IsPlaying}
-use Rattle.pa_player.specs.Changes.{answered, given_from, purged_with, purged_from}
+use Rattle.pa_player.specs.Changes.{given_from, purged_with, purged_from}
 use Rattle.pa_player.specs.Plays.{CanGoOn, Plays, PlaysAfter}
 use Rattle.pa_player.proofs.OneList.{caches_here, caches_none, with_cache_here, with_cache_other}
 use Rattle.pa_player.proofs.Slots.{keeps_all}
 use Rattle.pa_player.proofs.Alone.{so_far}
-use Rattle.pa_player.proofs.Backs.{AllComeBack, BringsBack, slots_back, gives_few, gives_names, numbered_back}
+use Rattle.pa_player.proofs.Backs.{AllComeBack, BringsBack, slots_back, gives_few, numbered_back}
 use Rattle.pa_player.proofs.Changing.{AreCounted}
 use Rattle.pa_player.proofs.Shows.{TellsMore, HasHeap, IsTallyMore, IsPlayed}
 use Rattle.pa_player.proofs.Quiet.{can_play, like_same, tally_still}
@@ -55,7 +56,7 @@ use Rattle.pa_player.proofs.Emptied.{CanGiveBack, giving_none, is_purged}
 
 -- ---- some partitions
 
--- So many partitions from q on were purged.
+-- The `k` partitions from q on were purged.
 pub record ArePurged (partitions threads thread q k : ℕ) (m r : Player) : Type 0 where
   pub giving : IsGiving partitions threads m r
   pub here : (j : ℕ) → q ≤ j → j < q + k → root_of r j ≡ purged (all_returned (names (all_of (caches m thread j) 0 59)) (root_of m j))

@@ -140,7 +140,7 @@ class_few thread q n p s slots h lt among =
     sym (ap (λ k. slots + listed_slots (caches p thread q) n k) (classes_left n lt)) ∙ h.count in
     omega (arith, count, size, h.few)
 
--- all went back
+-- once all 59 classes went back, the player is the one after a whole give, and as many slots went back as the lists had
 pub purge_end : (thread q n : ℕ) (p s : Player) (slots : ℕ) → IsGivenTo thread q n p s slots → n ≡ 59
     → (s ≡ given_from thread q 0 59 p) × (slots ≡ listed_slots (caches p thread q) 0 59)
 purge_end thread q n p s slots h e =
@@ -149,7 +149,7 @@ purge_end thread q n p s slots h e =
       omega (arith, h.count, ap (λ k. listed_slots (caches p thread q) n k) none),
     )
 
--- and nothing is left that could
+-- after a thread's lists went back, a give of no slots can follow
 pub given_can : (thread q class n : ℕ) (p : Player) → q < length p.cached.of → class + n ≤ 59 → CanGive q (places_from thread q class n p) p → CanGive q [] (given_from thread q class n p)
 unfolding places_from given_from
 given_can thread q class zero p tally fits can = can

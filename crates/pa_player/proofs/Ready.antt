@@ -1,15 +1,15 @@
 -- What each op of the code requires of the player: all follows if the line can be played.
 use Rattle.std.proofs.Common.{◌≡◌, ℕ, ◌+◌, ◌<◌, max, List, length, set, refl, sym, subst, arith}
-use Rattle.pa_machine.specs.declared.word.Step.TheVariants as steps
-use Rattle.pa_machine.specs.Count.{stepped}
-use Rattle.pa_machine.specs.Run.{IsReturning}
+use Rattle.pa_slot.specs.declared.word.Step.TheVariants as steps
+use Rattle.pa_slot.specs.Count.{stepped}
+use Rattle.pa_slot.specs.Run.{IsReturning}
 use Rattle.pa_buckets.specs.Classes.{IsClassOf}
 use Rattle.pa_direct.specs.Shapes.{shape_of, IsDirectSize}
 use Rattle.pa_trace.specs.declared.script.Op.{Op}
 use Rattle.pa_trace.specs.declared.script.Op.TheVariants as ops
 use Rattle.pa_trace.specs.declared.script.Line.{Line}
 use Rattle.pa_trace.specs.declared.script.Line.TheVariants.{Phase, Do}
-use Rattle.pa_player.specs.declared.handle.Handle.TheVariants.{Own, Ref}
+use Rattle.pa_rules.specs.declared.register.Register.TheVariants.{Own, Ref}
 use Rattle.pa_player.specs.Player.{Player}
 use Rattle.pa_player.specs.declared.table.Slot.{Slot}
 use Rattle.pa_player.specs.Tables.{slot_at, Points}

@@ -2,7 +2,7 @@
 use Rattle.std.proofs.Common.{◌≡◌, ℕ, ◌+◌, ◌<◌, ◌≤◌, List, [], ◌∷◌, ◌++◌, map, length, Option, Some, None, refl, sym, ap, ◌∙◌, subst, arith, length-set, inl, inr, length-append}
 use Rattle.std.specs.Prelude.{Contains}
 use Rattle.std.proofs.lemmas.Bool.{cases_eq}
-use Rattle.pa_machine.specs.Run.{Mark}
+use Rattle.pa_slot.specs.Run.{Mark}
 use Rattle.pa_buckets.specs.Bands.{fill_of}
 use Rattle.pa_direct.specs.Shapes.{shape_of}
 use Rattle.pa_trace.specs.declared.script.Op.TheVariants as ops
@@ -20,7 +20,6 @@ use Rattle.pa_record.specs.Sound.{IsBornBelow}
 use Rattle.pa_lists.proofs.Members.{not_in_none}
 use Rattle.pa_record.proofs.Mapping.{born_more}
 use Rattle.pa_record.proofs.PoolSteps.{pool_is_sound}
-use Rattle.pa_rules.specs.Registers.{Regs, Facts, AllocRow}
 use Rattle.pa_rules.specs.Roots.{AsksForClass, AsksForMap}
 use Rattle.pa_rules.specs.Holders.{moves_by}
 use Rattle.pa_rules.specs.Played.{mark_of}
@@ -35,14 +34,12 @@ use Rattle.pa_slot_effects.specs.Known.{facts_of}
 use Rattle.pa_slot_effects.specs.Turns.{played_at}
 use Rattle.pa_slot_effects.proofs.Looking.{none_goes_on, none_mark}
 use Rattle.pa_place.specs.Placed.{FillDid, MapDid}
-use Rattle.pa_player.specs.declared.handle.Handle.{Handle}
-use Rattle.pa_player.specs.declared.handle.Handle.TheVariants.{Empty, Own, Ref, Freed, Cleared}
-use Rattle.pa_player.specs.declared.table.Slot.{Slot}
 use Rattle.pa_player.specs.Player.{Player}
 use Rattle.pa_player.specs.Tables.{slot_at, HasNone}
-use Rattle.pa_player.specs.Playing.{shown, journals, caches, root_of, reg_of, numbered_at, register_at, list_place, IsMappedAs, IsPlaying}
+use Rattle.pa_player.specs.Playing.{shown, journals, caches, root_of, numbered_at, register_at, list_place, IsMappedAs, IsPlaying}
 use Rattle.pa_player.specs.Changes.{acted, pooled, placed_in, list_in, IsUnfilled, IsMapRefused}
 use Rattle.pa_player.specs.Plays.{CanGoOn, Plays}
+use Rattle.pa_player.proofs.Answers.{request_row}
 use Rattle.pa_player.proofs.OneList.{caches_here}
 use Rattle.pa_player.proofs.Slots.{keeps_all}
 use Rattle.pa_player.proofs.Shaping.{shaped_told, shaped_heap}
@@ -52,13 +49,6 @@ use Rattle.pa_player.proofs.Shows.{TellsMore, HasHeap, IsPlayed}
 use Rattle.pa_player.proofs.Quiet.{can_play, cache_same, like_same, none_adds, AddsNone, counts_still}
 use Rattle.pa_player.proofs.More.{playing_more}
 use Rattle.pa_lists.proofs.Elements.{in_one}
-
-full_row : (slots : List Slot) (x : Handle) (facts : Facts) (regs : Regs) (reg size entry : ℕ) → HasNone x → size ≤ 33521656 → AllocRow (reg_of slots x) facts regs reg size (answers.Full entry) regs
-full_row slots Empty facts regs reg size entry none fits = inr (inr (fits, entry, refl, λ k. refl))
-full_row slots (Own place) facts regs reg size entry none fits = absurd none
-full_row slots (Ref place) facts regs reg size entry none fits = absurd none
-full_row slots Freed facts regs reg size entry none fits = inr (inr (fits, entry, refl, λ k. refl))
-full_row slots Cleared facts regs reg size entry none fits = inr (inr (fits, entry, refl, λ k. refl))
 
 none_some : (m : Mark) → None ≡ Some m → ⊥
 none_some m e = cc
@@ -150,7 +140,8 @@ module _ (region partitions threads : ℕ) (ls : List Line) (p : Player) (thread
       after = shown p;
       done = called.done;
       turn = none_goes_on threads ls h.ps (shown p) thread (ops.Alloc reg q size) (answers.Full entry) (can_play region partitions threads ls thread (ops.Alloc reg q size) p can) tt (λ cell k e. cc)
-          (full_row p.table (register_at p thread reg) (facts_of (shown p).usable (shown p).cells) ((shown p).regs thread) reg size entry none fits);
+          (request_row p.table (register_at p thread reg) (facts_of (shown p).usable (shown p).cells) ((shown p).regs thread) reg size
+          (answers.Full entry) none (inr (inr (fits, entry, refl, λ k. refl))));
       like = like_same (shown p);
       lists = λ t k c. cache_same (caches p) thread t k c;
       told = tells;

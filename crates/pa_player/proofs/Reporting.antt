@@ -19,7 +19,7 @@ use Rattle.pa_heap_effects.specs.Pooled.{IsPooledTo}
 use Rattle.pa_heap_effects.proofs.Filing.{line_passes}
 use Rattle.pa_heap_effects.proofs.Onwards.{run_goes_on}
 use Rattle.pa_slot_effects.proofs.Ending.{ends_right}
-use Rattle.pa_rules.proofs.Lined.{phase_after, phases_are}
+use Rattle.pa_rules.proofs.Lined.{phase_after, phases_are, phase_on}
 use Rattle.pa_slot_effects.proofs.Starting.{phase_goes_on}
 use Rattle.pa_player.specs.Player.{Player}
 use Rattle.pa_player.specs.Playing.{shown, journals, caches, home_in, len_in, AreShaped, AreBounded, IsToldLine, IsPlaying}
@@ -30,11 +30,6 @@ use Rattle.pa_player.specs.Asks.{CanEnd}
 use Rattle.pa_rules.proofs.ReportLines.{phases_push}
 
 -- ---- the phases of the records
-
-phase_on : (phase : ℕ) (ls : List Line) → phase ≤ phase_after phase ls
-phase_on phase [] = omega arith
-phase_on phase (Phase ∷ ls) = omega (arith, phase_on (phase + 1) ls)
-phase_on phase (Do thread op ∷ ls) = phase_on phase ls
 
 lines_until : (n phase : ℕ) (ls : List Line) (a : OpLine) → Contains (op_lines n phase ls) a → a.phase ≤ phase_after phase ls
 lines_until n phase [] a c = absurd (omega (arith, c.1))

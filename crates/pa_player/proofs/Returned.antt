@@ -1,19 +1,19 @@
 -- A free and a reset that return a slot.
 use Rattle.std.proofs.Common.{◌≡◌, ℕ, ◌+◌, ◌≤◌, List, length, set, Option, Some, None, refl, sym, ap, ◌∙◌, subst, arith, length-set}
-use Rattle.pa_machine.specs.declared.word.Step.TheVariants as steps
-use Rattle.pa_machine.specs.Count.{refs_of, stepped, CanStep}
-use Rattle.pa_machine.specs.Run.{IsReturning}
-use Rattle.pa_machine.proofs.Runs.{number_stepped}
+use Rattle.pa_slot.specs.declared.word.Step.TheVariants as steps
+use Rattle.pa_slot.specs.Count.{refs_of, stepped, CanStep}
+use Rattle.pa_slot.specs.Run.{IsReturning}
+use Rattle.pa_slot.proofs.Runs.{number_stepped}
 use Rattle.pa_trace.specs.declared.script.Op.TheVariants as ops
 use Rattle.pa_trace.specs.declared.script.Line.{Line}
 use Rattle.pa_trace.specs.declared.script.Line.TheVariants.{Do}
 use Rattle.pa_record.specs.declared.entry.Answer.TheVariants.{Done}
 use Rattle.pa_rules.specs.Played.{mark_at}
-use Rattle.pa_machine.specs.Kinds.{issues, frees, enters, leaves}
+use Rattle.pa_slot.specs.Kinds.{issues, frees, enters, leaves}
 use Rattle.pa_legal.proofs.Words.{leaves_free}
 use Rattle.pa_slot_effects.specs.Turns.{after_free, after_reset}
 use Rattle.pa_slot_effects.proofs.Ops.{free_goes_on, reset_goes_on}
-use Rattle.pa_player.specs.declared.handle.Handle.TheVariants.{Own, Ref, Freed, Cleared}
+use Rattle.pa_rules.specs.declared.register.Register.TheVariants.{Own, Ref, Freed, Cleared}
 use Rattle.pa_player.specs.declared.table.Slot.{Slot}
 use Rattle.pa_player.specs.Player.{Player}
 use Rattle.pa_player.specs.Tables.{slot_at, named_at, Points}

@@ -3,10 +3,10 @@ use Rattle.std.proofs.Common.{◌≡◌, ℕ, ◌+◌, ◌*◌, ◌<◌, ◌≤�
 use Rattle.std.specs.Prelude.{Contains, slice_index_or}
 use Rattle.std.proofs.lemmas.Bool.{cases_eq}
 use Rattle.std.proofs.lemmas.List.{get_or-set_same, append-nil, length-map}
-use Rattle.pa_machine.specs.declared.title.Title.{Title}
-use Rattle.pa_machine.specs.declared.word.Step.{Step}
-use Rattle.pa_machine.specs.Count.{number_of, held_of, refs_of}
-use Rattle.pa_machine.specs.Run.{Mark, IsReturning}
+use Rattle.pa_slot.specs.declared.title.Title.{Title}
+use Rattle.pa_slot.specs.declared.word.Step.{Step}
+use Rattle.pa_slot.specs.Count.{number_of, held_of, refs_of}
+use Rattle.pa_slot.specs.Run.{Mark, IsReturning}
 use Rattle.pa_buckets.specs.Table.{slot_of}
 use Rattle.pa_buckets.specs.Bands.{limit_of}
 use Rattle.pa_buckets.proofs.Facts.{IsRow-of}
@@ -29,7 +29,8 @@ use Rattle.pa_record.proofs.Lawful.{journal_leaves}
 use Rattle.pa_rules.specs.declared.played.Played.{Played}
 use Rattle.pa_rules.specs.Played.{step_of, mark_at, mark_of}
 use Rattle.pa_rules.specs.Caches.{with_list, with_cache, gives, kept, spilled}
-use Rattle.pa_machine.specs.Kinds.{issues, frees, enters, leaves}
+use Rattle.pa_rules.proofs.Batches.{gives_names}
+use Rattle.pa_slot.specs.Kinds.{issues, frees, enters, leaves}
 use Rattle.pa_heap_effects.specs.Deeds.{grown, root_at}
 use Rattle.pa_heap_effects.specs.Pooled.{pool_at}
 use Rattle.pa_heap_effects.specs.Ops.{only_in, IsCalled, returned_by, Returns, AreOut}
@@ -37,7 +38,7 @@ use Rattle.pa_heap_effects.proofs.Returned.{return_is_done, spilled_out}
 use Rattle.pa_slot_effects.specs.Shown.{Shown, IsLike}
 use Rattle.pa_slot_effects.specs.Turns.{LeadsTo, played_at}
 use Rattle.pa_slot_effects.proofs.Marking.{some_mark}
-use Rattle.pa_player.specs.declared.handle.Handle.{Handle}
+use Rattle.pa_rules.specs.declared.register.Register.{Register}
 use Rattle.pa_player.specs.declared.heap.Heap.{Heap}
 use Rattle.pa_player.specs.declared.table.Slot.{Slot}
 use Rattle.pa_player.specs.declared.tallies.Tallies.{Tallies}
@@ -53,7 +54,7 @@ use Rattle.pa_player.proofs.Slots.{IsSame, IsPlaceOf, KeepsSlots, keeps_set, kee
 use Rattle.pa_player.proofs.Shaping.{shaped_listed, shaped_cached, shaped_told, shaped_heap}
 use Rattle.pa_player.proofs.Alone.{so_far, has_word, used_away}
 use Rattle.pa_player.proofs.Known.{all_slots_set}
-use Rattle.pa_player.proofs.Backs.{AllComeBack, slots_back, gives_few, gives_names, numbered_back}
+use Rattle.pa_player.proofs.Backs.{AllComeBack, slots_back, gives_few, numbered_back}
 use Rattle.pa_player.proofs.Changing.{journals_acted, of_only, root_here, root_there, heap_called, caches_changed, other_list, this_list, AreCounted, IsRetallied, counted_changed}
 use Rattle.pa_player.proofs.Shows.{TellsMore, HasHeap, IsTallyMore, IsPlayed}
 use Rattle.pa_player.proofs.Stepping.{changed_at, in_table, in_use, lists_kept}
@@ -129,7 +130,7 @@ root_back r xs sound out =
     let e : length (names xs) ≡ length xs = length-map xs (λ (n : Numbered). n.slot) in
     record { turn = let t = a.turn in omega arith; supers = a.kept.supers; maps = a.kept.maps }
 
--- a direct map in use is mapped where the root has the same ones
+-- a direct map in use is still mapped in a root with the same direct maps
 pub mapped_maps : (r after : Root) (x : Slot) (class : Option ℕ) → after.maps ≡ r.maps → IsMappedAs r x class → IsMappedAs after x class
 mapped_maps r after x (Some class) e h = tt
 mapped_maps r after x None e h = λ used. subst (λ (ts : List Title). Contains ts x.title) (sym e) (h used)
@@ -138,7 +139,7 @@ mapped_maps r after x None e h = λ used. subst (λ (ts : List Title). Contains 
 
 -- A step of the thread on the slot in a place returned it: the slot is y then, and a register and the tallies are these.
 pub record IsReturn (region partitions threads : ℕ) (ls : List Line) (p : Player) (h : IsPlaying region partitions threads ls p) (thread : ℕ) (op : Op) (i : ℕ) (y : Slot)
-    (registers : List (List Handle)) (lives waits : Tallies) : Type 0 where
+    (registers : List (List (Register ℕ))) (lives waits : Tallies) : Type 0 where
   pub step : Step
   pub after : Shown
   pub same : IsSame (slot_at p.table i) y
@@ -154,7 +155,7 @@ pub record IsReturn (region partitions threads : ℕ) (ls : List Line) (p : Play
   pub quarantined : (k : ℕ) → k < partitions → IsTallyMore enters leaves (set p.table i y) k (mark_of (played_at ls thread op (Done (seen_at p.table i)))) (tally_at p.quarantined.of k) (tally_at waits.of k)
 
 module _ (region partitions threads : ℕ) (ls : List Line) (p : Player) (thread : ℕ) (op : Op) (can : CanGoOn region partitions threads ls (Do thread op) p)
-    (reg i : ℕ) (small : reg < 64) (points : Points (register_at p thread reg) i) (y : Slot) (registers : List (List Handle)) (lives waits : Tallies)
+    (reg i : ℕ) (small : reg < 64) (points : Points (register_at p thread reg) i) (y : Slot) (registers : List (List (Register ℕ))) (lives waits : Tallies)
     (r : IsReturn region partitions threads ls p can.playing thread op i y registers lives waits) where
   abbrev pub h : IsPlaying region partitions threads ls p
   h = can.playing

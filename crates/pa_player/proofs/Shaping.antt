@@ -7,8 +7,8 @@ use Rattle.pa_buckets.specs.Bands.{limit_of}
 use Rattle.pa_record.specs.declared.report.Tally.{Tally}
 use Rattle.pa_record.specs.Root.{Root}
 use Rattle.pa_record.specs.Pool.{PoolState}
-use Rattle.pa_player.specs.declared.handle.Handle.{Handle}
-use Rattle.pa_player.specs.declared.handle.Handle.TheVariants.{Empty, Own, Ref, Freed, Cleared}
+use Rattle.pa_rules.specs.declared.register.Register.{Register}
+use Rattle.pa_rules.specs.declared.register.Register.TheVariants.{Empty, Own, Ref, Freed, Cleared}
 use Rattle.pa_player.specs.declared.table.Slot.{Slot}
 use Rattle.pa_player.specs.Player.{Player}
 use Rattle.pa_player.specs.Tables.{slot_at, IsIn, handle_in}
@@ -40,7 +40,7 @@ rows_set {X} xs i j ys same = elim (set_cases xs i j ys []) [
 ]
 
 -- a place stays in a longer table
-pub in_longer : (n m : ℕ) (x : Handle) → n ≤ m → IsIn n x → IsIn m x
+pub in_longer : (n m : ℕ) (x : Register ℕ) → n ≤ m → IsIn n x → IsIn m x
 in_longer n m Empty low among = tt
 in_longer n m (Own place) low among = omega (arith, low, among)
 in_longer n m (Ref place) low among = omega (arith, low, among)
@@ -73,7 +73,7 @@ module _ (partitions threads : ℕ) (p : Player) (h : AreShaped partitions threa
   }
 
   -- a register, and a cell
-  pub shaped_registered : (t r : ℕ) (x : Handle) → IsIn (length p.table) x → AreShaped partitions threads (registered t r x p)
+  pub shaped_registered : (t r : ℕ) (x : Register ℕ) → IsIn (length p.table) x → AreShaped partitions threads (registered t r x p)
   shaped_registered t r x among =
       let row = slice_index_or p.registers t [] in
       let new = set row r x in
@@ -96,14 +96,14 @@ module _ (partitions threads : ℕ) (p : Player) (h : AreShaped partitions threa
         sixty_four = λ u low. rows_set p.registers t u new (length-set row r x) ∙ h.sixty_four u low;
         held = λ u k. elim (set_cases p.registers t u new []) [
           | inl a ↦ elim (set_cases row r k x Empty) [
-            | inl b ↦ subst (IsIn (length p.table)) (sym (ap (λ (zs : List Handle). get_or zs k Empty) a.1 ∙ b.1)) among
-            | inr b ↦ subst (IsIn (length p.table)) (sym (ap (λ (zs : List Handle). get_or zs k Empty) a.1 ∙ b)) (h.held t k)
+            | inl b ↦ subst (IsIn (length p.table)) (sym (ap (λ (zs : List (Register ℕ)). get_or zs k Empty) a.1 ∙ b.1)) among
+            | inr b ↦ subst (IsIn (length p.table)) (sym (ap (λ (zs : List (Register ℕ)). get_or zs k Empty) a.1 ∙ b)) (h.held t k)
           ]
-          | inr a ↦ subst (IsIn (length p.table)) (sym (ap (λ (zs : List Handle). get_or zs k Empty) a)) (h.held u k)
+          | inr a ↦ subst (IsIn (length p.table)) (sym (ap (λ (zs : List (Register ℕ)). get_or zs k Empty) a)) (h.held u k)
         ];
       }
 
-  pub shaped_celled : (k : ℕ) (x : Handle) → IsIn (length p.table) x → handle_in x ≡ x → AreShaped partitions threads (record p { cells = set p.cells k x })
+  pub shaped_celled : (k : ℕ) (x : Register ℕ) → IsIn (length p.table) x → handle_in x ≡ x → AreShaped partitions threads (record p { cells = set p.cells k x })
   shaped_celled k x among handle = record {
     many = h.many;
     four = h.four;

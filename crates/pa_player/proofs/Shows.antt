@@ -1,9 +1,9 @@
 -- What an op has to show: its deed, its turn, and the tables after it.
 use Rattle.std.proofs.Common.{◌≡◌, ℕ, ◌+◌, ◌<◌, ◌≤◌, ◌⊎◌, List, [], ◌∷◌, ◌++◌, length, Option, Some, None}
 use Rattle.std.specs.Prelude.{Bool, if◌then◌else◌, Contains}
-use Rattle.pa_machine.specs.declared.word.SlotName.{SlotName}
-use Rattle.pa_machine.specs.declared.word.Step.{Step}
-use Rattle.pa_machine.specs.Run.{Mark}
+use Rattle.pa_slot.specs.declared.word.SlotName.{SlotName}
+use Rattle.pa_slot.specs.declared.word.Step.{Step}
+use Rattle.pa_slot.specs.Run.{Mark}
 use Rattle.pa_trace.specs.declared.script.Op.{Op}
 use Rattle.pa_trace.specs.declared.script.Line.{Line}
 use Rattle.pa_record.specs.declared.entry.Answer.{Answer}
@@ -17,7 +17,7 @@ use Rattle.pa_rules.specs.Played.{mark_of}
 use Rattle.pa_rules.specs.Caches.{Cache, with_cache}
 use Rattle.pa_rules.specs.Flow.{at_step}
 use Rattle.pa_rules.specs.Report.{cached_slots, cached_bytes}
-use Rattle.pa_machine.specs.Kinds.{issues, frees, enters, leaves}
+use Rattle.pa_slot.specs.Kinds.{issues, frees, enters, leaves}
 use Rattle.pa_legal.specs.Tallies.{one_of, bytes_of}
 use Rattle.pa_heap_effects.specs.Deeds.{Acts, grown, root_at}
 use Rattle.pa_heap_effects.specs.Pooled.{pool_at, IsDone}

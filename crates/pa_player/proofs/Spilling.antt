@@ -16,7 +16,7 @@ use Rattle.pa_lists.proofs.Members.{not_in_none, first_in, later_in}
 use Rattle.pa_rules.specs.Caches.{gives}
 use Rattle.pa_heap_effects.specs.Deeds.{grown}
 use Rattle.pa_heap_effects.specs.Ops.{only_in}
-use Rattle.pa_player.specs.declared.handle.Handle.{Handle}
+use Rattle.pa_rules.specs.declared.register.Register.{Register}
 use Rattle.pa_player.specs.declared.table.Slot.{Slot}
 use Rattle.pa_player.specs.declared.tallies.Tallies.{Tallies}
 use Rattle.pa_player.specs.Player.{Player}
@@ -61,7 +61,7 @@ retallied_both q len was gone now was_bytes ts low some many is parts =
     (retallied_set q was now was_bytes (len * now) ts less low (omega arith) (omega arith))
 
 module _ (region partitions threads : ℕ) (ls : List Line) (p : Player) (thread : ℕ) (op : Op) (can : CanGoOn region partitions threads ls (Do thread op) p)
-    (reg i : ℕ) (small : reg < 64) (points : Points (register_at p thread reg) i) (y : Slot) (registers : List (List Handle)) (lives waits : Tallies)
+    (reg i : ℕ) (small : reg < 64) (points : Points (register_at p thread reg) i) (y : Slot) (registers : List (List (Register ℕ))) (lives waits : Tallies)
     (r : IsReturn region partitions threads ls p can.playing thread op i y registers lives waits) (class : ℕ) (is_class : (slot_at p.table i).class ≡ Some class) where
   abbrev home : ℕ
   home = (slot_at p.table i).partition

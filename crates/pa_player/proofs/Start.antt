@@ -3,8 +3,8 @@ use Rattle.std.proofs.Common.{◌≡◌, ℕ, zero, suc, ◌-◌, ◌<◌, Bool,
 use Rattle.std.specs.Prelude.{if◌then◌else◌, nat_lt, ◌&&◌, All, Contains}
 use Rattle.std.proofs.Math.Path.{fun_ext}
 use Rattle.std.proofs.lemmas.List.Elements.{All-nil}
-use Rattle.pa_machine.specs.declared.word.SlotName.{SlotName}
-use Rattle.pa_machine.specs.declared.word.Step.{Step}
+use Rattle.pa_slot.specs.declared.word.SlotName.{SlotName}
+use Rattle.pa_slot.specs.declared.word.Step.{Step}
 use Rattle.pa_trace.specs.Limits.{IsHeadWithin}
 use Rattle.pa_record.specs.declared.pool.PoolEntry.{PoolEntry}
 use Rattle.pa_record.specs.declared.report.ReportLine.{ReportLine}
@@ -178,7 +178,7 @@ module _ (region partitions threads : ℕ) (p : Player) (head : IsHeadWithin reg
     printable = λ q e among. absurd (none_in (journals p q) e (no_journals q) among);
   }
 
--- so it is before the first line
+-- a player that was begun has played no lines
 pub begins_playing : (region partitions threads : ℕ) (p : Player) → IsHeadWithin region partitions threads → IsBegun region partitions threads p
     → IsPlaying region partitions threads [] p
 begins_playing region partitions threads p head b = playing region partitions threads p head b

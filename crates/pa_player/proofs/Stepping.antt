@@ -4,10 +4,10 @@ use Rattle.std.specs.Prelude.{Contains}
 use Rattle.std.proofs.Math.Nat.{mul-le-mul_right}
 use Rattle.std.proofs.lemmas.Bool.{cases_lt}
 use Rattle.std.proofs.lemmas.List.{get_or-set_other, get_or_past}
-use Rattle.pa_machine.specs.declared.word.SlotName.{SlotName}
-use Rattle.pa_machine.specs.declared.word.Step.{Step}
-use Rattle.pa_machine.specs.Count.{number_of, held_of, refs_of}
-use Rattle.pa_machine.specs.Run.{Mark}
+use Rattle.pa_slot.specs.declared.word.SlotName.{SlotName}
+use Rattle.pa_slot.specs.declared.word.Step.{Step}
+use Rattle.pa_slot.specs.Count.{number_of, held_of, refs_of}
+use Rattle.pa_slot.specs.Run.{Mark}
 use Rattle.pa_trace.specs.declared.script.Op.{Op}
 use Rattle.pa_trace.specs.declared.script.Line.{Line}
 use Rattle.pa_trace.specs.declared.script.Line.TheVariants.{Do}
@@ -23,7 +23,7 @@ use Rattle.pa_slot_effects.specs.Turns.{LeadsTo, played_at}
 use Rattle.pa_slot_effects.specs.Laws.{LetsStep}
 use Rattle.pa_slot_effects.proofs.Marking.{some_mark}
 use Rattle.pa_slot_effects.proofs.Words.{handle_lets}
-use Rattle.pa_player.specs.declared.handle.Handle.{Handle}
+use Rattle.pa_rules.specs.declared.register.Register.{Register}
 use Rattle.pa_player.specs.declared.table.Slot.{Slot}
 use Rattle.pa_player.specs.Player.{Player}
 use Rattle.pa_player.specs.declared.tallies.Tallies.{Tallies}
@@ -74,7 +74,7 @@ caches_kept partitions threads p after h same t q class = elim (cases_lt q p.par
 -- ---- one slot in use is changed
 
 -- a player whose slot in a place is another, and whose registers and tallies are others
-abbrev pub changed_at : Player → ℕ → Slot → List (List Handle) → Tallies → Tallies → Player
+abbrev pub changed_at : Player → ℕ → Slot → List (List (Register ℕ)) → Tallies → Tallies → Player
 changed_at p i y registers live quarantined = record p { table = set p.table i y; registers = registers; live = live; quarantined = quarantined }
 
 module _ (region partitions threads : ℕ) (ls : List Line) (p : Player) (thread : ℕ) (op : Op) (can : CanGoOn region partitions threads ls (Do thread op) p)
@@ -101,7 +101,8 @@ module _ (region partitions threads : ℕ) (ls : List Line) (p : Player) (thread
       let f : Slot → Numbered = λ z. record { slot = name_of z.title; number = number_of z.word.0 } in
       ap f (get_or-set_other p.table i j y no_slot apart)
 
-  pub step_quiet : (answer : Answer) (y : Slot) (registers : List (List Handle)) (live quarantined : Tallies) (after : Shown) (o : Option Step) → IsSame (slot_at p.table i) y → KeepsLists op answer
+  pub step_quiet : (answer : Answer) (y : Slot) (registers : List (List (Register ℕ))) (live quarantined : Tallies) (after : Shown) (o : Option Step)
+      → IsSame (slot_at p.table i) y → KeepsLists op answer
       → mark_of (played_at ls thread op answer) ≡ Some (mark_at (length ls + 2) (seen_at p.table i) o)
       → LeadsTo threads ls h.ps thread op answer after → IsLike after (shown (changed_at p i y registers live quarantined))
       → AreShaped partitions threads (changed_at p i y registers live quarantined)
@@ -143,13 +144,13 @@ module _ (region partitions threads : ℕ) (ls : List Line) (p : Player) (thread
   lists_kept y t k class = caches_kept partitions threads p (set p.table i y) h.shaped (unmoved y) t k class
 
 -- what a player shows after a step, if a register was set: its registers, cells and usable numbers
-pub record ShowsStep (p : Player) (i t r : ℕ) (x : Handle) (y : Slot) (q : Player) : Type 0 where
+pub record ShowsStep (p : Player) (i t r : ℕ) (x : Register ℕ) (y : Slot) (q : Player) : Type 0 where
   pub regs : (u k : ℕ) → (shown q).regs u k ≡ with_reg (shown p).regs t r (reg_of p.table x) u k
   pub held : (k : ℕ) → (shown q).held k ≡ (shown p).held k
   pub word : (s : SlotName) → (shown q).word s ≡ with_slot (shown p).word (named_at p.table i) y.word.0 s
   pub usable : (s : SlotName) → (shown q).usable s ≡ (shown p).usable s
 
-pub shows_step : (region partitions threads : ℕ) (ls : List Line) (p : Player) (i t r : ℕ) (x : Handle) (y : Slot) (live quarantined : Tallies) → IsPlaying region partitions threads ls p
+pub shows_step : (region partitions threads : ℕ) (ls : List Line) (p : Player) (i t r : ℕ) (x : Register ℕ) (y : Slot) (live quarantined : Tallies) → IsPlaying region partitions threads ls p
     → i < length p.table → t < threads → r < 64 → IsIn (length p.table) x → IsSame (slot_at p.table i) y
     → ShowsStep p i t r x y (changed_at p i y (registered t r x p).registers live quarantined)
 shows_step region partitions threads ls p i t r x y live quarantined h low below small among same =

@@ -13,8 +13,8 @@ use Rattle.pa_heap_effects.proofs.Acting.{nothing_moves}
 use Rattle.pa_slot_effects.specs.Shown.{IsLike, with_held, with_entry}
 use Rattle.pa_slot_effects.specs.Turns.{played_at, after_swap, exchange_of}
 use Rattle.pa_slot_effects.proofs.Swapping.{swap_goes_on}
-use Rattle.pa_player.specs.declared.handle.Handle.{Handle}
-use Rattle.pa_player.specs.declared.handle.Handle.TheVariants.{Empty, Own, Ref, Freed, Cleared}
+use Rattle.pa_rules.specs.declared.register.Register.{Register}
+use Rattle.pa_rules.specs.declared.register.Register.TheVariants.{Empty, Own, Ref, Freed, Cleared}
 use Rattle.pa_player.specs.declared.table.Slot.{Slot}
 use Rattle.pa_player.specs.Player.{Player}
 use Rattle.pa_player.specs.Tables.{held_of as told_of, handle_in, IsIn}
@@ -30,28 +30,28 @@ use Rattle.pa_player.proofs.Quiet.{quiet_plays, can_play, counts_still, none_add
 
 -- ---- handles, and what is reported of them
 
-told_handle : (slots : List Slot) (x : Handle) → told_of slots (handle_in x) ≡ handle_of (reg_of slots x)
+told_handle : (slots : List Slot) (x : Register ℕ) → told_of slots (handle_in x) ≡ handle_of (reg_of slots x)
 told_handle slots Empty = refl
 told_handle slots (Own place) = refl
 told_handle slots (Ref place) = refl
 told_handle slots Freed = refl
 told_handle slots Cleared = refl
 
-reg_told : (slots : List Slot) (x : Handle) → reg_of slots (handle_in x) ≡ reg_of_held (told_of slots x)
+reg_told : (slots : List Slot) (x : Register ℕ) → reg_of slots (handle_in x) ≡ reg_of_held (told_of slots x)
 reg_told slots Empty = refl
 reg_told slots (Own place) = refl
 reg_told slots (Ref place) = refl
 reg_told slots Freed = refl
 reg_told slots Cleared = refl
 
-handle_again : (x : Handle) → handle_in (handle_in x) ≡ handle_in x
+handle_again : (x : Register ℕ) → handle_in (handle_in x) ≡ handle_in x
 handle_again Empty = refl
 handle_again (Own place) = refl
 handle_again (Ref place) = refl
 handle_again Freed = refl
 handle_again Cleared = refl
 
-handle_among : (n : ℕ) (x : Handle) → IsIn n x → IsIn n (handle_in x)
+handle_among : (n : ℕ) (x : Register ℕ) → IsIn n x → IsIn n (handle_in x)
 handle_among n Empty among = tt
 handle_among n (Own place) among = among
 handle_among n (Ref place) among = among
@@ -62,10 +62,10 @@ handle_among n Cleared among = tt
 
 module _ (p : Player) (thread cell reg : ℕ) where
   -- what the cell gets and the register finds
-  abbrev gave : Handle
+  abbrev gave : Register ℕ
   gave = handle_in (register_at p thread reg)
 
-  abbrev found : Handle
+  abbrev found : Register ℕ
   found = cell_at p cell
 
   abbrev entry : CellEntry

@@ -29,7 +29,7 @@ pub line_ready : (t : Trace) (i : ℕ) (p : Player) (line d : Line) → IsWithin
 line_ready t i p line d within lt is playing =
     record { region = t.region; partitions = t.partitions; threads = t.threads; ls = take i t.lines; can = line_can t i p line d within lt is playing }
 
--- and then one line more was played
+-- if the first lines of a trace were played and then the next one, one more of its first lines were played
 pub line_more : (t : Trace) (i : ℕ) (p q : Player) (line d : Line) → IsWithinLimits t → i < length t.lines → line ≡ get_or t.lines i d
     → IsPlaying t.region t.partitions t.threads (take i t.lines) p → GoesOnTo p line q → IsPlaying t.region t.partitions t.threads (take (i + 1) t.lines) q
 line_more t i p q line d within lt is playing goes =
@@ -43,7 +43,7 @@ goes_on p Phase (Some answer) q goes = absurd goes
 goes_on p (Do thread op) None q goes = absurd goes
 goes_on p (Do thread op) (Some answer) q goes = λ region partitions threads ls can. (goes region partitions threads ls can).0
 
--- all were
+-- once the index is past the lines, all lines of the trace were played
 pub all_played : (t : Trace) (i : ℕ) (p : Player) → length t.lines ≤ i → IsPlaying t.region t.partitions t.threads (take i t.lines) p → IsPlaying t.region t.partitions t.threads t.lines p
 all_played t i p past playing = subst (λ z. IsPlaying t.region t.partitions t.threads z p) (take_all i t.lines past) playing
 

@@ -3,8 +3,8 @@ use Rattle.std.proofs.Common.{◌≡◌, ℕ, ◌+◌, ◌<◌, ◌≤◌, List,
 use Rattle.std.specs.Prelude.{Contains}
 use Rattle.std.proofs.lemmas.Bool.{cases_eq}
 use Rattle.std.proofs.lemmas.List.{get_or-set_same}
-use Rattle.pa_machine.specs.declared.title.Title.{Title}
-use Rattle.pa_machine.specs.Count.{number_of, held_of, refs_of}
+use Rattle.pa_slot.specs.declared.title.Title.{Title}
+use Rattle.pa_slot.specs.Count.{number_of, held_of, refs_of}
 use Rattle.pa_layout.specs.Pages.{super_page_at, supers_for}
 use Rattle.pa_trace.specs.declared.script.Op.{Op}
 use Rattle.pa_trace.specs.declared.script.Line.{Line}
@@ -26,7 +26,7 @@ use Rattle.pa_heap_effects.specs.Ops.{only_in, IsCalled, unmap_made}
 use Rattle.pa_heap_effects.proofs.Single.{entries_are}
 use Rattle.pa_heap_effects.proofs.Unmapped.{unmap_is_done}
 use Rattle.pa_slot_effects.specs.Turns.{played_at}
-use Rattle.pa_player.specs.declared.handle.Handle.{Handle}
+use Rattle.pa_rules.specs.declared.register.Register.{Register}
 use Rattle.pa_player.specs.declared.table.Slot.{Slot}
 use Rattle.pa_player.specs.declared.tallies.Tallies.{Tallies}
 use Rattle.pa_player.specs.Player.{Player}
@@ -47,7 +47,7 @@ use Rattle.pa_lists.proofs.Elements.{in_one}
 use Rattle.pa_record.proofs.Leaving.{kept_map}
 
 module _ (region partitions threads : ℕ) (ls : List Line) (p : Player) (thread : ℕ) (op : Op) (can : CanGoOn region partitions threads ls (Do thread op) p)
-    (reg i : ℕ) (small : reg < 64) (points : Points (register_at p thread reg) i) (y : Slot) (registers : List (List Handle)) (lives waits : Tallies)
+    (reg i : ℕ) (small : reg < 64) (points : Points (register_at p thread reg) i) (y : Slot) (registers : List (List (Register ℕ))) (lives waits : Tallies)
     (r : IsReturn region partitions threads ls p can.playing thread op i y registers lives waits) (is_map : (slot_at p.table i).class ≡ None) where
   abbrev h : IsPlaying region partitions threads ls p
   h = can.playing

@@ -2,15 +2,15 @@
 use Rattle.std.proofs.Common.{◌≡◌, ℕ, ◌<◌, Bool, List, Option, Some, refl, ap, ◌∙◌, arith, inl, inr}
 use Rattle.std.specs.Prelude.{if◌then◌else◌, ◌==◌}
 use Rattle.std.proofs.lemmas.Bool.{cases_eq, eq-eqb, ne_eqb}
-use Rattle.pa_machine.specs.declared.word.SlotName.{SlotName}
-use Rattle.pa_machine.specs.declared.word.Step.{Step}
-use Rattle.pa_machine.specs.declared.word.Step.TheVariants as steps
-use Rattle.pa_machine.specs.Count.{held_of, refs_of}
-use Rattle.pa_machine.specs.Run.{Mark, IsReturning}
+use Rattle.pa_slot.specs.declared.word.SlotName.{SlotName}
+use Rattle.pa_slot.specs.declared.word.Step.{Step}
+use Rattle.pa_slot.specs.declared.word.Step.TheVariants as steps
+use Rattle.pa_slot.specs.Count.{held_of, refs_of}
+use Rattle.pa_slot.specs.Run.{Mark, IsReturning}
 use Rattle.pa_record.specs.declared.entry.Seen.{Seen}
 use Rattle.pa_record.specs.declared.report.Tally.{Tally}
 use Rattle.pa_rules.specs.Played.{mark_at}
-use Rattle.pa_machine.specs.Kinds.{enters, leaves}
+use Rattle.pa_slot.specs.Kinds.{enters, leaves}
 use Rattle.pa_legal.specs.Tallies.{one_of, bytes_of}
 use Rattle.pa_player.specs.declared.table.Slot.{Slot}
 use Rattle.pa_player.specs.Playing.{home_in, len_in}

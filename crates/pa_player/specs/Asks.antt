@@ -1,9 +1,9 @@
 -- What the parts of an op require of the player.
 use Rattle.std.specs.Prelude.{◌≡◌, ℕ, zero, suc, ◌+◌, ◌*◌, ◌%◌, ◌<◌, ◌≤◌, ◌^◌, List, [], ◌∷◌, ◌++◌, map, length}
 use Rattle.std.specs.Prelude.{Option, Some, None, All, Contains}
-use Rattle.pa_machine.specs.Count.{CanStep, refs_of}
-use Rattle.pa_machine.specs.Run.{IsReturning}
-use Rattle.pa_machine.specs.declared.word.Step.TheVariants as steps
+use Rattle.pa_slot.specs.Count.{CanStep, refs_of}
+use Rattle.pa_slot.specs.Run.{IsReturning}
+use Rattle.pa_slot.specs.declared.word.Step.TheVariants as steps
 use Rattle.pa_layout.specs.Limits.{most_supers}
 use Rattle.pa_layout.specs.Pages.{super_page_at, supers_for}
 use Rattle.pa_buckets.specs.Limits.{class_count}
@@ -33,7 +33,7 @@ pub record CanGive (q : ℕ) (xs : List ℕ) (p : Player) : Type 0 where
   pub slots : length xs ≤ (tally_at p.cached.of q).slots
   pub bytes : bytes_at p.table xs ≤ (tally_at p.cached.of q).bytes
 
--- The list at an index can be filled from the root of partition q, or a direct map be made there.
+-- Partition q's root can place slots for a list, or a direct map.
 pub record CanPlace (q : ℕ) (p : Player) : Type 0 where
   pub root : q < length p.heap.roots
   pub journal : q < length p.told.journals
@@ -46,7 +46,7 @@ pub record CanPlace (q : ℕ) (p : Player) : Type 0 where
   pub slots : (tally_at p.cached.of q).slots < 2 ^ 31
   pub bytes : (tally_at p.cached.of q).bytes < 2 ^ 62
 
--- A slot of the class can go to the front of its list, and as many as don't stay to the root.
+-- The slot at an index can go to the front of the list of its class, and those that then don't stay can go back to the root.
 pub record CanPutBack (thread i q class : ℕ) (p : Player) : Type 0 where
   pub threads : thread < most_threads
   pub four : p.partitions ≤ most_partitions
@@ -67,7 +67,7 @@ pub record CanUnmap (i q : ℕ) (p : Player) : Type 0 where
   pub one_take : (t : Taken) × IsOneTake p.heap.pool (super_page_at (slot_at p.table i).title.start)
       (supers_for (slot_at p.table i).title.len) t
 
--- A slot that a step returned can go back.
+-- A slot that a step returned can go back: to its list if it has a class, else to the pool.
 abbrev pub CanTakeBack : ℕ → ℕ → ℕ → Option ℕ → Player → Type 0
 CanTakeBack thread i q (Some class) p = CanPutBack thread i q class p
 CanTakeBack thread i q None p = CanUnmap i q p
@@ -79,7 +79,7 @@ pub record CanPut (q : ℕ) (p : Player) : Type 0 where
   pub slots : (tally_at p.cached.of q).slots < 2 ^ 31
   pub bytes : (tally_at p.cached.of q).bytes < 2 ^ 62
 
--- the indices of the lists of some classes of a thread, from one class on
+-- the indices of the slots in a thread's lists of partition q, of `n` classes from one class on
 unfoldable pub places_from : ℕ → ℕ → ℕ → ℕ → Player → List ℕ
 places_from thread q class zero p = []
 places_from thread q class (suc n) p = list_in p (list_place p.partitions thread q class) ++ places_from thread q (class + 1) n p
@@ -105,14 +105,14 @@ pub record CanIssue (thread reg i : ℕ) (p : Player) : Type 0 where
   pub slots : (tally_at p.live.of (slot_at p.table i).partition).slots < 2 ^ 31
   pub bytes : (tally_at p.live.of (slot_at p.table i).partition).bytes < 2 ^ 62
 
--- So can the front of a list, which leaves the cache.
+-- The slot at the front of a list can be issued to a register, and leaves the cache.
 pub record CanIssueFront (thread reg q at : ℕ) (p : Player) : Type 0 where
   pub four : q < most_partitions
   pub issue : (i : ℕ) (rest : List ℕ) → list_in p at ≡ i ∷ rest → CanIssue thread reg i p
   pub slots : (i : ℕ) (rest : List ℕ) → list_in p at ≡ i ∷ rest → 1 ≤ (tally_at p.cached.of q).slots
   pub bytes : (i : ℕ) (rest : List ℕ) → list_in p at ≡ i ∷ rest → (slot_at p.table i).title.len ≤ (tally_at p.cached.of q).bytes
 
--- An allocation of a slot of a class, and of a direct map, in partition q.
+-- A slot of the class can be allocated in partition q.
 pub record CanAllocateSlot (thread reg q class : ℕ) (p : Player) : Type 0 where
   pub threads : thread < most_threads
   pub four : p.partitions ≤ most_partitions
@@ -124,7 +124,7 @@ pub record CanAllocateSlot (thread reg q class : ℕ) (p : Player) : Type 0 wher
       → IsFilled q (list_place p.partitions thread q class) class p r
       → CanIssueFront thread reg q (list_place p.partitions thread q class) r
 
--- A direct map of `len` bytes, which are whole pages of 4,096 bytes, in as many super pages as they need.
+-- A direct map of `len` bytes, which are whole pages of 4,096 bytes, can be allocated in as many super pages as it needs.
 pub record CanAllocateMap (thread reg q len supers : ℕ) (p : Player) : Type 0 where
   pub whole : len % 4096 ≡ 0
   pub some : 0 < len
@@ -133,14 +133,14 @@ pub record CanAllocateMap (thread reg q len supers : ℕ) (p : Player) : Type 0 
   pub place : CanPlace q p
   pub issue : (r : Player) (i : ℕ) → IsMapPlaced q len supers p r i → CanIssue thread reg i r
 
--- A copy of a handle of the slot at an index, to a register that has none.
+-- A handle of the slot at an index can be copied to a register, with a step on the count word if that register has no handle.
 pub record CanCopy (thread to i : ℕ) (p : Player) : Type 0 where
   pub threads : thread < length p.registers
   pub regs : to < register_count
   pub place : i < length p.table
   pub step : HasNone (register_at p thread to) → CanStep steps.Copy (slot_at p.table i).word.0
 
--- A reset of a `raw_ptr` to the slot at an index.
+-- A `raw_ptr` to the slot at an index can be reset.
 pub record CanReset (thread reg i : ℕ) (p : Player) : Type 0 where
   pub threads : thread < length p.registers
   pub regs : reg < register_count
@@ -153,7 +153,7 @@ pub record CanReset (thread reg i : ℕ) (p : Player) : Type 0 where
   pub back : IsReturning steps.Reset (slot_at p.table i).word.0
       → CanTakeBack thread i (slot_at p.table i).partition (slot_at p.table i).class (reset_last thread reg i p)
 
--- A free by its owner; if no `raw_ptr` points to the slot, it can go back at once.
+-- The owner of the slot at an index can free it. If no `raw_ptr` points to the slot, it can go back at once.
 pub record CanFree (thread reg i : ℕ) (p : Player) : Type 0 where
   pub threads : thread < length p.registers
   pub regs : reg < register_count
@@ -167,17 +167,17 @@ pub record CanFree (thread reg i : ℕ) (p : Player) : Type 0 where
   pub back : refs_of (slot_at p.table i).word.0 ≡ 0
       → CanTakeBack thread i (slot_at p.table i).partition (slot_at p.table i).class (freed_at thread reg i p)
 
--- A write by its owner, which makes a step if no `raw_ptr` points to the slot.
+-- The owner of the slot at an index can write to it, with a step on the count word if no `raw_ptr` points to the slot.
 pub record CanWrite (i : ℕ) (p : Player) : Type 0 where
   pub place : i < length p.table
   pub step : refs_of (slot_at p.table i).word.0 ≡ 0 → CanStep steps.Write (slot_at p.table i).word.0
 
--- A read of it.
+-- The slot at an index can be read, since it has the 8 bytes of its count word.
 pub record CanRead (i : ℕ) (p : Player) : Type 0 where
   pub place : i < length p.table
   pub long : 8 ≤ (slot_at p.table i).title.len
 
--- An exchange with a cell.
+-- The handle of a register can be exchanged with that of a cell.
 pub record CanSwap (thread cell reg : ℕ) (p : Player) : Type 0 where
   pub threads : thread < length p.registers
   pub regs : reg < register_count
@@ -187,12 +187,12 @@ pub record CanSwap (thread cell reg : ℕ) (p : Player) : Type 0 where
   pub history : cell < length p.told.histories
   pub few : length (history_in p.told cell) < 2 ^ 31
 
--- A purge: all in turn, in each partition.
+-- A thread can purge all partitions in turn.
 pub record CanPurge (thread : ℕ) (p : Player) : Type 0 where
   pub four : p.partitions ≤ most_partitions
   pub each : (q : ℕ) → q < p.partitions → CanPurgeOne thread q p
 
--- The end of a phase: its lines of the report.
+-- A phase can end, with a line of the report for each partition.
 pub record CanEnd (p : Player) : Type 0 where
   pub four : p.partitions ≤ most_partitions
   pub roots : length p.heap.roots ≡ p.partitions

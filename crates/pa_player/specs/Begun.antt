@@ -4,25 +4,25 @@ use Rattle.pa_buckets.specs.Limits.{class_count}
 use Rattle.pa_record.specs.Pool.{new_pool}
 use Rattle.pa_record.specs.Root.{Root, new_root}
 use Rattle.pa_trace.specs.Limits.{register_count, cell_count}
-use Rattle.pa_player.specs.declared.handle.Handle.{Handle}
-use Rattle.pa_player.specs.declared.handle.Handle.TheVariants.{Empty}
+use Rattle.pa_rules.specs.declared.register.Register.{Register}
+use Rattle.pa_rules.specs.declared.register.Register.TheVariants.{Empty}
 use Rattle.pa_player.specs.Player.{Player}
 use Rattle.pa_player.specs.Playing.{cell_at}
 use Rattle.pa_player.specs.Tallies.{IsNone}
 use Rattle.pa_player.specs.Told.{Lists}
 
--- that many empty lists
+-- these are `n` lists, and all of them are empty
 pub record AreEmpty {X : Type 0} (n : ℕ) (xs : List (List X)) : Type 0 where
   pub count : length xs ≡ n
   pub empty : (i : ℕ) → slice_index_or xs i [] ≡ []
 
--- the registers of that many threads, 64 each, are empty
-pub record AreClear (threads : ℕ) (xs : List (List Handle)) : Type 0 where
+-- these are the registers of that many threads, 64 each, and all of them are empty
+pub record AreClear (threads : ℕ) (xs : List (List (Register ℕ))) : Type 0 where
   pub count : length xs ≡ threads
   pub sixty_four : (t : ℕ) → t < threads → length (slice_index_or xs t []) ≡ register_count
   pub clear : (t r : ℕ) → slice_index_or (slice_index_or xs t []) r Empty ≡ Empty
 
--- that many roots without a span
+-- these are that many roots, and all of them are new
 pub record AreNew (partitions : ℕ) (xs : List Root) : Type 0 where
   pub count : length xs ≡ partitions
   pub new : (q : ℕ) → slice_index_or xs q new_root ≡ new_root

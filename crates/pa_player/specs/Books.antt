@@ -12,7 +12,7 @@ pub record Books : Type 0 where
 abbrev pub with_kept_entry : Entry → Books → Books
 with_kept_entry e b = record b { entries = b.entries ++ e ∷ [] }
 
--- the entries of the journal of partition Q, and one more of them
+-- the entries of the journal of partition q
 abbrev pub kept_acts : Books → ℕ → List RootEntry
 kept_acts b q = slice_index_or b.journals q []
 

@@ -1,6 +1,6 @@
--- What a call of the placement leaves, once the pool's entry is recorded; and what is put into a list of it.
+-- What a call of the placement leaves once the pool's entry is recorded, and what is put into a list of it.
 use Rattle.std.specs.Prelude.{◌≡◌, ℕ, List, [], ◌∷◌, Option}
-use Rattle.pa_machine.specs.declared.title.Title.{Title}
+use Rattle.pa_slot.specs.declared.title.Title.{Title}
 use Rattle.pa_record.specs.declared.numbered.Numbered.{Numbered}
 use Rattle.pa_record.specs.declared.root.RootAct.TheVariants.{Fill}
 use Rattle.pa_record.specs.Pool.{PoolState}

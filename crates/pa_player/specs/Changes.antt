@@ -1,12 +1,12 @@
 -- What the parts of an op change in a player, each as a function of the player before it.
 use Rattle.std.specs.Prelude.{◌≡◌, ℕ, zero, suc, ◌+◌, ◌-◌, ◌/◌, ◌<◌, ◌≤◌, ◌⊎◌, nat_lt, if◌then◌else◌, List, [], ◌∷◌}
 use Rattle.std.specs.Prelude.{◌++◌, map, length, take, drop, slice_index_or, slice_set, sum, Option, Some, None}
-use Rattle.pa_machine.specs.declared.title.Title.{Title}
-use Rattle.pa_machine.specs.declared.word.Step.{Step}
-use Rattle.pa_machine.specs.declared.word.Step.TheVariants as steps
-use Rattle.pa_machine.specs.Count.{number_of, stepped, refs_of, held_of}
-use Rattle.pa_machine.specs.Run.{IsReturning}
-use Rattle.pa_machine.specs.Titles.{poison}
+use Rattle.pa_slot.specs.declared.title.Title.{Title}
+use Rattle.pa_slot.specs.declared.word.Step.{Step}
+use Rattle.pa_slot.specs.declared.word.Step.TheVariants as steps
+use Rattle.pa_slot.specs.Count.{number_of, stepped, refs_of, held_of}
+use Rattle.pa_slot.specs.Run.{IsReturning}
+use Rattle.pa_slot.specs.Titles.{poison}
 use Rattle.pa_layout.specs.Pages.{super_page_at, supers_for}
 use Rattle.pa_buckets.specs.Limits.{class_count}
 use Rattle.pa_buckets.specs.Bands.{limit_of, fill_of}
@@ -24,23 +24,24 @@ use Rattle.pa_record.specs.Pool.{PoolState, gave}
 use Rattle.pa_record.specs.Spans.{name_of}
 use Rattle.pa_record.specs.Root.{Root, names, all_returned, purged, unmapped}
 use Rattle.pa_rules.specs.Caches.{gives, unmap_at}
+use Rattle.pa_rules.specs.Nexts.{HasSomeHandle}
 use Rattle.pa_record.specs.Census.{census}
 use Rattle.pa_place.specs.declared.placed.Placed.{Placed}
 use Rattle.pa_place.specs.Placed.{FillDid, MapDid}
 use Rattle.pa_heap_effects.specs.Deeds.{entries_at}
 use Rattle.pa_heap_effects.specs.Ops.{found_by}
-use Rattle.pa_player.specs.declared.handle.Handle.{Handle}
-use Rattle.pa_player.specs.declared.handle.Handle.TheVariants.{Empty, Own, Ref, Freed, Cleared}
+use Rattle.pa_rules.specs.declared.register.Register.{Register}
+use Rattle.pa_rules.specs.declared.register.Register.TheVariants.{Own, Ref, Freed, Cleared}
 use Rattle.pa_player.specs.declared.table.Slot.{Slot}
 use Rattle.pa_player.specs.Player.{Player}
-use Rattle.pa_player.specs.Tables.{slot_at, named_at, new_slot, IsHome, held_of as told_of, handle_in}
+use Rattle.pa_player.specs.Tables.{slot_at, named_at, new_slot, IsHome, held_of as told_of, handle_in, HasNone}
 use Rattle.pa_player.specs.Tallies.{tally_at}
 use Rattle.pa_player.specs.Told.{Lists, journal_in, with_exchange}
 use Rattle.pa_player.specs.Playing.{numbered_at, list_place, root_of, register_at, cell_at}
 
 -- ---- one table
 
--- a step on the word of the slot at an index; its content
+-- this step is made on the count word of the slot at an index
 abbrev pub stepped_at : Step → ℕ → Player → Player
 stepped_at step i p =
     record p { table = slice_set p.table i (record (slot_at p.table i) { word = record { 0 = stepped step (slot_at p.table i).word.0 } }) }
@@ -49,19 +50,19 @@ stepped_at step i p =
 abbrev pub filled_at : ℕ → ℕ → Player → Player
 filled_at value i p = record p { table = slice_set p.table i (record (slot_at p.table i) { content = value }) }
 
--- a register of a thread; a list of the caches
-abbrev pub registered : ℕ → ℕ → Handle → Player → Player
+-- register r of thread t has this handle now
+abbrev pub registered : ℕ → ℕ → Register ℕ → Player → Player
 registered t r h p = record p { registers = slice_set p.registers t (slice_set (slice_index_or p.registers t []) r h) }
 
 -- the list at an index of the caches has these slots now
 abbrev pub listed : ℕ → List ℕ → Player → Player
 listed at xs p = record p { caches = slice_set p.caches at xs }
 
--- more slots and bytes in a partition, and fewer
+-- that many slots and bytes more in the tally of partition q
 abbrev pub tallied_more : ℕ → ℕ → ℕ → List Tally → List Tally
 tallied_more q slots bytes ts = slice_set ts q (record { slots = (tally_at ts q).slots + slots; bytes = (tally_at ts q).bytes + bytes })
 
--- so many slots and bytes fewer in the tally of partition q
+-- that many slots and bytes fewer in the tally of partition q
 abbrev pub tallied_less : ℕ → ℕ → ℕ → List Tally → List Tally
 tallied_less q slots bytes ts = slice_set ts q (record { slots = (tally_at ts q).slots - slots; bytes = (tally_at ts q).bytes - bytes })
 
@@ -85,11 +86,11 @@ quarantined_less q len p = record p { quarantined = record { of = tallied_less q
 abbrev pub cached_more : ℕ → ℕ → Player → Player
 cached_more q len p = record p { cached = record { of = tallied_more q 1 len p.cached.of } }
 
--- so many cached slots and bytes fewer in partition q
+-- that many cached slots and bytes fewer in partition q
 abbrev pub cached_less : ℕ → ℕ → ℕ → Player → Player
 cached_less q slots bytes p = record p { cached = record { of = tallied_less q slots bytes p.cached.of } }
 
--- the root of a partition, and the pool
+-- partition q has this root now
 abbrev pub with_root : ℕ → Root → Player → Player
 with_root q r p = record p { heap = record p.heap { roots = slice_set p.heap.roots q r } }
 
@@ -97,7 +98,7 @@ with_root q r p = record p { heap = record p.heap { roots = slice_set p.heap.roo
 abbrev pub with_pool : PoolState → Player → Player
 with_pool plan p = record p { heap = record p.heap { pool = plan } }
 
--- acts of a partition on this line, and an entry of the pool
+-- the journal of partition q in these lists has these acts more, on the line that is played
 abbrev pub with_acts : ℕ → List RootAct → Lists → Lists
 with_acts q acts t = record t { journals = slice_set t.journals q (journal_in t q ++ entries_at t.line acts) }
 
@@ -109,19 +110,19 @@ acted q acts p = record p { told = with_acts q acts p.told }
 abbrev pub pooled : ℕ → PoolAct → Player → Player
 pooled q act p = record p { told = record p.told { pools = p.told.pools ++ record { line = p.told.line; partition = q; act = act } ∷ [] } }
 
--- the answer of this line, after which the next is played
+-- this line is answered, and the next one is played then
 abbrev pub answered : ℕ → Answer → Player → Player
 answered thread answer p =
     record p {
       told = record p.told { entries = p.told.entries ++ record { line = p.told.line; thread = thread; answer = answer } ∷ []; line = p.told.line + 1 };
     }
 
--- a cell; an exchange with it on this line, of these handles
-abbrev pub celled : ℕ → Handle → Player → Player
+-- cell k has this handle now
+abbrev pub celled : ℕ → Register ℕ → Player → Player
 celled k h p = record p { cells = slice_set p.cells k h }
 
 -- the history of cell k has one entry more, on this line: the handle that was given, and the one that was found
-abbrev pub exchanged : ℕ → Handle → Handle → Player → Player
+abbrev pub exchanged : ℕ → Register ℕ → Register ℕ → Player → Player
 exchanged k gave found p =
     record p { told = with_exchange k (record { line = p.told.line; gave = told_of p.table gave; found = told_of p.table found }) p.told }
 
@@ -133,7 +134,7 @@ swapped thread k reg p =
 
 -- ---- parts of ops
 
--- the list of a thread at an index of the caches; how many bytes the slots at some indices have together
+-- the list at an index of the caches, as the indices of its slots
 abbrev pub list_in : Player → ℕ → List ℕ
 list_in p at = slice_index_or p.caches at []
 
@@ -147,7 +148,7 @@ issued thread reg i p =
     live_more (slot_at p.table i).partition (slot_at p.table i).title.len
     (registered thread reg (Own i) (filled_at 0 i (stepped_at steps.Issue i p)))
 
--- the slots at some indices go back to the root; those of a list after the first ones do
+-- the slots at these indices go back to the root of partition q
 abbrev pub gave_back : ℕ → List ℕ → Player → Player
 gave_back q xs p =
     cached_less q (length xs) (bytes_at p.table xs)
@@ -157,11 +158,11 @@ gave_back q xs p =
 abbrev pub given : ℕ → ℕ → ℕ → Player → Player
 given q at keep p = listed at (take keep (list_in p at)) (gave_back q (drop keep (list_in p at)) p)
 
--- a slot of the class becomes the front of its list; if the list is then too long, half its limit stays
+-- the slot at an index becomes the front of a list of partition q
 abbrev pub put_front : ℕ → ℕ → ℕ → Player → Player
 put_front q at i p = cached_more q (slot_at p.table i).title.len (listed at (i ∷ list_in p at) p)
 
--- a list above its class's limit keeps the first half of the limit, and the others go back; any other stays as it is
+-- A list that is longer than the limit of its class keeps its first slots, half as many as the limit, and the others go back.
 abbrev pub spilled_if : ℕ → ℕ → ℕ → Player → Player
 spilled_if class q at p = if nat_lt (limit_of class) (length (list_in p at)) then given q at (limit_of class / 2) p else p
 
@@ -179,7 +180,7 @@ taken_back thread q (Some class) i p =
     spilled_if class q (list_place p.partitions thread q class) (put_front q (list_place p.partitions thread q class) i p)
 taken_back thread q None i p = unmapped_at q i p
 
--- the lists of some classes from one on go back whole; a purge of one partition, and of several from one on
+-- a thread's lists of `n` classes from one class on go back whole to the root of partition q
 unfoldable pub given_from : ℕ → ℕ → ℕ → ℕ → Player → Player
 given_from thread q class zero p = p
 given_from thread q class (suc n) p = given_from thread q (class + 1) n (given q (list_place p.partitions thread q class) 0 p)
@@ -272,7 +273,7 @@ pub record IsMapPlaced (q len supers : ℕ) (p r : Player) (place : ℕ) : Type 
   pub acted : r ≡ record (acted q (Map asked (name_of title) title.len ∷ [])
       (pooled q (pool.Take supers (found_by (title ∷ []))) (placed_in q after plan p))) { table = table }
 
--- there was no room for one
+-- There was no room for a direct map of that many bytes, and this entry of partition q's journal says so.
 pub record IsMapRefused (q len supers : ℕ) (p r : Player) (entry : ℕ) : Type 0 where
   pub plan : PoolState
   pub after : Root
@@ -284,7 +285,7 @@ pub record IsMapRefused (q len supers : ℕ) (p r : Player) (entry : ℕ) : Type
   pub acted : r ≡ acted q (Full None asked ∷ []) (pooled q (pool.Take supers None) (placed_in q after plan p))
   pub told : entry ≡ length (journal_in p.told q)
 
--- What an allocation of a slot of a class answers: the front of the list, of a list that is filled first, or no room.
+-- The list was empty and is filled, and then its front is issued.
 pub record IsFilledFirst (thread reg q at class : ℕ) (p r : Player) (answer : Answer) : Type 0 where
   pub filled : Player
   pub empty : list_in p at ≡ []
@@ -302,12 +303,12 @@ pub record IsRefused (q at class : ℕ) (p r : Player) (answer : Answer) : Type 
 abbrev pub Refills : ℕ → ℕ → ℕ → ℕ → ℕ → Player → Player → Answer → Type 0
 Refills thread reg q at class p r answer = IsFilledFirst thread reg q at class p r answer ⊎ IsRefused q at class p r answer
 
--- an allocation of a slot of a class: the front of its list, of one that is filled first, or no room
+-- an allocation of a slot of a class: the front of its list is issued, after a fill if the list was empty, or there was no room
 abbrev pub AllocatesSlot : ℕ → ℕ → ℕ → ℕ → ℕ → Player → Player → Answer → Type 0
 AllocatesSlot thread reg q at class p r answer =
     IsFrontIssued thread reg q at p r answer ⊎ Refills thread reg q at class p r answer
 
--- and of a direct map: its slot, or no room
+-- a direct map was made, and its slot is issued
 pub record IsMapIssued (thread reg q len supers : ℕ) (p r : Player) (answer : Answer) : Type 0 where
   pub mapped : Player
   pub place : ℕ
@@ -322,26 +323,22 @@ AllocatesMap thread reg q len supers p r answer =
 
 -- ---- steps
 
--- a copy to a register, by what it holds
-abbrev pub Copies : ℕ → ℕ → ℕ → Handle → Player → Player → Answer → Type 0
-Copies thread to i (Own place) p r answer = (r ≡ p) × (answer ≡ answers.Filled)
-Copies thread to i (Ref place) p r answer = (r ≡ p) × (answer ≡ answers.Filled)
-Copies thread to i Empty p r answer =
-    (r ≡ registered thread to (Ref i) (stepped_at steps.Copy i p)) × (answer ≡ answers.Done (seen_at p.table i))
-Copies thread to i Freed p r answer =
-    (r ≡ registered thread to (Ref i) (stepped_at steps.Copy i p)) × (answer ≡ answers.Done (seen_at p.table i))
-Copies thread to i Cleared p r answer =
-    (r ≡ registered thread to (Ref i) (stepped_at steps.Copy i p)) × (answer ≡ answers.Done (seen_at p.table i))
+-- a copy to a register: one that has a handle stays as it is, and any other becomes a `raw_ptr` to the slot
+abbrev pub Copies : ℕ → ℕ → ℕ → Player → Player → Answer → Type 0
+Copies thread to i p r answer =
+    (HasSomeHandle (register_at p thread to) × (r ≡ p) × (answer ≡ answers.Filled))
+    ⊎ (HasNone (register_at p thread to) × (r ≡ registered thread to (Ref i) (stepped_at steps.Copy i p))
+    × (answer ≡ answers.Done (seen_at p.table i)))
 
--- a reset and a free of the slot at an index, before it goes back or if it stays
+-- the step of a reset of the slot at an index, whose register is cleared by it
 abbrev pub reset_at : ℕ → ℕ → ℕ → Player → Player
 reset_at thread reg i p = registered thread reg Cleared (stepped_at steps.Reset i p)
 
--- the same if the step returns the slot: it leaves the quarantine
+-- the step of a reset that returns the slot at an index, so that the slot leaves the quarantine
 abbrev pub reset_last : ℕ → ℕ → ℕ → Player → Player
 reset_last thread reg i p = quarantined_less (slot_at p.table i).partition (slot_at p.table i).title.len (reset_at thread reg i p)
 
--- the step of a free: its register is freed, and there is one live slot fewer
+-- the step of a free of the slot at an index: the register is freed, and there is one live slot fewer
 abbrev pub freed_at : ℕ → ℕ → ℕ → Player → Player
 freed_at thread reg i p =
     live_less (slot_at p.table i).partition (slot_at p.table i).title.len (registered thread reg Freed (stepped_at steps.Free i p))
@@ -370,13 +367,7 @@ Writes i value p r answer =
     × (answer ≡ answers.Done (seen_at p.table i)))
     ⊎ ((0 < refs_of (slot_at p.table i).word.0) × (r ≡ p) × (answer ≡ answers.Shared (seen_at p.table i)))
 
--- a look through a `raw_ptr` by a non-owner: this if the slot was freed before, else `not owner`
-abbrev pub LooksAt : ℕ → Answer → Player → Answer → Type 0
-LooksAt i freed p answer =
-    ((held_of (slot_at p.table i).word.0 ≡ 1) × (answer ≡ answers.NotOwner (seen_at p.table i)))
-    ⊎ ((held_of (slot_at p.table i).word.0 ≡ 1 → ⊥) × (answer ≡ freed))
-
--- a read of a word
+-- the answer of a read of a word of the slot at an index
 abbrev pub Reads : ℕ → ℕ → Player → Answer → Type 0
 Reads i place p answer =
     (((slot_at p.table i).title.len - 8) / 8 ≤ place) × (answer ≡ answers.OutOfRange)
@@ -387,7 +378,7 @@ Reads i place p answer =
 
 -- ---- the end of a phase
 
--- the line of the report for a partition; those of several from one on
+-- the line of the report for partition q
 abbrev pub report_line : Player → ℕ → ReportLine
 report_line p q =
     record {
@@ -410,10 +401,10 @@ abbrev pub report_lines : Player → ℕ → ℕ → List ReportLine
 report_lines p q zero = []
 report_lines p q (suc n) = report_line p q ∷ report_lines p (q + 1) n
 
--- a phase ends; with the line that begins the next
+-- the phase ends, and its lines are added to the report
 abbrev pub phase_ended : Player → Player
 phase_ended p = record p { told = record p.told { report = p.told.report ++ report_lines p 0 p.partitions }; phase = p.phase + 1 }
 
--- a phase ends, and the line that begins the next one was played
+-- the phase ends, and the line that begins the next one was played
 abbrev pub phase_begun : Player → Player
 phase_begun p = record (phase_ended p) { told = record (phase_ended p).told { line = p.told.line + 1 } }

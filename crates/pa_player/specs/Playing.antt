@@ -1,9 +1,9 @@
 -- What is known of a player between two lines.
 use Rattle.std.specs.Prelude.{◌≡◌, ℕ, ◌+◌, ◌-◌, ◌*◌, ◌<◌, ◌≤◌, ◌&&◌, nat_lt, if◌then◌else◌, List, [], ◌∷◌, map, length}
 use Rattle.std.specs.Prelude.{slice_index_or, Option, Some, None, All, Contains}
-use Rattle.pa_machine.specs.declared.word.SlotName.{SlotName}
-use Rattle.pa_machine.specs.Count.{number_of, held_of, refs_of}
-use Rattle.pa_machine.specs.Run.{same_slot, Slots}
+use Rattle.pa_slot.specs.declared.word.SlotName.{SlotName}
+use Rattle.pa_slot.specs.Count.{number_of, held_of, refs_of}
+use Rattle.pa_slot.specs.Run.{same_slot, Slots}
 use Rattle.pa_buckets.specs.Limits.{class_count}
 use Rattle.pa_buckets.specs.Table.{slot_of}
 use Rattle.pa_buckets.specs.Bands.{limit_of}
@@ -21,22 +21,22 @@ use Rattle.pa_record.specs.RunText.{NamesSlots}
 use Rattle.pa_trace.specs.Limits.{register_count, cell_count, most_partitions}
 use Rattle.pa_rules.specs.declared.played.Played.{Played}
 use Rattle.pa_rules.specs.Registers.{Reg}
-use Rattle.pa_rules.specs.declared.register.Register.TheVariants as regs
+use Rattle.pa_rules.specs.Nexts.{named}
 use Rattle.pa_rules.specs.Played.{entry_of, marks_of}
 use Rattle.pa_rules.specs.Roots.{Journals, journal_at}
 use Rattle.pa_rules.specs.Caches.{Caches, IsOfClass}
 use Rattle.pa_rules.specs.Report.{cached_slots, cached_bytes, census_of, phases_of}
 use Rattle.pa_rules.specs.Legal.{phases_in}
 use Rattle.pa_legal.specs.Numbers.{moves_of, at_end}
-use Rattle.pa_machine.specs.Kinds.{issues, frees, enters, leaves}
+use Rattle.pa_slot.specs.Kinds.{issues, frees, enters, leaves}
 use Rattle.pa_legal.specs.Tallies.{AreHomes, IsLeft}
 use Rattle.pa_heap_effects.specs.Deeds.{root_at, IsPlacedTo}
 use Rattle.pa_heap_effects.specs.Pooled.{pool_at, IsPooledTo}
 use Rattle.pa_heap_effects.specs.Onward.{GoesOn}
 use Rattle.pa_slot_effects.specs.Shown.{Shown}
 use Rattle.pa_slot_effects.specs.Known.{IsToldTo}
-use Rattle.pa_player.specs.declared.handle.Handle.{Handle}
-use Rattle.pa_player.specs.declared.handle.Handle.TheVariants.{Empty, Own, Ref, Freed, Cleared}
+use Rattle.pa_rules.specs.declared.register.Register.{Register}
+use Rattle.pa_rules.specs.declared.register.Register.TheVariants.{Empty}
 use Rattle.pa_player.specs.declared.table.Slot.{Slot}
 use Rattle.pa_player.specs.Player.{Player}
 use Rattle.pa_player.specs.Tallies.{tally_at}
@@ -58,35 +58,31 @@ word_in slots s = (slot_of_name slots s).word.0
 abbrev pub content_in : List Slot → SlotName → ℕ
 content_in slots s = (slot_of_name slots s).content
 
--- how many of its bytes are usable: all but 8, and 0 if there is none
+-- how many bytes of the slot of that name are usable: all but 8, and 0 if there is no such slot
 abbrev pub usable_in : List Slot → SlotName → ℕ
 usable_in slots s = (slot_of_name slots s).title.len - 8
 
--- its partition, and its length
+-- the partition of the slot of that name, and 0 if there is none
 abbrev pub home_in : List Slot → SlotName → ℕ
 home_in slots s = (slot_of_name slots s).partition
 
--- its length in bytes, and 0 if there is none
+-- the length in bytes of the slot of that name, and 0 if there is none
 abbrev pub len_in : List Slot → SlotName → ℕ
 len_in slots s = (slot_of_name slots s).title.len
 
--- a register
-abbrev pub reg_of : List Slot → Handle → Reg
-reg_of slots Empty = regs.Empty
-reg_of slots (Own place) = regs.Own (named_at slots place)
-reg_of slots (Ref place) = regs.Ref (named_at slots place)
-reg_of slots Freed = regs.Freed
-reg_of slots Cleared = regs.Cleared
+-- a handle as a register, with the name of its slot
+abbrev pub reg_of : List Slot → Register ℕ → Reg
+reg_of slots r = named (named_at slots) r
 
--- the handle in register r of thread t; an empty one past the end
-abbrev pub register_at : Player → ℕ → ℕ → Handle
+-- the handle in register r of thread t, and an empty one past the end
+abbrev pub register_at : Player → ℕ → ℕ → Register ℕ
 register_at p t r = slice_index_or (slice_index_or p.registers t []) r Empty
 
--- the handle in cell k; an empty one past the end
-abbrev pub cell_at : Player → ℕ → Handle
+-- the handle in cell k, and an empty one past the end
+abbrev pub cell_at : Player → ℕ → Register ℕ
 cell_at p k = slice_index_or p.cells k Empty
 
--- registers, cells, histories and slots, by names
+-- what the player shows of registers, cells, histories and slots, by the names of slots
 abbrev pub shown : Player → Shown
 shown p =
     record {
@@ -98,7 +94,7 @@ shown p =
       usable = usable_in p.table;
     }
 
--- the journals, by their partitions; what the lists of the threads have
+-- the journals by their partitions
 abbrev pub journals : Player → Journals
 journals p = journal_at p.told.journals
 
@@ -114,11 +110,11 @@ list_place partitions t q class = (t * partitions + q) * class_count + class
 abbrev pub list_at : Player → ℕ → ℕ → ℕ → List ℕ
 list_at p t q class = slice_index_or p.caches (list_place p.partitions t q class) []
 
--- the lists of the threads, as slots with their numbers; empty for partitions and classes that the player doesn't have
+-- the lists of the threads, as slots with their numbers, which are empty for partitions and classes that the player doesn't have
 abbrev pub caches : Player → Caches
 caches p t q class = if nat_lt q p.partitions && nat_lt class class_count then map (numbered_at p.table) (list_at p t q class) else []
 
--- the root of partition q; a new one past the last
+-- the root of partition q, and a new one past the last
 abbrev pub root_of : Player → ℕ → Root
 root_of p q = slice_index_or p.heap.roots q new_root
 
@@ -150,8 +146,8 @@ pub record AreAllSlots (partitions : ℕ) (slots : List Slot) (pools : List Pool
   pub apart : AreNamed slots
   pub others : (q : ℕ) (s : SlotName) → NoneNamed slots s → moves_of (roots q) s ≡ []
 
--- The tables have their shapes, and all that they have is in the table of slots: registers, cells, which have handles or
--- none, and lists, which have slots of their partition and class, and no more than their limits.
+-- The tables have their shapes, and all that registers, cells and lists have is in the table of slots. Each cell has a handle or none,
+-- and each list has slots of its partition and class, and no more than its limit.
 pub record AreShaped (partitions threads : ℕ) (p : Player) : Type 0 where
   pub many : p.partitions ≡ partitions
   pub four : partitions ≤ most_partitions

@@ -12,7 +12,7 @@ use Rattle.pa_record.specs.declared.entry.Answer.{Answer}
 use Rattle.pa_record.specs.declared.entry.Answer.TheVariants.{Value}
 use Rattle.pa_record.specs.declared.history.CellEntry.{CellEntry}
 use Rattle.pa_record.specs.declared.root.RootEntry.{RootEntry}
-use Rattle.pa_player.specs.declared.handle.Handle.TheVariants.{Own}
+use Rattle.pa_rules.specs.declared.register.Register.TheVariants.{Own}
 use Rattle.pa_player.specs.Player.{Player}
 use Rattle.pa_player.specs.Playing.{journals, register_at, IsPlaying}
 use Rattle.pa_player.specs.Told.{history_in}
@@ -43,11 +43,11 @@ pub record TellsOn (es : List Entry) (p q : Player) : Type 0 where
 abbrev pub record_of : Player → ℕ → Answer → Entry
 record_of p thread answer = record { line = p.told.line; thread = thread; answer = answer }
 
--- with these records more, these lines were played
+-- these lines were played, and the output has these records more
 abbrev pub HasPlayedTo : ℕ → ℕ → ℕ → List Line → List Entry → Player → Player → Type 0
 HasPlayedTo region partitions threads ls es p q = IsPlaying region partitions threads ls q × TellsOn es p q
 
--- the op was played after these lines with this answer; and after whatever lines
+-- the op was played after these lines, with this answer
 abbrev pub PlaysAfter : ℕ → ℕ → ℕ → List Line → Player → ℕ → Op → Player → Answer → Type 0
 PlaysAfter region partitions threads ls p thread op q answer =
     HasPlayedTo region partitions threads (ls ++ Do thread op ∷ []) (record_of p thread answer ∷ []) p (answered thread answer q)
@@ -69,7 +69,7 @@ GoesTo p (Do thread op) (Some answer) q =
     (region partitions threads : ℕ) (ls : List Line) → CanGoOn region partitions threads ls (Do thread op) p →
     HasPlayedTo region partitions threads (ls ++ Do thread op ∷ []) (record_of p thread answer ∷ []) p q
 
--- it was played with some answer, or none
+-- whatever lines led to p, after them the line was played, with some answer or with none
 abbrev pub GoesOnTo : Player → Line → Player → Type 0
 GoesOnTo p l q =
     (region partitions threads : ℕ) (ls : List Line) → CanGoOn region partitions threads ls l p →
@@ -81,12 +81,12 @@ ReadsOwn p thread (ops.Read reg place) answer =
     (i : ℕ) → register_at p thread reg ≡ Own i → place ≡ 0 → (seen : Seen) × (value : ℕ) × (answer ≡ Value seen value)
 ReadsOwn p thread op answer = Unit {0}
 
--- so does a line that is such a read
+-- a line that is a read of an owner's first word gives a value
 abbrev pub ReadsOwnOn : Player → Line → Option Answer → Type 0
 ReadsOwnOn p (Do thread op) (Some answer) = ReadsOwn p thread op answer
 ReadsOwnOn p l answer = Unit {0}
 
--- of these bytes some lines are read, and these were played
+-- the lines that were read of these bytes so far were played
 pub record IsPlayedUpTo (bytes : List ℕ) (u : Unread) (p : Player) : Type 0 where
   pub ls : List Line
   pub read : IsReadUpTo bytes ls u

@@ -7,11 +7,11 @@ use Rattle.pa_trace.specs.Limits.{most_partitions}
 abbrev pub no_tally : Tally
 no_tally = record { slots = 0; bytes = 0 }
 
--- the tally of partition q; past the last one no slots and no bytes
+-- the tally of partition q, with no slots and no bytes past the last one
 abbrev pub tally_at : List Tally → ℕ → Tally
 tally_at tallies q = slice_index_or tallies q no_tally
 
--- nothing in any of the four
+-- the tallies of all four partitions are empty
 pub record IsNone (tallies : List Tally) : Type 0 where
   pub four : length tallies ≡ most_partitions
   pub none : (q : ℕ) → q < most_partitions → tally_at tallies q ≡ no_tally

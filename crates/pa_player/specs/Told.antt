@@ -8,8 +8,8 @@ use Rattle.pa_record.specs.declared.root.RootEntry.{RootEntry}
 use Rattle.pa_record.specs.declared.run.Run.{Run}
 use Rattle.pa_run_writer.specs.Whole.{HasLists, IsTextOfLists}
 
--- The records, the journals by their partitions, the entries of the pool, the histories by their cells, the lines of the
--- report; and the number of the line that is played.
+-- The records, the journals by their partitions, the entries of the pool, the histories by their cells and the lines of the report, and
+-- the number of the line that is played.
 pub record Lists : Type 0 where
   pub entries : List Entry
   pub journals : List (List RootEntry)
@@ -18,15 +18,15 @@ pub record Lists : Type 0 where
   pub report : List ReportLine
   pub line : ℕ
 
--- the journal of partition q; an empty one past the last
+-- the journal of partition q, and an empty one past the last
 abbrev pub journal_in : Lists → ℕ → List RootEntry
 journal_in t q = slice_index_or t.journals q []
 
--- the history of cell k; an empty one past the last
+-- the history of cell k, and an empty one past the last
 abbrev pub history_in : Lists → ℕ → List CellEntry
 history_in t k = slice_index_or t.histories k []
 
--- one more entry of a journal, and of a history
+-- one more entry in the journal of partition q
 abbrev pub with_act : ℕ → RootEntry → Lists → Lists
 with_act q e t = record t { journals = slice_set t.journals q (journal_in t q ++ e ∷ []) }
 
@@ -43,6 +43,6 @@ told_before t = record t { journals = []; pools = []; histories = []; report = [
 abbrev pub IsToldRun : Lists → Run → Type 0
 IsToldRun t r = HasLists t.entries t.journals t.pools t.histories t.report r
 
--- the bytes are the text of a run that has them
+-- the bytes are the text of a run that has these lists
 abbrev pub IsToldText : Lists → List ℕ → Type 0
 IsToldText t bytes = IsTextOfLists t.entries t.journals t.pools t.histories t.report bytes

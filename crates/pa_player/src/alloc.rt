@@ -13,7 +13,6 @@ ghost use Rattle.pa_player.specs.Plays.{IsReady, Plays};
 ghost use Rattle.pa_player.specs.Tables.{HasNone};
 ghost use Rattle.pa_player.specs.Told.{journal_in, told_before};
 
-use crate::handle::Handle;
 use crate::output::Output;
 use crate::player::Player;
 use crate::table::{fits, name_of};
@@ -22,9 +21,10 @@ use arrayvec::ArrayVec;
 use pa_buckets::{Class, class_of, fill_count, raw_of};
 use pa_direct::{GREATEST_SIZE, Shape, shape};
 use pa_layout::super_page_of;
-use pa_machine::{OutOfMemory, Step, Title};
 use pa_place::Placed;
 use pa_record::{Act, Answer, Batch, LentSlots, PoolAct};
+use pa_rules::Register;
+use pa_slot::{OutOfMemory, Step, Title};
 
 // The bytes of a count word.
 pub(crate) const COUNT_WORD: u32 = 8;
@@ -42,12 +42,10 @@ impl<O: Output> Player<Told<O>> {
         ensures played { IfOk result (Plays self.old thread (ops.Alloc reg partition size) self.new) }
         ensures same { OnErr result (told_before self.new.told ≡ told_before self.old.told) }
     {
-        match self.register(thread, reg) {
-            Handle::Own(_) => Ok(Answer::Filled),
-            Handle::Ref(_) => Ok(Answer::Filled),
-            Handle::Empty => self.request(thread, reg, partition, size),
-            Handle::Freed => self.request(thread, reg, partition, size),
-            Handle::Cleared => self.request(thread, reg, partition, size),
+        if self.register(thread, reg).has_handle() {
+            Ok(Answer::Filled)
+        } else {
+            self.request(thread, reg, partition, size)
         }
     }
 
@@ -289,7 +287,7 @@ impl<O: Output> Player<Told<O>> {
         self.table.fill(place, 0);
         let slot = self.table.slot(place);
         let len = slot.title.len;
-        self.set_register(thread, reg, Handle::Own(place));
+        self.set_register(thread, reg, Register::Own(place));
         self.live.add(slot.partition, len);
         let usable = len - COUNT_WORD;
         Answer::Made { seen, usable }

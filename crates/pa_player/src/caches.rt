@@ -3,7 +3,7 @@ ghost use Rattle.pa_player.specs.Begun.{AreEmpty};
 ghost use Rattle.pa_player.specs.Lists.{IsFront};
 
 use crate::free_list::FreeList;
-use pa_machine::OutOfMemory;
+use pa_slot::OutOfMemory;
 use std::alloc::Global;
 use std::marker::Model;
 
@@ -50,7 +50,7 @@ impl Caches {
         self.lists[at].front()
     }
 
-    // Puts a slot at the front of a list, and at its end.
+    // Puts a slot at the front of a list.
     pub(crate) fn put(&mut self, at: usize, place: u32)
         requires among { at < length self.old }
         requires room { length (slice_index_or self.old at []) < 65 }
@@ -59,6 +59,7 @@ impl Caches {
         self.lists[at].put(place);
     }
 
+    // Puts a slot at the end of a list.
     pub(crate) fn push(&mut self, at: usize, place: u32)
         requires among { at < length self.old }
         requires room { length (slice_index_or self.old at []) < 65 }

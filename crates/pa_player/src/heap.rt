@@ -3,8 +3,8 @@ ghost use Rattle.pa_record.specs.Pool.{new_pool};
 ghost use Rattle.pa_player.specs.Begun.{AreNew};
 
 use crate::roots::Roots;
-use pa_machine::OutOfMemory;
 use pa_place::PoolPlan;
+use pa_slot::OutOfMemory;
 use std::alloc::Global;
 
 // The pool, and the root of each partition.

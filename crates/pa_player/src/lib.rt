@@ -5,7 +5,6 @@
 mod alloc;
 mod caches;
 mod free_list;
-mod handle;
 mod heap;
 mod output;
 mod phases;

@@ -3,9 +3,9 @@ ghost use Rattle.pa_player.specs.Begun.{AreEmpty};
 ghost use Rattle.pa_player.specs.Books.{Books, kept_acts, with_kept_act, with_kept_entry};
 
 use pa_dense::{DenseJournal, journals_of};
-use pa_machine::OutOfMemory;
 use pa_record::{Entry, Journal, LentEntry};
 use pa_run_writer::{Journals, Records};
+use pa_slot::OutOfMemory;
 use std::alloc::Global;
 
 /// Where a player sends its records and its journals. `books` is what it was sent.

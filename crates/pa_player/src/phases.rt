@@ -7,8 +7,8 @@ ghost use Rattle.pa_player.specs.Told.{told_before};
 use crate::output::Output;
 use crate::player::Player;
 use crate::told::Told;
-use pa_machine::OutOfMemory;
 use pa_record::ReportLine;
+use pa_slot::OutOfMemory;
 
 impl<O: Output> Player<Told<O>> {
     // Reports the heap of each partition at the end of a phase.

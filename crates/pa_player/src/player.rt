@@ -10,7 +10,6 @@ ghost use Rattle.pa_player.specs.Plays.{GoesTo, IsReady, Plays, ReadsOwn, ReadsO
 ghost use Rattle.pa_player.specs.Told.{told_before};
 
 use crate::caches::Caches;
-use crate::handle::Handle;
 use crate::heap::Heap;
 use crate::output::Output;
 use crate::registers::Registers;
@@ -18,8 +17,9 @@ use crate::table::Table;
 use crate::tallies::Tallies;
 use crate::told::Told;
 use pa_buckets::{CLASSES, Class};
-use pa_machine::{OutOfMemory, Title};
 use pa_record::Answer;
+use pa_rules::Register;
+use pa_slot::{OutOfMemory, Title};
 use pa_trace::{CELLS, Line, Op};
 use std::alloc::Global;
 
@@ -29,7 +29,7 @@ pub struct Player<T> {
     pub(crate) heap: Heap,
     pub(crate) table: Table,
     pub(crate) registers: Registers,
-    pub(crate) cells: [Handle; CELLS as usize],
+    pub(crate) cells: [Register<u32>; CELLS as usize],
     pub(crate) caches: Caches,
     pub(crate) live: Tallies,
     pub(crate) quarantined: Tallies,
@@ -57,7 +57,7 @@ impl<O: Output> Player<Told<O>> {
             heap: Heap::new(alloc, region, partitions)?,
             table: Table::new(alloc),
             registers: Registers::new(alloc, threads)?,
-            cells: [Handle::Empty; CELLS as usize],
+            cells: [Register::Empty; CELLS as usize],
             caches: Caches::new(alloc, threads * partitions * CLASSES)?,
             live: Tallies::new(),
             quarantined: Tallies::new(),
@@ -68,9 +68,9 @@ impl<O: Output> Player<Told<O>> {
         })
     }
 
-    /// Plays a line, and records its op. Returns its answer, and none of a line that begins a phase. Out of memory is the only
-    /// error; after it the player can't be used: it has the records that it had, but its journals, the entries of the pool, the
-    /// histories and the report may go on.
+    /// Plays a line, and records its op. Returns its answer, and none of a line that begins a phase. Out of memory is the only error.
+    /// After it the player can't be used: it has the records that it had, but its journals, the entries of the pool, the histories and
+    /// the report may go on.
     pub fn line(&mut self, line: Line) -> Result<Option<Answer>, OutOfMemory>
         requires { IsReady line self.old }
         ensures played { IfOk result (λ answer. GoesTo self.old line answer self.new) }
@@ -152,19 +152,16 @@ impl<O: Output> Player<Told<O>> {
         ensures { result ≡ title_owned self.now.table (register_at self.now thread reg) }
     {
         match self.register(thread, reg) {
-            Handle::Own(place) => {
+            Register::Own(place) => {
                 let slot = self.table.slot(place);
                 Some((slot.title, slot.partition))
             }
-            Handle::Empty => None,
-            Handle::Ref(_) => None,
-            Handle::Freed => None,
-            Handle::Cleared => None,
+            Register::Empty | Register::Ref(_) | Register::Freed | Register::Cleared => None,
         }
     }
 
     // What a register of a thread holds.
-    pub(crate) fn register(&self, thread: u32, reg: u32) -> Handle
+    pub(crate) fn register(&self, thread: u32, reg: u32) -> Register<u32>
         requires thread { thread < length self.now.registers }
         requires reg { reg < register_count }
         ensures { result ≡ register_at self.now thread reg }
@@ -173,7 +170,7 @@ impl<O: Output> Player<Told<O>> {
     }
 
     // Sets a register of a thread.
-    pub(crate) fn set_register(&mut self, thread: u32, reg: u32, holds: Handle)
+    pub(crate) fn set_register(&mut self, thread: u32, reg: u32, holds: Register<u32>)
         requires thread { thread < length self.old.registers }
         requires reg { reg < register_count }
         ensures { self.new ≡ registered thread reg holds self.old }

@@ -13,8 +13,8 @@ use crate::output::Output;
 use crate::player::Player;
 use crate::told::Told;
 use pa_buckets::{CLASSES, Class};
-use pa_machine::OutOfMemory;
 use pa_record::{Act, Answer};
+use pa_slot::OutOfMemory;
 
 impl<O: Output> Player<Told<O>> {
     // Gives back all that the thread's caches have, and decommits the empty spans.
@@ -30,7 +30,8 @@ impl<O: Output> Player<Told<O>> {
         Ok(Answer::Purged { slots })
     }
 
-    // The same in one partition. Returns how many slots were given back.
+    // Purges one partition: gives back all that the thread's lists of it have, and decommits its empty spans. Returns how many slots were
+    // given back.
     fn purge_one(&mut self, thread: u32, partition: u32) -> Result<u32, OutOfMemory>
         requires { CanPurgeOne thread partition self.old }
         ensures slots { IfOk result (λ n. n ≡ listed_slots (caches self.old thread partition) 0 class_count) }

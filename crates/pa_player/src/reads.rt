@@ -6,12 +6,12 @@ ghost use Rattle.pa_player.specs.Changes.{Reads};
 ghost use Rattle.pa_player.specs.Plays.{IsReady, Plays, ReadsOwn};
 
 use crate::alloc::COUNT_WORD;
-use crate::handle::Handle;
 use crate::output::Output;
 use crate::player::Player;
 use crate::told::Told;
-use pa_machine::{POISON, held};
 use pa_record::Answer;
+use pa_rules::looked_read;
+use pa_slot::{POISON, held};
 
 // The bytes of a word of the content.
 const WORD_BYTES: u32 = 8;
@@ -23,12 +23,9 @@ impl<O: Output> Player<Told<O>> {
         ensures played { Plays self.now thread (ops.Read reg word) self.now result }
         ensures owned { ReadsOwn self.now thread (ops.Read reg word) result }
     {
-        match self.register(thread, reg) {
-            Handle::Empty => Answer::Nothing,
-            Handle::Own(place) => self.read_from(place, word),
-            Handle::Ref(place) => self.read_from(place, word),
-            Handle::Freed => Answer::StaleUse { seen: None },
-            Handle::Cleared => Answer::StaleUse { seen: None },
+        match self.register(thread, reg).for_read() {
+            Ok(place) => self.read_from(place, word),
+            Err(refusal) => refusal,
         }
     }
 
@@ -42,12 +39,11 @@ impl<O: Output> Player<Told<O>> {
             return Answer::OutOfRange;
         }
         let seen = self.table.seen(place);
-        if held(seen.found) {
-            let value = slot.content;
-            Answer::Value { seen, value }
+        let value = if held(seen.found) {
+            slot.content
         } else {
-            let value = POISON;
-            Answer::Dangling { seen, value }
-        }
+            POISON
+        };
+        looked_read(seen, value)
     }
 }

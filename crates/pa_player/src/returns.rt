@@ -12,8 +12,8 @@ use crate::told::Told;
 use arrayvec::ArrayVec;
 use pa_buckets::{Class, cache_limit};
 use pa_layout::{super_page_of, supers_for};
-use pa_machine::{OutOfMemory, Title};
 use pa_record::{Act, Batch, LentSlots, PoolAct};
+use pa_slot::{OutOfMemory, Title};
 
 // The most slots that go back to a root at once.
 const BATCH: usize = 16;

@@ -13,9 +13,9 @@ ghost use Rattle.pa_player.specs.Begun.{AreNew};
 
 use arrayvec::ArrayVec;
 use pa_buckets::Class;
-use pa_machine::{OutOfMemory, Title};
 use pa_place::{Placed, Placement, PoolPlan};
 use pa_record::Census;
+use pa_slot::{OutOfMemory, Title};
 use std::alloc::Global;
 use std::marker::Model;
 

@@ -1,23 +1,23 @@
 ghost use Rattle.std.specs.Prelude.{◌≡◌, ◌<◌, IfOk, OnOk, OnErr, length};
-ghost use Rattle.pa_machine.specs.Count.{CanStep};
-ghost use Rattle.pa_machine.specs.declared.word.Step.TheVariants as steps;
+ghost use Rattle.pa_slot.specs.Count.{CanStep};
+ghost use Rattle.pa_slot.specs.declared.word.Step.TheVariants as steps;
 ghost use Rattle.pa_record.specs.declared.entry.Answer.TheVariants as answers;
 ghost use Rattle.pa_trace.specs.declared.script.Op.TheVariants as ops;
 ghost use Rattle.pa_trace.specs.declared.script.Line.TheVariants.{Do};
+ghost use Rattle.pa_rules.specs.declared.register.Register.TheVariants.{Ref};
 ghost use Rattle.pa_player.specs.Asks.{CanCopy, CanFree, CanReset, CanWrite};
-ghost use Rattle.pa_player.specs.Changes.{Copies, Frees, LooksAt, Resets, Writes, registered, seen_at, stepped_at};
+ghost use Rattle.pa_player.specs.Changes.{Copies, Frees, Resets, Writes, registered, seen_at, stepped_at};
 ghost use Rattle.pa_player.specs.Playing.{register_at};
 ghost use Rattle.pa_player.specs.Plays.{IsReady, Plays};
 ghost use Rattle.pa_player.specs.Tables.{slot_at};
 ghost use Rattle.pa_player.specs.Told.{told_before};
-ghost use Rattle.pa_player.specs.declared.handle.Handle.TheVariants.{Ref};
 
-use crate::handle::Handle;
 use crate::output::Output;
 use crate::player::Player;
 use crate::told::Told;
-use pa_machine::{OutOfMemory, Step, held, refs};
 use pa_record::Answer;
+use pa_rules::{Next, Register, looked_free, looked_write};
+use pa_slot::{OutOfMemory, Step, refs, returns};
 
 impl<O: Output> Player<Told<O>> {
     // A copy of a handle.
@@ -25,26 +25,21 @@ impl<O: Output> Player<Told<O>> {
         requires { IsReady (Do thread (ops.Copy from to)) self.old }
         ensures { Plays self.old thread (ops.Copy from to) self.new result }
     {
-        match self.register(thread, from) {
-            Handle::Empty => Answer::Nothing,
-            Handle::Own(place) => self.copy_to(thread, place, to),
-            Handle::Ref(place) => self.copy_to(thread, place, to),
-            Handle::Freed => Answer::StaleUse { seen: None },
-            Handle::Cleared => Answer::StaleUse { seen: None },
+        match self.register(thread, from).for_copy() {
+            Ok(place) => self.copy_to(thread, place, to),
+            Err(refusal) => refusal,
         }
     }
 
     // A copy of a handle of this slot, if the second register has none.
     fn copy_to(&mut self, thread: u32, place: u32, to: u32) -> Answer
         requires { CanCopy thread to place self.old }
-        ensures { Copies thread to place (register_at self.old thread to) self.old self.new result }
+        ensures { Copies thread to place self.old self.new result }
     {
-        match self.register(thread, to) {
-            Handle::Own(_) => Answer::Filled,
-            Handle::Ref(_) => Answer::Filled,
-            Handle::Empty => self.point(thread, place, to),
-            Handle::Freed => self.point(thread, place, to),
-            Handle::Cleared => self.point(thread, place, to),
+        if self.register(thread, to).has_handle() {
+            Answer::Filled
+        } else {
+            self.point(thread, place, to)
         }
     }
 
@@ -56,7 +51,7 @@ impl<O: Output> Player<Told<O>> {
         ensures pointed { self.new ≡ registered thread to (Ref place) (stepped_at steps.Copy place self.old) }
     {
         let seen = self.table.step(place, Step::Copy);
-        self.set_register(thread, to, Handle::Ref(place));
+        self.set_register(thread, to, Register::Ref(place));
         Answer::Done { seen }
     }
 
@@ -66,12 +61,9 @@ impl<O: Output> Player<Told<O>> {
         ensures played { IfOk result (Plays self.old thread (ops.Reset reg) self.new) }
         ensures same { OnErr result (told_before self.new.told ≡ told_before self.old.told) }
     {
-        match self.register(thread, reg) {
-            Handle::Empty => Ok(Answer::Nothing),
-            Handle::Own(_) => Ok(Answer::NotRef),
-            Handle::Ref(place) => self.clear(thread, reg, place),
-            Handle::Freed => Ok(Answer::NotRef),
-            Handle::Cleared => Ok(Answer::StaleReset),
+        match self.register(thread, reg).for_reset() {
+            Ok(place) => self.clear(thread, reg, place),
+            Err(refusal) => Ok(refusal),
         }
     }
 
@@ -83,8 +75,8 @@ impl<O: Output> Player<Told<O>> {
         ensures same { OnErr result (told_before self.new.told ≡ told_before self.old.told) }
     {
         let seen = self.table.step(place, Step::Reset);
-        self.set_register(thread, reg, Handle::Cleared);
-        if !held(seen.found) && refs(seen.found) == 1 {
+        self.set_register(thread, reg, Register::Cleared);
+        if returns(Step::Reset, seen.found) {
             let slot = self.table.slot(place);
             let len = u64::from(slot.title.len);
             self.quarantined.remove(slot.partition, 1, len);
@@ -99,12 +91,10 @@ impl<O: Output> Player<Told<O>> {
         ensures played { IfOk result (Plays self.old thread (ops.Free reg) self.new) }
         ensures same { OnErr result (told_before self.new.told ≡ told_before self.old.told) }
     {
-        match self.register(thread, reg) {
-            Handle::Empty => Ok(Answer::Nothing),
-            Handle::Own(place) => self.free_owned(thread, reg, place),
-            Handle::Ref(place) => Ok(self.free_through(place)),
-            Handle::Freed => Ok(Answer::SecondFree { seen: None }),
-            Handle::Cleared => Ok(Answer::StaleUse { seen: None }),
+        match self.register(thread, reg).for_free() {
+            Next::Refused(refusal) => Ok(refusal),
+            Next::Step(place) => self.free_owned(thread, reg, place),
+            Next::Look(place) => Ok(looked_free(self.table.seen(place))),
         }
     }
 
@@ -116,11 +106,11 @@ impl<O: Output> Player<Told<O>> {
         ensures same { OnErr result (told_before self.new.told ≡ told_before self.old.told) }
     {
         let seen = self.table.step(place, Step::Free);
-        self.set_register(thread, reg, Handle::Freed);
+        self.set_register(thread, reg, Register::Freed);
         let slot = self.table.slot(place);
         let len = slot.title.len;
         self.live.remove(slot.partition, 1, u64::from(len));
-        if refs(seen.found) == 0 {
+        if returns(Step::Free, seen.found) {
             self.take_back(thread, place)?;
         } else {
             self.quarantined.add(slot.partition, len);
@@ -128,30 +118,15 @@ impl<O: Output> Player<Told<O>> {
         Ok(Answer::Done { seen })
     }
 
-    // A free through a `raw_ptr`: a second free if the slot was freed before, else a free by a non-owner.
-    fn free_through(&self, place: u32) -> Answer
-        requires { place < length self.now.table }
-        ensures { LooksAt place (answers.SecondFree (Some (seen_at self.now.table place))) self.now result }
-    {
-        let seen = self.table.seen(place);
-        if held(seen.found) {
-            Answer::NotOwner { seen }
-        } else {
-            Answer::SecondFree { seen: Some(seen) }
-        }
-    }
-
     // A write, which through a `raw_ptr` only looks.
     pub(crate) fn write(&mut self, thread: u32, reg: u32, value: u64) -> Answer
         requires { IsReady (Do thread (ops.Write reg value)) self.old }
         ensures { Plays self.old thread (ops.Write reg value) self.new result }
     {
-        match self.register(thread, reg) {
-            Handle::Empty => Answer::Nothing,
-            Handle::Own(place) => self.write_owned(place, value),
-            Handle::Ref(place) => self.write_through(place),
-            Handle::Freed => Answer::StaleUse { seen: None },
-            Handle::Cleared => Answer::StaleUse { seen: None },
+        match self.register(thread, reg).for_write() {
+            Next::Refused(refusal) => refusal,
+            Next::Step(place) => self.write_owned(place, value),
+            Next::Look(place) => looked_write(self.table.seen(place)),
         }
     }
 
@@ -167,18 +142,5 @@ impl<O: Output> Player<Told<O>> {
         self.table.step(place, Step::Write);
         self.table.fill(place, value);
         Answer::Done { seen }
-    }
-
-    // A write through a `raw_ptr`: a stale use if the slot was freed, else a write by a non-owner.
-    fn write_through(&self, place: u32) -> Answer
-        requires { place < length self.now.table }
-        ensures { LooksAt place (answers.StaleUse (Some (seen_at self.now.table place))) self.now result }
-    {
-        let seen = self.table.seen(place);
-        if held(seen.found) {
-            Answer::NotOwner { seen }
-        } else {
-            Answer::StaleUse { seen: Some(seen) }
-        }
     }
 }

@@ -7,12 +7,12 @@ ghost use Rattle.pa_player.specs.Plays.{IsReady, Plays};
 ghost use Rattle.pa_player.specs.Tables.{handle_in};
 ghost use Rattle.pa_player.specs.Told.{history_in};
 
-use crate::handle::Handle;
 use crate::output::Output;
 use crate::player::Player;
 use crate::told::Told;
-use pa_machine::OutOfMemory;
 use pa_record::Answer;
+use pa_rules::Register;
+use pa_slot::OutOfMemory;
 
 impl<O: Output> Player<Told<O>> {
     // An exchange with a cell: it gets the register's handle, and the register what it held.
@@ -44,14 +44,12 @@ impl<O: Output> Player<Told<O>> {
 }
 
 // The handle that a register has, or none.
-fn handle_in(register: Handle) -> Handle
+fn handle_in(register: Register<u32>) -> Register<u32>
     ensures { result ≡ handle_in register }
 {
-    match register {
-        Handle::Empty => Handle::Empty,
-        Handle::Own(place) => Handle::Own(place),
-        Handle::Ref(place) => Handle::Ref(place),
-        Handle::Freed => Handle::Empty,
-        Handle::Cleared => Handle::Empty,
+    if register.has_handle() {
+        register
+    } else {
+        Register::Empty
     }
 }

@@ -1,12 +1,12 @@
 ghost use Rattle.std.specs.Prelude.{◌≡◌, ◌<◌, ◌++◌, [], IfOk, OnErr, length, slice_set};
-ghost use Rattle.pa_machine.specs.Count.{CanStep, number_of, stepped};
+ghost use Rattle.pa_slot.specs.Count.{CanStep, number_of, stepped};
 ghost use Rattle.pa_record.specs.Spans.{name_of};
 ghost use Rattle.pa_player.specs.Tables.{slot_at, named_at, key_of, new_slot, AreNamed, IsHome, held_of, IsIn};
 
-use crate::handle::Handle;
 use pa_buckets::Class;
-use pa_machine::{OutOfMemory, SlotName, Step, Title, Word, apply, number};
 use pa_record::{Held, Numbered, Seen};
+use pa_rules::Register;
+use pa_slot::{OutOfMemory, SlotName, Step, Title, Word, apply, number};
 use std::alloc::Global;
 use std::collections::HashMap;
 use std::marker::Model;
@@ -22,8 +22,7 @@ pub(crate) struct Slot {
     pub(crate) content: u64,
 }
 
-// Every slot that ever left a root, in the order in which they first did. It is seen as the list of them; by its name each
-// is found.
+// Every slot that ever left a root, in the order in which they first did. It is seen as the list of them, and finds each by its name.
 #[derive(Drop)]
 pub(crate) struct Table {
     slots: Vec<Slot>,
@@ -151,16 +150,14 @@ impl Table {
     }
 
     // How a handle is reported.
-    pub(crate) fn told(&self, handle: Handle) -> Held
+    pub(crate) fn told(&self, handle: Register<u32>) -> Held
         requires among { IsIn (length self.now) handle }
         ensures told { result ≡ held_of self.now handle }
     {
         match handle {
-            Handle::Empty => Held::Nothing,
-            Handle::Own(place) => Held::Own(name_of(self.slots[place as usize].title)),
-            Handle::Ref(place) => Held::Ref(name_of(self.slots[place as usize].title)),
-            Handle::Freed => Held::Nothing,
-            Handle::Cleared => Held::Nothing,
+            Register::Own(place) => Held::Own(name_of(self.slots[place as usize].title)),
+            Register::Ref(place) => Held::Ref(name_of(self.slots[place as usize].title)),
+            Register::Empty | Register::Freed | Register::Cleared => Held::Nothing,
         }
     }
 }
@@ -173,7 +170,7 @@ pub(crate) fn fits(number: u32)
     let _number = number;
 }
 
-// The name of a title, and as one number.
+// The name of a title.
 pub(crate) fn name_of(title: Title) -> SlotName
     ensures { result ≡ name_of title }
 {
@@ -183,6 +180,7 @@ pub(crate) fn name_of(title: Title) -> SlotName
     }
 }
 
+// A slot's name as one number.
 fn key_of(name: SlotName) -> u64
     ensures { result ≡ key_of name }
 {

@@ -21,7 +21,7 @@ impl Tallies {
         }
     }
 
-    // One more slot of `len` bytes, and that many slots and bytes less.
+    // One more slot of `len` bytes.
     pub(crate) fn add(&mut self, partition: u32, len: u32)
         requires partition { partition < most_partitions }
         requires slots { (tally_at self.old.of partition).slots < 2 ^ 32 }
@@ -34,6 +34,7 @@ impl Tallies {
         tally.bytes += u64::from(len);
     }
 
+    // That many slots and bytes less.
     pub(crate) fn remove(&mut self, partition: u32, slots: u64, bytes: u64)
         requires partition { partition < most_partitions }
         requires slots { slots ≤ (tally_at self.old.of partition).slots }

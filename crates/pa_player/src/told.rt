@@ -8,11 +8,11 @@ ghost use Rattle.pa_player.specs.Begun.{IsUntold};
 
 use crate::output::{ListOutput, Output, TextOutput};
 use pa_buckets::Class;
-use pa_machine::OutOfMemory;
 use pa_record::{
     Act, Answer, CellEntry, Entry, Held, History, LentEntry, PoolAct, PoolEntry, ReportLine, Run,
 };
 use pa_run_writer::run_text;
+use pa_slot::OutOfMemory;
 use pa_trace::CELLS;
 use std::alloc::Global;
 use std::marker::Model;

@@ -5,7 +5,7 @@ use Rattle.std.proofs.lemmas.Bool.{eq-eqb}
 use Rattle.std.proofs.lemmas.Bool.Decides.{eqb_tells}
 use Rattle.std.proofs.lemmas.List.{length-map}
 use Rattle.std.proofs.lemmas.Option.{slice_get-map, slice_get-get_or, get_or_from_slice_get}
-use Rattle.pa_machine.specs.Holdings.{FreeTitle, OwnOf, RefOf, one}
+use Rattle.pa_slot.specs.Holdings.{FreeTitle, OwnOf, RefOf, one}
 use Rattle.pa_record.specs.declared.taken.Taken.{Taken}
 use Rattle.pa_record.specs.declared.pool.PoolEntry.{PoolEntry}
 use Rattle.pa_record.specs.declared.pool.PoolAct.TheVariants.{Take}
@@ -40,7 +40,7 @@ is_out supers taken es h note u sound aware parted lease =
     let z : one (eqb taken taken) ≡ 1 = ap one (eq-eqb taken taken refl) in
     elim (out_cases (pool_after es supers) taken) [ inl is ↦ is | inr none ↦ let l = sound.here taken none in absurd (omega arith) ]
 
--- and its entry is in the list, with what it found
+-- the entry of a run that is still taken is in the list, with what it found
 pub out_found : (supers taken : ℕ) (es : List PoolEntry) (h : View) → IsPoolSound supers es h → (is : IsEntryOut (pool_after es supers) taken) → FoundRun es taken is.0.count is.0.first
 out_found supers taken es h sound is =
     subst (λ (n : ℕ). FoundRun es n is.0.count is.0.first) is.2 ((sound_state supers es sound.pool).found is.0 is.1).1
@@ -191,7 +191,7 @@ give_ends line partition supers taken first count from of r es h note u w seat s
     (take_entry seen.0 partition of (Some from), ap (λ n. slice_get es n) out.2 ∙ seen.1, refl) in
     (gave_sound line partition supers taken first count es h note u w m sound parted run out found owned same (made_by r (give_entry line partition count first) seat seat_now u w m noted hosts), same, one)
 
--- and what the call ensures
+-- what the call that gives ensures
 pub given_so : (line partition taken first count from of index : ℕ) (u : View) (a b host : Share) (p q z : PoolValue) (m : Made) → IsAsBefore p q → index ≡ length q.entries →
     FoundRun q.entries taken count first → of ≡ count → from ≡ first → IsNoted (least_stake a.view.stakes) 4 (pool_numbers (give_entry line partition count first)) a.view b.view u host.view m →
     list_of 4 u ≡ list_of 4 q.view → z.entries ≡ q.entries ++ give_entry line partition count first ∷ [] → z.supers ≡ q.supers → list_of 4 z.view ≡ list_of 4 host.view →

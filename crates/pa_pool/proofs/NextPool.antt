@@ -77,7 +77,7 @@ entered r e v w u host p q z m same noted stays grown supers list = record {
   known = noted.known;
 }
 
--- and a take
+-- what the call that takes ensures
 pub taken_so : (line partition count : ℕ) (found : Option ℕ) (index : ℕ) (a b host : Share) (p q z : PoolValue) → IsAsBefore p q → index ≡ length q.entries →
     IsLowest (pool_after q.entries q.supers) count found → (m : Made) → IsNoted (least_stake a.view.stakes) 4 (pool_numbers (take_entry line partition count found)) a.view b.view q.view host.view m →
     z.entries ≡ q.entries ++ take_entry line partition count found ∷ [] → z.supers ≡ q.supers → list_of 4 z.view ≡ list_of 4 host.view → IsTaken line partition count found index a b p z
@@ -88,7 +88,7 @@ taken_so line partition count found index a b host p q z same place lowest m not
   stands = last_stands q.entries z.entries (take_entry line partition count found) index grown place;
 }
 
--- so the caller has seen it
+-- the caller of a take has seen its entry
 pub taken_seen : (line partition count first index supers r : ℕ) (es : List PoolEntry) (v w h host : View) (m : Made) → IsPoolSound supers es h →
     IsNoted r 4 (pool_numbers (take_entry line partition count (Some first))) v w h host m → index ≡ length es → HasSeenTake partition index first count w
 taken_seen line partition count first index supers r es v w h host m sound noted place =

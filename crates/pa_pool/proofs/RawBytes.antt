@@ -3,7 +3,7 @@ use Rattle.std.proofs.Common.{◌≡◌, ℕ, ◌+◌, ◌*◌, ◌<◌, ◌≤�
 use Rattle.std.specs.List.{sum_by, filter}
 use Rattle.std.proofs.lemmas.List.Sums.{sum_by-cons, sum_by-append, sum_by-le-sum_by}
 use Rattle.std.proofs.lemmas.Bool.{cases_lt, le-leb, lt-leb, true≢false}
-use Rattle.pa_machine.specs.Holdings.{RawByte, FreeTitle, OwnOf, RefOf, one, amount}
+use Rattle.pa_slot.specs.Holdings.{RawByte, FreeTitle, OwnOf, RefOf, one, amount}
 use Rattle.pa_region.specs.declared.view.RawRange.{RawRange}
 use Rattle.pa_region.specs.declared.view.Stake.{Stake}
 use Rattle.pa_region.specs.declared.view.View.{View}
@@ -73,12 +73,12 @@ given_other first count index v b out =
 pub given_raw : (first count index floor b : ℕ) (v : View) → IsByteOf first count b → 0 < low_of v b floor → 0 < low_of (given_after (run_parcel first count index) v) b floor
 given_raw first count index floor b v within has = let e = given_low first count index b floor v within in omega arith
 
--- and other bytes stay as they were
+-- bytes outside of the run stay as they were with the giver
 pub left_raw : (first count index floor b : ℕ) (v : View) → IsParted v (left_after (run_parcel first count index) v) (given_after (run_parcel first count index) v) →
     (IsByteOf first count b → ⊥) → low_of (left_after (run_parcel first count index) v) b floor ≡ low_of v b floor
 left_raw first count index floor b v parted out = let e = other_low first count index b floor v out in let f = parted.floors b floor in omega arith
 
--- it has this lease alone, and no keeper
+-- the note of a run has this lease alone
 pub given_lease : (first count index n : ℕ) (v : View) → lease_of (given_after (run_parcel first count index) v) n ≡ one (eqb index n)
 given_lease first count index n v = let c = sum_by-cons (λ l. one (eqb l n)) index [] in omega arith
 

@@ -56,7 +56,7 @@ byte_cases first count b = elim (cases_lt b (2097152 * first)) [
   ]
 ]
 
--- and then before it or after it
+-- a byte that isn't of a run is before it or after it
 pub byte_apart : (first count b : ℕ) → (IsByteOf first count b → ⊥) → (b < 2097152 * first) ⊎ (2097152 * first + 2097152 * count ≤ b)
 byte_apart first count b out = elim (cases_lt b (2097152 * first)) [
   | inl y ↦ inl y

@@ -3,7 +3,7 @@ use Rattle.std.proofs.Common.{◌≡◌, ℕ, ◌+◌, ◌<◌, ◌≤◌, List,
 use Rattle.std.proofs.lemmas.Bool.{eq-eqb}
 use Rattle.std.proofs.lemmas.Bool.Decides.{eqb_tells}
 use Rattle.std.proofs.lemmas.List.Elements.{Contains-push_cases}
-use Rattle.pa_machine.specs.Holdings.{one}
+use Rattle.pa_slot.specs.Holdings.{one}
 use Rattle.pa_record.specs.declared.taken.Taken.{Taken}
 use Rattle.pa_record.specs.declared.pool.PoolEntry.{PoolEntry}
 use Rattle.pa_record.specs.Pool.{IsFreeRun, IsLowest, took}
@@ -69,7 +69,7 @@ module _ (line partition count supers : ℕ) (es : List PoolEntry) (h w : View) 
       let l = sound.here (length es) (λ is. let z = out_below supers es (length es) sound.pool is in omega arith) in
       let e = keeps.leases (length es) in omega arith
 
-  -- so what it found can be handed over
+  -- what a take found can be handed over
   pub can_part : (first : ℕ) → IsPoolSound supers es h → IsFreeRun (pool_after es supers) count first → Keeps h w → CanHand (run_parcel first count (length es)) w
   can_part first sound run keeps = handed.able first count (length es) (length es) w (λ b within. low_here first b sound run keeps within) (next_lease sound keeps)
 
@@ -146,7 +146,7 @@ module _ (line partition count supers : ℕ) (es : List PoolEntry) (h w : View) 
             let a = made.keeps.keepers k in let z = sound.more.keepers k ne in omega arith;
       })
 
-  -- the same of the views that the call leaves
+  -- what a take ensures, of the views that the call leaves
   pub take_ends : (first index : ℕ) (l g : View) → l ≡ left_after (run_parcel first count index) w → g ≡ given_after (run_parcel first count index) w → index ≡ length es → IsParted w l g →
       IsPoolSound supers es h → 1 ≤ count → IsLowest (pool_after es supers) count (Some first) → IsMadeBy (take_entry line partition count (Some first)) h w m → IsAware w →
       IsPoolSound supers (es ++ take_entry line partition count (Some first) ∷ []) l × (HasRun first count index index g × HasNoOther first count g) × (list_of 4 g ≡ list_of 4 l) × (list_of 4 l ≡ list_of 4 w)

@@ -1,8 +1,8 @@
 -- What the pool's calls require and ensure.
 use Rattle.std.specs.Prelude.{◌≡◌, ℕ, ◌+◌, ◌*◌, ◌<◌, ◌≤◌, [], ◌∷◌, ◌++◌, ◌==◌, length, Option, Some, None, slice_get}
-use Rattle.pa_machine.specs.declared.title.Title.{Title}
+use Rattle.pa_slot.specs.declared.title.Title.{Title}
 use Rattle.pa_machine.specs.declared.event.Item.TheVariants.{Raw}
-use Rattle.pa_machine.specs.Holdings.{RawByte, one}
+use Rattle.pa_slot.specs.Holdings.{RawByte, one}
 use Rattle.pa_record.specs.declared.pool.PoolEntry.{PoolEntry}
 use Rattle.pa_record.specs.declared.pool.PoolAct.TheVariants.{Take, Give}
 use Rattle.pa_record.specs.Pool.{IsLowest, FoundRun}
@@ -21,7 +21,7 @@ use Rattle.pa_pool.specs.declared.fault.PoolFault.{PoolFault}
 use Rattle.pa_pool.specs.declared.fault.PoolFault.TheVariants.{NoRoom, OutOfMemory}
 use Rattle.pa_pool.specs.Pools.{PoolValue, pool_after, IsByteOf, HasNoTitle}
 
--- the entry of a take of `count` super pages that found those from here on, or none; and the entry of a give
+-- the entry of a take of `count` super pages that found those from this one on, or none
 abbrev pub take_entry : (line partition count : ℕ) → Option ℕ → PoolEntry
 take_entry line partition count found = record { line = line; partition = partition; act = Take count found }
 
@@ -29,8 +29,8 @@ take_entry line partition count found = record { line = line; partition = partit
 abbrev pub give_entry : (line partition count first : ℕ) → PoolEntry
 give_entry line partition count first = record { line = line; partition = partition; act = Give count first }
 
--- The pool made the entry e, with the stake r that the caller lent: as m it is at the end of the pool's list, which both
--- have seen whole, and in the stake's log; and it carries all that the caller had seen, and nothing that it hasn't seen now.
+-- The pool made the entry e, with the stake r that the caller lent. As m it is at the end of the pool's list, which both seats have
+-- seen whole, and in the stake's log. It carries all that the caller had seen, and nothing that the caller hasn't seen now.
 pub record IsEntered (r : ℕ) (e : PoolEntry) (seat seat_now : View) (pool pool_now : PoolValue) (m : Made) : Type 0 where
   pub entries : pool_now.entries ≡ pool.entries ++ e ∷ []
   pub supers : pool_now.supers ≡ pool.supers
@@ -42,7 +42,7 @@ pub record IsEntered (r : ℕ) (e : PoolEntry) (seat seat_now : View) (pool pool
   pub before : (t : Title) → seen_of seat t ≤ seen_among t m.seen
   pub known : (t : Title) → seen_among t m.seen ≤ seen_of seat_now t
 
--- the same for seats before and after: with the caller's least stake
+-- The pool made the entry e with the least stake of the caller, by the seats and the pool before and after.
 abbrev pub Enters : PoolEntry → (seat seat_now : Share) → (pool pool_now : PoolValue) → Type 0
 Enters e a b p q = (m : Made) × IsEntered (least_stake a.view.stakes) e a.view b.view p q m
 
@@ -50,8 +50,8 @@ Enters e a b p q = (m : Made) × IsEntered (least_stake a.view.stakes) e a.view 
 abbrev pub HasRaw : (first count floor : ℕ) → View → Type 0
 HasRaw first count floor v = (b : ℕ) → IsByteOf first count b → 0 < low_of v b floor
 
--- The view has the `count` super pages from `first` on as raw, with floors of at most `floor`, and the lease n; and, but for
--- raw bytes, nothing else.
+-- The view has the `count` super pages from `first` on as raw, with floors of at most `floor`, and the lease n. But for raw bytes it
+-- has nothing else.
 pub record HasRun (first count floor n : ℕ) (v : View) : Type 0 where
   pub raw : HasRaw first count floor v
   pub leases : (m : ℕ) → lease_of v m ≡ one (n == m)
@@ -77,8 +77,8 @@ pub record IsTaken (line partition count : ℕ) (found : Option ℕ) (index : �
   pub entered : Enters (take_entry line partition count found) seat seat_now pool pool_now
   pub stands : slice_get pool_now.entries index ≡ Some (take_entry line partition count found)
 
--- The note of a take, entry `index`, that found the super pages from `first` on: it has them, with floors of at most the
--- index, and that lease, and nothing else; and it has seen the pool's whole list.
+-- The note of a take, entry `index`, that found the super pages from `first` on. It has them, with floors of at most the index, and
+-- that lease, and nothing else. It has seen the pool's whole list.
 pub record IsNoteOf (first count index : ℕ) (note : View) (pool_now : PoolValue) : Type 0 where
   pub run : HasRun first count index index note
   pub only : HasNoOther first count note
@@ -90,7 +90,7 @@ pub record IsAsBefore (pool pool_now : PoolValue) : Type 0 where
   pub entries : pool_now.entries ≡ pool.entries
   pub supers : pool_now.supers ≡ pool.supers
 
--- a take that gave none: there are none, as an entry says; or it ran out of memory, and nothing changed
+-- A take gave no super pages. There are none, as entry `index` says, or it ran out of memory, and nothing changed.
 abbrev pub Refused : (line partition count : ℕ) → (seat seat_now : Share) → (pool pool_now : PoolValue) → PoolFault → Type 0
 Refused line partition count a b p q (NoRoom index) = IsTaken line partition count None index a b p q
 Refused line partition count a b p q OutOfMemory = IsAsBefore p q × (b ≡ a)
@@ -103,13 +103,13 @@ pub record HasSeenTake (partition taken first count : ℕ) (v : View) : Type 0 w
   pub stands : slice_get (list_of 4 v) taken ≡ Some made
   pub says : made.numbers ≡ pool_numbers (take_entry line partition count (Some first))
 
--- What comes back with a note is what entry `taken` took: the seat has seen that entry, and the note has its lease and its super
+-- What comes back with a note is what entry `taken` took. The seat has seen that entry, and the note has its lease and its super
 -- pages, with floors of at most `taken` + 1.
 pub record ComesBack (partition taken first count : ℕ) (seat note : View) : Type 0 where
   pub seen : HasSeenTake partition taken first count seat
   pub run : HasRun first count (taken + 1) taken note
 
--- It was given back, as the new entry, with this index, says.
+-- What entry `taken` took was given back, as the new entry with this index says.
 pub record IsGivenBack (line partition taken first count index : ℕ)
     (seat seat_now : Share) (pool pool_now : PoolValue) : Type 0 where
   pub place : index ≡ length pool.entries
@@ -117,14 +117,14 @@ pub record IsGivenBack (line partition taken first count index : ℕ)
   pub entered : Enters (give_entry line partition count first) seat seat_now pool pool_now
   pub stands : slice_get pool_now.entries index ≡ Some (give_entry line partition count first)
 
--- a take that a view has seen it still has seen when it has seen more of the list
+-- a view that has seen a take still has seen it when it has seen more of the list
 abbrev pub SeenTakesStay : Type 0
 SeenTakesStay =
     (partition taken first count : ℕ) (v w : View) → IsBeginning (list_of 4 v) (list_of 4 w) → HasSeenTake partition taken first count v →
     HasSeenTake partition taken first count w
 
--- A view that has super pages as raw, and a lease, can hand them over. The note then has them, with floors that are no
--- higher, and the lease, and nothing else; and the giver has the other bytes and the other leases as before.
+-- A view that has super pages as raw, and a lease, can hand them over. The note then has them, with floors that are no higher, and
+-- the lease, and nothing else. The giver has the other bytes and the other leases as before.
 pub record RunsAreHanded : Type 0 where
   pub able : (first count floor n : ℕ) (v : View) → HasRaw first count floor v → 0 < lease_of v n → CanHand (run_parcel first count n) v
   pub given : (first count floor n : ℕ) (v : View) → HasRaw first count floor v →

@@ -1,6 +1,6 @@
--- The pool behind a lock: what contracts see of it, and what its type keeps.
+-- The pool, which is kept behind a lock: what contracts see of it, and what its type keeps.
 use Rattle.std.specs.Prelude.{◌≡◌, ℕ, ◌+◌, ◌*◌, ◌<◌, ◌≤◌, List, [], length, map, Contains}
-use Rattle.pa_machine.specs.declared.title.Title.{Title}
+use Rattle.pa_slot.specs.declared.title.Title.{Title}
 use Rattle.pa_layout.specs.Limits.{most_supers}
 use Rattle.pa_record.specs.declared.taken.Taken.{Taken}
 use Rattle.pa_record.specs.declared.pool.PoolEntry.{PoolEntry}
@@ -27,7 +27,7 @@ pool_after entries supers = pool_replayed entries (new_pool supers)
 abbrev pub IsByteOf : ℕ → ℕ → ℕ → Type 0
 IsByteOf first count byte = (2097152 * first ≤ byte) × (byte < 2097152 * (first + count))
 
--- it lies in the region's super pages, and in no run that is taken
+-- the byte lies in the region's super pages, and in no run that is taken
 pub record IsFreeByte (s : PoolState) (byte : ℕ) : Type 0 where
   pub inside : byte < 2097152 * s.supers
   pub free : (t : Taken) → Contains s.taken t → IsByteOf t.first t.count byte → ⊥
@@ -46,9 +46,9 @@ pub record HasNoMore (v : View) : Type 0 where
   pub budget : v.budget ≡ 0
   pub keepers : (k : ℕ) → (k ≡ 4 → ⊥) → keeper_of v k ≡ 0
 
--- What the type keeps. The entries are those of a pool over the super pages, and the list of keeper 4 is these, as numbers.
--- The seat has that keeper, no stake, and only clean Owns. Each byte of a super page that isn't taken is raw there, with a
--- floor of at most the number of entries. It has the lease of each entry with a run that isn't taken; and nothing more.
+-- What the type of the pool keeps. The entries are those of a pool over the super pages, and the list of keeper 4 is these, as
+-- numbers. The seat has that keeper, no stake, and only clean Owns. Each byte of a super page that isn't taken is raw there, with a
+-- floor of at most the number of entries. It has each lease but those of the entries with a run that is taken, and nothing more.
 pub record IsPoolSound (supers : ℕ) (entries : List PoolEntry) (v : View) : Type 0 where
   pub few : supers ≤ most_supers
   pub pool : IsPool supers entries
@@ -59,12 +59,12 @@ pub record IsPoolSound (supers : ℕ) (entries : List PoolEntry) (v : View) : Ty
   pub out : (n : ℕ) → IsEntryOut (pool_after entries supers) n → lease_of v n ≡ 0
   pub more : HasNoMore v
 
--- the same of a pool as contracts see it
+-- what the type of the pool keeps, of a pool as contracts see it
 abbrev pub IsPoolKept : PoolValue → Type 0
 IsPoolKept p = IsPoolSound p.supers p.entries p.view
 
--- What a pool is made of: a view with the super pages as raw with the floor 0, keeper 4 with an empty list, and every
--- lease; without stakes, and without more.
+-- A view of which a pool can be made. It has the super pages as raw with the floor 0, keeper 4 with an empty list, and every lease.
+-- It has no stake, and nothing more.
 pub record CanOpen (supers : ℕ) (v : View) : Type 0 where
   pub few : supers ≤ most_supers
   pub raw : (b : ℕ) → b < 2097152 * supers → 0 < low_of v b 0

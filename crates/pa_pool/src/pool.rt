@@ -9,10 +9,10 @@ ghost use Rattle.pa_pool.specs.Calls.{IsTaken, IsNoteOf, IsAsBefore, Refused, Ha
 
 use crate::fault::PoolFault;
 use crate::run::hand_run;
-use pa_machine::OutOfMemory;
 use pa_place::PoolPlan;
 use pa_record::{PoolAct, PoolEntry, pool_numbers};
 use pa_region::{Name, Note, Region, Seat, enter_with};
+use pa_slot::OutOfMemory;
 use std::alloc::Global;
 use std::marker::{Model, PhantomData};
 

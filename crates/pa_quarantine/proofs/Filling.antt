@@ -4,12 +4,12 @@ use Rattle.std.specs.Prelude.{◌==◌, slice_index}
 use Rattle.std.specs.List.{sum_by}
 use Rattle.std.proofs.lemmas.List.Sums.{sum_by-cons}
 use Rattle.std.proofs.lemmas.Bool.{cases_Bool, eq-eqb}
-use Rattle.pa_machine.specs.declared.title.Title.{Title}
-use Rattle.pa_machine.specs.declared.title.OwnState.{OwnState}
-use Rattle.pa_machine.specs.declared.title.OwnState.TheVariants.{Clean, Dirty, Poisoned}
-use Rattle.pa_machine.specs.Titles.{same_title, same_state, Covers, IsWellFormed, content_count, content_place, HasContentFrom, poison, progress}
-use Rattle.pa_machine.specs.Holdings.{one}
-use Rattle.pa_machine.proofs.Same.{state_self}
+use Rattle.pa_slot.specs.declared.title.Title.{Title}
+use Rattle.pa_slot.specs.declared.title.OwnState.{OwnState}
+use Rattle.pa_slot.specs.declared.title.OwnState.TheVariants.{Clean, Dirty, Poisoned}
+use Rattle.pa_slot.specs.Titles.{same_title, same_state, Covers, IsWellFormed, content_count, content_place, HasContentFrom, poison, progress}
+use Rattle.pa_slot.specs.Holdings.{one}
+use Rattle.pa_slot.proofs.Same.{state_self}
 use Rattle.pa_region.specs.declared.view.OwnTitle.{OwnTitle}
 use Rattle.pa_region.specs.declared.view.View.{View}
 use Rattle.pa_region.specs.Views.{free_of, own_of, own_as, HasStake}
@@ -34,7 +34,7 @@ plain_after at_byte value v w e owns =
 pub offset_place : (n : ℕ) (t : Title) (j at_byte : ℕ) → IsWellFormed n t → at_byte ≡ t.start + 8 * j → at_byte / 8 ≡ content_place t j
 offset_place n t j at_byte well e = let a = well.start_aligned in omega arith
 
--- it is the content of a free title
+-- a content word of a free title may be stored to, while words before it are set to 0
 pub zero_plain : (n : ℕ) (t : Title) (j at_byte : ℕ) (v u : View) → IsWellFormed n t → at_byte ≡ t.start + 8 * j → j < content_count t → 0 < free_of v t →
     u ≡ zeros_to t j v → HasRawWord u at_byte ⊎ HasFreeContent u at_byte
 zero_plain n t j at_byte v u well e below has same =
@@ -45,7 +45,7 @@ zero_plain n t j at_byte v u well e below has same =
     still zero = has
     still (suc k) = has
 
--- so a store to it may be made
+-- the next store of 0 may be made
 pub zero_can : (n : ℕ) (t : Title) (j at_byte : ℕ) (v u : View) → IsWellFormed n t → at_byte ≡ t.start + 8 * j → j < content_count t → 0 < free_of v t →
     u ≡ zeros_to t j v → CanStore at_byte u
 zero_can n t j at_byte v u well e below has same =
@@ -59,7 +59,7 @@ unfolding filled_with
 zero_step t zero v = refl
 zero_step t (suc k) v = refl
 
--- and the view after it
+-- the view after the next store of 0 is the one with one word more set
 pub zero_next : (n : ℕ) (t : Title) (j at_byte : ℕ) (v u w : View) → IsWellFormed n t → at_byte ≡ t.start + 8 * j → u ≡ zeros_to t j v →
     w ≡ after_store at_byte 0 u → w.owns ≡ u.owns → w ≡ zeros_to t (j + 1) v
 zero_next n t j at_byte v u w well e same stored owns =
@@ -153,7 +153,7 @@ poison_step t (suc k) v =
     (ap (λ (m : ℕ). changed (is_own_of t) (poisoned_to m) (changed (is_own_of t) (poisoned_to (suc k)) v.owns)) e
     ∙ changed_twice t (suc k) (suc (suc k)) v.owns)
 
--- and the view after it
+-- the view after the next poisoning is the one with one word more poisoned
 pub poison_more : (t : Title) (j : ℕ) (v u w : View) → u ≡ poisons_to t j v → w ≡ after_poison t j u → w ≡ poisons_to t (j + 1) v
 poison_more t j v u w same now =
     let one_more : suc j ≡ j + 1 = omega arith in
@@ -185,11 +185,11 @@ look_user law t word v u e stake has =
 pub look_stake : LookLeaves → (t : Title) (word : ℕ) (v u : View) → u ≡ after_look t word v → HasStake v → HasStake u
 look_stake law t word v u e has = let l = (law t word v has).1.least in subst (λ (x : View). HasStake x) (sym e) (omega arith)
 
--- its log ends with the look
+-- the log of a view after a look ends with that look
 pub look_last : LookLeaves → (t : Title) (word : ℕ) (v u : View) → u ≡ after_look t word v → HasStake v → last_entry (least_log u.stakes) ≡ Some (Looked t word)
 look_last law t word v u e has = ap (λ (x : View). last_entry (least_log x.stakes)) e ∙ (law t word v has).1.last
 
--- it knows an Own of the title as before
+-- a view has its Own of the title after a look as before
 pub look_own : LookLeaves → (t : Title) (word : ℕ) (v u : View) → u ≡ after_look t word v → HasStake v → 0 < own_of v t → 0 < own_of u t
 look_own law t word v u e stake has = let o = (law t word v stake).0.owns t in subst (λ (x : View). 0 < own_of x t) (sym e) (omega arith)
 

@@ -2,11 +2,11 @@
 use Rattle.std.proofs.Common.{◌≡◌, ℕ, zero, suc, ◌+◌, ◌*◌, ◌/◌, ◌%◌, ◌<◌, true, ◌&&◌, List, [], ◌∷◌, length, set, refl, sym, ◌∙◌, ap, subst, arith, inl, inr}
 use Rattle.std.specs.List.{sum_by}
 use Rattle.std.proofs.lemmas.Bool.{cases_Bool}
-use Rattle.pa_machine.specs.declared.title.Title.{Title}
-use Rattle.pa_machine.specs.declared.title.OwnState.TheVariants.{Clean, Dirty}
-use Rattle.pa_machine.specs.declared.word.Step.TheVariants.{Write}
-use Rattle.pa_machine.specs.Titles.{same_title, same_state, IsWellFormed, IsContentOf, content_count, content_place}
-use Rattle.pa_machine.specs.Holdings.{one}
+use Rattle.pa_slot.specs.declared.title.Title.{Title}
+use Rattle.pa_slot.specs.declared.title.OwnState.TheVariants.{Clean, Dirty}
+use Rattle.pa_slot.specs.declared.word.Step.TheVariants.{Write}
+use Rattle.pa_slot.specs.Titles.{same_title, same_state, IsWellFormed, IsContentOf, content_count, content_place}
+use Rattle.pa_slot.specs.Holdings.{one}
 use Rattle.pa_region.specs.declared.view.OwnTitle.{OwnTitle}
 use Rattle.pa_region.specs.declared.view.View.{View}
 use Rattle.pa_region.specs.Views.{own_of, own_as, idle_of, HasStake}
@@ -20,7 +20,7 @@ use Rattle.pa_quarantine.proofs.Filling.{offset_place, open_own}
 abbrev pub IsOpen : Title → View → Type 0
 IsOpen t v = (0 < idle_of v t) × (0 < own_as v t Clean + own_as v t Dirty)
 
--- it stays one when it gets dirty
+-- an open Own stays open when it gets dirty
 open_dirty : StatesAreOwns → OwnsChange → (t : Title) (v : View) → IsOpen t v →
     (0 < sum_by (λ (o : OwnTitle). one (same_title o.title t && o.idle)) (changed (is_own_of t) dirty v.owns)) ×
     (0 < sum_by (λ (o : OwnTitle). one (same_title o.title t && same_state o.state Clean)) (changed (is_own_of t) dirty v.owns)
@@ -34,7 +34,7 @@ open_dirty states law t v has =
     let here : one (same_title first.0.title t && same_state Dirty Dirty) ≡ 1 = rw first.1.is_own refl in
     (omega arith, omega arith)
 
--- so a view that has written some words
+-- the Own of a view that has written some words is still open
 open_still : StatesAreOwns → OwnsChange → (t : Title) (value j : ℕ) (v : View) → IsOpen t v → IsOpen t (writes_to t value j v)
 open_still states law t value zero v has = has
 open_still states law t value (suc j) v has = open_dirty states law t v has
@@ -83,7 +83,7 @@ unfolding filled_with
 write_step t value zero v = refl
 write_step t value (suc k) v = ap (λ (os : List OwnTitle). record (writes_to t value (suc (suc k)) v) { owns = os }) (dirty_twice t v.owns)
 
--- and the view after it
+-- the view after the next store of the value is the one with one word more written
 pub write_next : (n : ℕ) (t : Title) (value j at_byte : ℕ) (v u w : View) → IsWellFormed n t → at_byte ≡ t.start + 8 * j → u ≡ writes_to t value j v →
     w ≡ after_store at_byte value u → w.owns ≡ changed (is_own_of t) dirty u.owns → w ≡ writes_to t value (j + 1) v
 write_next n t value j at_byte v u w well e same stored owns =

@@ -1,7 +1,7 @@
 -- How a zero-fill, a poisoning and a read change the seat's view.
 use Rattle.std.specs.Prelude.{ℕ, zero, suc, true}
-use Rattle.pa_machine.specs.declared.title.Title.{Title}
-use Rattle.pa_machine.specs.Titles.{content_count, poison}
+use Rattle.pa_slot.specs.declared.title.Title.{Title}
+use Rattle.pa_slot.specs.Titles.{content_count, poison}
 use Rattle.pa_region.specs.declared.view.View.{View}
 use Rattle.pa_region.specs.Moves.{changed, is_own_of, filled_with}
 use Rattle.pa_region.specs.Shares.{Share}
@@ -33,7 +33,7 @@ poisoned t v = record v {
   since = record v.since { poisoned = true };
 }
 
--- the same for a seat
+-- the seat after the poisoning of the title's whole content
 abbrev pub poisoned_share : Title → Share → Share
 poisoned_share t s = record s { view = poisoned t s.view }
 
@@ -46,7 +46,7 @@ writes_to t value (suc n) v = record v {
   since = record v.since { stored = true };
 }
 
--- the view after stores of the value to the whole content, and that of a seat
+-- the view after stores of the value to the title's whole content
 abbrev pub filled : Title → ℕ → View → View
 filled t value v = record v {
   words = filled_with value t (content_count t) v.words;

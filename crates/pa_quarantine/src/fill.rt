@@ -1,7 +1,7 @@
 ghost use Rattle.std.specs.Prelude.{◌≡◌, ℕ, ◌+◌, ◌<◌};
-ghost use Rattle.pa_machine.specs.declared.title.OwnState.TheVariants.{Clean, Dirty};
-ghost use Rattle.pa_machine.specs.declared.word.Step.TheVariants.{Free, Write};
-ghost use Rattle.pa_machine.specs.Titles.{HasContentFrom};
+ghost use Rattle.pa_slot.specs.declared.title.OwnState.TheVariants.{Clean, Dirty};
+ghost use Rattle.pa_slot.specs.declared.word.Step.TheVariants.{Free, Write};
+ghost use Rattle.pa_slot.specs.Titles.{HasContentFrom};
 ghost use Rattle.pa_region.specs.Views.{HasStake, free_of, idle_of, own_as};
 ghost use Rattle.pa_region.specs.Moves.{HasHandle};
 ghost use Rattle.pa_region.specs.Waiting.{poisoned_owns};
@@ -9,8 +9,8 @@ ghost use Rattle.pa_region.specs.Shares.{IsStepMade};
 ghost use Rattle.pa_quarantine.specs.Filling.{zeroed, poisoned, filled_share};
 
 use pa_count::wrote;
-use pa_machine::{Title, Word};
 use pa_region::{Region, Seat, filled_words_have_the_value, owns_change, states_are_owns};
+use pa_slot::{Title, Word};
 
 /// Sets every content word of a free slot to 0, in address order, so that it can be issued.
 pub fn zero_fill(region: &Region, seat: &mut Seat, title: Title)

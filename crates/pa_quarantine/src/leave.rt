@@ -1,10 +1,10 @@
 ghost use Rattle.std.specs.Prelude.{◌≡◌, ◌↔◌, ℕ, ◌+◌, ◌<◌};
-ghost use Rattle.pa_machine.specs.declared.title.OwnState.TheVariants.{Clean, Dirty};
-ghost use Rattle.pa_machine.specs.declared.word.Step.TheVariants.{Reset, Free};
-ghost use Rattle.pa_machine.specs.Count.{held_of};
-ghost use Rattle.pa_machine.specs.Run.{IsReturning};
-ghost use Rattle.pa_machine.specs.Titles.{content_count, content_at};
-ghost use Rattle.pa_machine.specs.Titles.{poison as poison_word};
+ghost use Rattle.pa_slot.specs.declared.title.OwnState.TheVariants.{Clean, Dirty};
+ghost use Rattle.pa_slot.specs.declared.word.Step.TheVariants.{Reset, Free};
+ghost use Rattle.pa_slot.specs.Count.{held_of};
+ghost use Rattle.pa_slot.specs.Run.{IsReturning};
+ghost use Rattle.pa_slot.specs.Titles.{content_count, content_at};
+ghost use Rattle.pa_slot.specs.Titles.{poison as poison_word};
 ghost use Rattle.pa_region.specs.Views.{HasStake, free_of, own_of, own_as};
 ghost use Rattle.pa_region.specs.Moves.{CanCount, IsFound, after_look};
 ghost use Rattle.pa_region.specs.Waiting.{poisoned_owns};
@@ -14,8 +14,8 @@ ghost use Rattle.pa_quarantine.specs.Filling.{poisoned_share};
 
 use crate::fill::poison;
 use pa_count::{Fate, free, look, reset};
-use pa_machine::{Title, Word};
 use pa_region::{Region, Seat, looks_leave, owns_change, states_are_owns};
+use pa_slot::{Title, Word};
 
 /// The owner frees the slot: its content is poisoned, and then it is freed in one step. `Last` if and only if no
 /// `raw_ptr` points to it: then the seat holds the title free. Else the slot is quarantined. No Own of the seat is poisoned
@@ -48,7 +48,7 @@ pub fn release(region: &Region, seat: &mut Seat, title: Title) -> (Word, Fate)
     reset(region, seat, title)
 }
 
-/// Reads a content word, by its index from 0, right after a look at the count word. A slot that was freed gives poison; the
+/// Reads a content word, by its index from 0, right after a look at the count word. A slot that was freed gives poison. The
 /// seat's own slot gives what the seat knows of it.
 pub fn read(region: &Region, seat: &mut Seat, title: Title, place: u32) -> (Word, u64)
     requires region { seat.old.region ≡ region.now }

@@ -190,7 +190,7 @@ entered_sound r s t to sound among from counted says used =
     turn_rises : (r : Root) (to : State) (t : Span) → r.turn ≤ turn_after to r.turn t
     turn_rises r to t = elim (cases_Bool (same_state t.state to)) [ inl same ↦ rw same (omega arith) | inr other ↦ rw other (omega arith) ]
 
--- it rises by at most one
+-- the next turn rises by at most one if a span enters a state
 pub turn_after_most : (to : State) (turn : ℕ) (t : Span) → turn_after to turn t ≤ turn + 1
 turn_after_most to turn t = elim (cases_Bool (same_state t.state to)) [ inl same ↦ rw same (omega arith) | inr other ↦ rw other (omega arith) ]
 

@@ -4,7 +4,7 @@ use Rattle.std.specs.List.{AllByRecursion}
 use Rattle.std.specs.Option.{IfSome}
 use Rattle.std.specs.Fmt.{decimal}
 use Rattle.std.proofs.lemmas.List.{append_cancel_left}
-use Rattle.pa_machine.specs.declared.word.SlotName.{SlotName}
+use Rattle.pa_slot.specs.declared.word.SlotName.{SlotName}
 use Rattle.pa_text.specs.Reading.{IsStop}
 use Rattle.pa_text.specs.Hex.{SlotFits, hex, slot_text}
 use Rattle.pa_text.specs.Numeral.{IsDigit, IsNumeral}

@@ -4,8 +4,8 @@ use Rattle.std.specs.Prelude.{Contains, AllPairs, count_by, IsSome, is_some}
 use Rattle.std.specs.List.{list_any}
 use Rattle.std.proofs.lemmas.Bool.{cases_Bool, true≢false, le-leb}
 use Rattle.std.proofs.lemmas.List.Sums.{length-filter, sum_by-cons}
-use Rattle.pa_machine.specs.declared.title.Title.{Title}
-use Rattle.pa_machine.specs.declared.word.SlotName.{SlotName}
+use Rattle.pa_slot.specs.declared.title.Title.{Title}
+use Rattle.pa_slot.specs.declared.word.SlotName.{SlotName}
 use Rattle.pa_layout.specs.Pages.{page_place, supers_for}
 use Rattle.pa_buckets.specs.Table.{pages_of, slots_of}
 use Rattle.pa_buckets.proofs.Facts.{IsRow-of}
@@ -51,7 +51,7 @@ count_numbers test from (suc count) =
     let c = sum_by-cons (λ n. cond (test n) 1 0) from (numbers (from + 1) count) in
     omega arith
 
--- those that pass and those that don't are all
+-- the numbers below n that pass a test and those that don't are n in all
 passing_not : (test : ℕ → Bool) (n : ℕ) → passing (λ k. not (test k)) n + passing test n ≡ n
 passing_not test zero = refl
 passing_not test (suc n) =

@@ -4,9 +4,9 @@ use Rattle.std.specs.Prelude.{Contains, AllPairs}
 use Rattle.std.proofs.lemmas.Bool.{cases_Bool, both_ways}
 use Rattle.std.proofs.lemmas.List.Elements.{Contains-push_cases, Contains-append_left, Contains-push, All-contains}
 use Rattle.std.proofs.lemmas.List.Sums.{sum_by-cons}
-use Rattle.pa_machine.specs.declared.title.Title.{Title}
-use Rattle.pa_machine.specs.declared.word.SlotName.{SlotName}
-use Rattle.pa_machine.specs.Run.{same_slot}
+use Rattle.pa_slot.specs.declared.title.Title.{Title}
+use Rattle.pa_slot.specs.declared.word.SlotName.{SlotName}
+use Rattle.pa_slot.specs.Run.{same_slot}
 use Rattle.pa_buckets.specs.Bands.{fill_of}
 use Rattle.pa_record.specs.declared.pool.PoolEntry.{PoolEntry}
 use Rattle.pa_record.specs.declared.root.RootEntry.{RootEntry}
@@ -88,7 +88,7 @@ went_back : (r after : Root) (name : SlotName) (a b c d : ℕ) → IsNameOut r n
 went_back r after name a b c d before now p q (inl (out, e)) = inr (now, omega arith)
 went_back r after name a b c d before now p q (inr (none, e)) = absurd (none before)
 
--- the same maps, and slots that are out in one root and the other
+-- a name that is out of one root is out of another with the same maps, in which the slots that were out still are
 slots_same : (r after : Root) (name : SlotName) → after.maps ≡ r.maps → (IsOut r name → IsOut after name) → IsNameOut r name → IsNameOut after name
 slots_same r after name e further out = elim (name_cases r name out) [
   | inl slot ↦ slot_out after name (further slot)

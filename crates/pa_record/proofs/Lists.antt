@@ -79,7 +79,8 @@ split_placed P c f xs ys u v splits begins au av hx hy e =
 abbrev pub nested : {A : Type 0} → (ℕ → ℕ → A → List ℕ) → ℕ → List (List A) → List ℕ
 nested f p lists = lines_from (λ q. lines_from (f q) 0) p lists
 
--- what is known of the lines of lists: what a line tells, if the place is the same; the place; and the first letter
+-- what is known of the lines of lists: each line gives its element if the place is the same, it gives its place, and it begins
+-- with its letter
 pub record AreNested {A : Type 0} (P : A → Type 0) (c : ℕ) (f : ℕ → ℕ → A → List ℕ) : Type 0 where
   pub splits : (p j : ℕ) → Splits P (f p j)
   pub place : (p q j i : ℕ) (a b : A) (x y : List ℕ) → p < 2 ^ 64 → q < 2 ^ 64 → f p j a ++ x ≡ f q i b ++ y → p ≡ q

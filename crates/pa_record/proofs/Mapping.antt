@@ -3,8 +3,8 @@ use Rattle.std.proofs.Common.{◌≡◌, ◌≢◌, ℕ, ◌+◌, ◌≤◌, ◌
 use Rattle.std.specs.Prelude.{Contains, AllPairs}
 use Rattle.std.proofs.lemmas.Bool.{cases_Bool}
 use Rattle.std.proofs.lemmas.List.Elements.{Contains-push_cases}
-use Rattle.pa_machine.specs.declared.title.Title.{Title}
-use Rattle.pa_machine.specs.declared.word.SlotName.{SlotName}
+use Rattle.pa_slot.specs.declared.title.Title.{Title}
+use Rattle.pa_slot.specs.declared.word.SlotName.{SlotName}
 use Rattle.pa_record.specs.Root.{Root, mapped, unmapped, without_map}
 use Rattle.pa_record.specs.Sound.{IsSound, IsBornBelow}
 use Rattle.pa_lists.proofs.Members.{first_in, later_in, in_cases}
@@ -86,7 +86,7 @@ born_more n m r more old = record {
   maps = λ t among. let p = old.maps t among in omega arith;
 }
 
--- a root with the same super pages and direct maps
+-- the entries of a root with the super pages and direct maps of another are below n if those of the other are
 pub born_same : (n : ℕ) (r after : Root) → after.supers ≡ r.supers → after.maps ≡ r.maps → IsBornBelow n r → IsBornBelow n after
 born_same n r after e f old = record {
   supers = λ at member. old.supers at (subst (λ xs. Contains xs at) e member);

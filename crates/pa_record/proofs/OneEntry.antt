@@ -13,7 +13,7 @@ use Rattle.pa_record.specs.declared.history.Held.{Held}
 use Rattle.pa_record.specs.declared.history.Held.TheVariants as handles
 use Rattle.pa_record.proofs.Same.{same_numbered, same_root, same_pool, same_cell}
 use Rattle.pa_record.specs.Numbers.{option_numbers, numbered_numbers, batch_numbers, root_act_numbers, root_numbers, pool_act_numbers, pool_numbers, held_numbers, cell_numbers}
-use Rattle.pa_machine.proofs.Runs.{slot_parts}
+use Rattle.pa_slot.proofs.Runs.{slot_parts}
 
 -- an Option, and what follows it
 one_option : (p q : Option ℕ) (x y : List ℕ) → option_numbers p ++ x ≡ option_numbers q ++ y → (p ≡ q) × (x ≡ y)

@@ -154,7 +154,7 @@ split_tally w s t x y hs ht e =
     let bytes = spaced_number s.bytes t.bytes x y hs.1 ht.1 slots.1 in
     (same_tally s t slots.0 bytes.0, bytes.1)
 
--- what the first part of a line tells
+-- what the first parts of two lines have in common if their texts are one
 record SamePlaces (s t : ReportLine) : Type 0 where
   phase : s.phase ≡ t.phase
   partition : s.partition ≡ t.partition

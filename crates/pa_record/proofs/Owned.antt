@@ -2,7 +2,7 @@
 use Rattle.std.proofs.Common.{◌≡◌, ℕ, ◌+◌, ◌<◌, ◌≤◌, List, [], ◌∷◌, sym, ◌∙◌, ap, subst, arith, inl, inr, Option, Some, None}
 use Rattle.std.specs.Prelude.{Contains}
 use Rattle.std.proofs.lemmas.List.Elements.{Contains-push_cases}
-use Rattle.pa_machine.specs.declared.title.Title.{Title}
+use Rattle.pa_slot.specs.declared.title.Title.{Title}
 use Rattle.pa_layout.specs.Pages.{page_place, supers_for}
 use Rattle.pa_buckets.specs.Bands.{fill_of}
 use Rattle.pa_buckets.specs.Table.{slots_of}
@@ -23,7 +23,7 @@ use Rattle.pa_record.proofs.Mapping.{without_map_in, born_more}
 use Rattle.pa_record.proofs.Stepping.{next_is}
 use Rattle.pa_record.proofs.Titles.{new_sound, new_born, rise_parts}
 
--- a root with the same super pages and direct maps
+-- a root with the super pages and direct maps of one that is taken by the pool is taken by it
 pub taken_same : (pools : List PoolEntry) (r after : Root) → after.supers ≡ r.supers → after.maps ≡ r.maps → IsTakenBy pools r → IsTakenBy pools after
 taken_same pools r after e f h = record {
   supers = λ at member. h.supers at (subst (λ xs. Contains xs at) e member);

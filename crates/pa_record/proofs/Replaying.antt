@@ -11,7 +11,7 @@ use Rattle.pa_record.specs.Root.{Root, takes, opened, opened_by, super_of, names
 use Rattle.pa_record.specs.Sound.{AsksFrom, least_after, least_after_all}
 use Rattle.pa_record.proofs.PoolSteps.{act_at_more}
 
--- the root that a fill opens is the same
+-- the root that a fill opens is the same if the pool gets more entries
 opened_more : (pools more : List PoolEntry) (class : ℕ) (asked : Option ℕ) (r : Root) → Asked pools class asked r → opened_by (pools ++ more) asked r ≡ opened_by pools asked r
 opened_more pools more class None r h = refl
 opened_more pools more class (Some j) r (none, first, run) = ap (λ a. opened (super_of a) j r) (act_at_more pools more j _ run ∙ sym run)

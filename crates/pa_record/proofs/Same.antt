@@ -1,6 +1,6 @@
 -- Values whose parts are equal are equal.
 use Rattle.std.proofs.Common.{◌≡◌, ℕ, refl, sym, ap, ◌∙◌}
-use Rattle.pa_machine.specs.declared.word.Word.{Word}
+use Rattle.pa_slot.specs.declared.word.Word.{Word}
 use Rattle.pa_record.specs.declared.entry.Entry.{Entry}
 use Rattle.pa_record.specs.declared.entry.Seen.{Seen}
 use Rattle.pa_record.specs.declared.numbered.Numbered.{Numbered}

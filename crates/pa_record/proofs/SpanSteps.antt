@@ -13,6 +13,10 @@ use Rattle.pa_lists.proofs.Pairs.{pairs_none, pairs_cons, pairs_tail}
 use Rattle.pa_lists.proofs.Different.{numbers_length, numbers_in, numbers_once, length_less}
 use Rattle.pa_lists.specs.Numbers.{numbers}
 
+-- a span of at most 917504 bytes has at most 225 pages after one slot more
+pub pages_most : (committed bytes : ℕ) → committed ≤ 224 → bytes ≤ 917504 → max (committed + 1) ((bytes + 4095) / 4096) ≤ 225
+pages_most committed bytes low less = omega arith
+
 -- as many pages as one slot more needs
 enough_pages : (size committed provisioned : ℕ) → size * (provisioned + 1) ≤ 4096 * max (committed + 1) ((size * (provisioned + 1) + 4095) / 4096)
 enough_pages size committed provisioned = omega arith

@@ -4,8 +4,8 @@ use Rattle.std.specs.Prelude.{Contains}
 use Rattle.std.specs.List.{cons_option}
 use Rattle.std.proofs.lemmas.List.{append-nil, append_assoc}
 use Rattle.std.proofs.lemmas.List.Elements.{Contains-append_cases}
-use Rattle.pa_machine.specs.declared.title.Title.{Title}
-use Rattle.pa_machine.specs.declared.word.SlotName.{SlotName}
+use Rattle.pa_slot.specs.declared.title.Title.{Title}
+use Rattle.pa_slot.specs.declared.word.SlotName.{SlotName}
 use Rattle.pa_layout.specs.Pages.{page_place, supers_for}
 use Rattle.pa_buckets.specs.Bands.{fill_of}
 use Rattle.pa_buckets.specs.Table.{slots_of}
@@ -34,7 +34,7 @@ next_titles pools (Give slots) r = []
 next_titles pools (Unmap asked slot) r = []
 next_titles pools Purge r = []
 
--- those that a journal takes or maps
+-- the titles that a journal takes or maps
 abbrev pub titles_taken : List PoolEntry → List RootEntry → Root → List Title
 titles_taken pools [] r = []
 titles_taken pools (e ∷ es) r = next_titles pools e.act r ++ titles_taken pools es (root_next pools e.act r)

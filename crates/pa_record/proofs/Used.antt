@@ -4,7 +4,7 @@ use Rattle.std.specs.Prelude.{Contains, All, AllPairs, find, count_by}
 use Rattle.std.proofs.lemmas.Bool.{cases_Bool, leb-true, both_ways, true≢false}
 use Rattle.std.proofs.lemmas.List.Elements.{Contains-push_cases, Contains-push, All-head, All-tail}
 use Rattle.std.proofs.lemmas.List.Sums.{sum_by-cons}
-use Rattle.pa_machine.specs.declared.word.SlotName.{SlotName}
+use Rattle.pa_slot.specs.declared.word.SlotName.{SlotName}
 use Rattle.pa_buckets.specs.declared.spans.State.{State}
 use Rattle.pa_buckets.specs.declared.spans.State.TheVariants as state
 use Rattle.pa_buckets.specs.Table.{pages_of, slots_of}

@@ -21,7 +21,7 @@ use Rattle.pa_record.specs.declared.report.Tally.{Tally}
 use Rattle.pa_record.specs.declared.report.ReportLine.{ReportLine}
 use Rattle.pa_record.specs.declared.run.Run.{Run}
 
--- a number of 32 bits, one of 64 bits, and the number of a class
+-- a number of 32 bits
 abbrev pub Is32 : ℕ → Type 0
 Is32 n = n < 2 ^ 32
 

@@ -10,7 +10,8 @@ use Rattle.pa_record.specs.Steps.{IsLatest, IsEarliest}
 abbrev pub TestsUsed : (Span → Bool) → Root → Type 0
 TestsUsed test r = (s : Span) → Contains r.spans s → test s ≡ true → is_in state.None s ≡ false
 
--- a span that passes and has the greatest turn of those that pass is the one that is chosen; so is one that has the least
+-- A span that passes and has the greatest turn of those that pass is the one that `latest` chooses. A span that passes and has
+-- the least turn is the one that `earliest` chooses.
 pub record OneIsChosen : Type 0 where
   pub latest : (test : Span → Bool) (r : Root) (s : Span) → IsSound r → TestsUsed test r → IsLatest test r.spans s →
       latest test r.spans ≡ Some s

@@ -1,9 +1,9 @@
 -- The laws of a root's journal.
 use Rattle.std.specs.Prelude.{◌≡◌, ◌≢◌, ℕ, suc, ◌+◌, ◌<◌, ◌≤◌, ◌⊎◌, ◌↔◌, Bool, false, not, eqb, List, [], ◌∷◌, ◌++◌, length, map, Option, Some, None, IsSome, IsNone, is_some, All, AllPairs, Contains, filter, find, slice_get, count_by, sum_by}
 use Rattle.std.specs.List.{list_any, flat_map}
-use Rattle.pa_machine.specs.declared.title.Title.{Title}
-use Rattle.pa_machine.specs.declared.word.SlotName.{SlotName}
-use Rattle.pa_machine.specs.Run.{same_slot}
+use Rattle.pa_slot.specs.declared.title.Title.{Title}
+use Rattle.pa_slot.specs.declared.word.SlotName.{SlotName}
+use Rattle.pa_slot.specs.Run.{same_slot}
 use Rattle.pa_layout.specs.Pages.{page_place, supers_for}
 use Rattle.pa_buckets.specs.Limits.{class_count}
 use Rattle.pa_buckets.specs.Bands.{fill_of}
@@ -21,7 +21,8 @@ use Rattle.pa_record.specs.Sound.{IsSound, IsSettled, IsBornBelow, AsksFrom, lea
 use Rattle.pa_record.specs.Steps.{IsLatest, IsEarliest, IsFilled, IsReturned, IsDecommittedTimes}
 use Rattle.pa_lists.specs.Numbers.{numbers}
 
--- Of the spans that pass a test the one with the greatest turn, and the one with the least; and none if none passes.
+-- Of the spans that pass a test `latest` finds one with the greatest turn, and `earliest` finds one with the least. Both find
+-- none only if none passes.
 pub record TurnsChoose : Type 0 where
   pub greatest : (test : Span → Bool) (ss : List Span) (s : Span) → latest test ss ≡ Some s → IsLatest test ss s
   pub no_greatest : (test : Span → Bool) (ss : List Span) → latest test ss ≡ None → (s : Span) → Contains ss s → test s ≡ false
@@ -58,7 +59,7 @@ pub record FillKeeps : Type 0 where
   pub finds_none : (class want : ℕ) (r : Root) → IsNone (span_for class r) → takes class want r ≡ record { root = r; titles = [] }
   pub finds_new : (class number born : ℕ) (r : Root) → class < class_count → IsSome (span_for class (opened number born r))
 
--- returns, a purge, and direct maps that come and go
+-- Returns, a purge, and direct maps that come and go keep a root sound.
 pub record ReturnKeeps : Type 0 where
   pub returns : (r : Root) (xs : List SlotName) → IsSound r → All (IsOut r) xs → AllPairs ◌≢◌ xs → IsReturned xs r (all_returned xs r)
   pub purges : (r : Root) → IsSound r → IsDecommittedTimes (empties r) r (purged r)
@@ -78,7 +79,7 @@ pub record IsLeft (pools : List PoolEntry) (journal : List RootEntry) (r : Root)
   pub born : IsBornBelow (least_after_all 0 journal) r
   pub titles : AreTitles pools (IsMadeBy pools journal)
 
--- each journal, replayed from a root that has nothing, leaves a root of this kind
+-- each journal, replayed from a root that has nothing, leaves a root as IsLeft says
 abbrev pub JournalLeaves : Type 0
 JournalLeaves = (pools : List PoolEntry) (journal : List RootEntry) → IsJournal pools journal →
     IsLeft pools journal (root_replayed pools journal new_root)
@@ -94,9 +95,9 @@ pub record JournalGrows : Type 0 where
   pub next : (pools : List PoolEntry) (journal : List RootEntry) (e : RootEntry) →
       root_replayed pools (journal ++ e ∷ []) new_root ≡ root_next pools e.act (root_replayed pools journal new_root)
 
--- What fits is determined: of two fills of a class that fit one root both asked the pool or neither did, and with the same
--- entry of the pool they have the same slots; if a fill fits, no Full of its class that names the same entry does, and
--- none at all if the fill asked for none; and direct maps of one entry of the pool have one name.
+-- What fits is determined. Two fills of a class that fit one root both asked the pool or neither did, and with the same entry
+-- of the pool they have the same slots. If a fill fits, no Full of its class that names the same entry does, and none at all if
+-- the fill asked for none. Direct maps of one entry of the pool have one name.
 pub record EntryIsOne : Type 0 where
   pub asked : (pools : List PoolEntry) (class : ℕ) (a b : Option ℕ) (xs ys : List Numbered) (r : Root) →
       RootActFits pools (Fill class a xs) r → RootActFits pools (Fill class b ys) r → is_some a ≡ is_some b
@@ -114,7 +115,7 @@ abbrev pub TitlesAreAsked : Type 0
 TitlesAreAsked = (pools : List PoolEntry) (journal : List RootEntry) (t : Title) → IsJournal pools journal →
     IsMadeBy pools journal t → (i : ℕ) × (e : RootEntry) × (slice_get journal i ≡ Some e) × (asked_by e.act ≡ Some t.born)
 
--- the slots that an entry takes out of the root, and those that come back
+-- the slots that an entry takes out of the root
 abbrev pub leaves_by : RootAct → List SlotName
 leaves_by (Fill class asked slots) = names slots
 leaves_by (Map asked slot len) = slot ∷ []
@@ -132,7 +133,7 @@ comes_by (Give slots) = names slots
 comes_by (Unmap asked slot) = slot.slot ∷ []
 comes_by Purge = []
 
--- how often a name is in a list; how often a slot left the root in a journal, and how often it came back
+-- how often a name is in a list
 abbrev pub times : SlotName → List SlotName → ℕ
 times name xs = count_by (same_slot name) xs
 
@@ -150,11 +151,11 @@ times_back name (e ∷ es) = times name (comes_by e.act) + times_back name es
 abbrev pub IsNameOut : Root → SlotName → Type 0
 IsNameOut r name = (t : Title) × IsTitleOut r t × (name ≡ name_of t)
 
--- A slot is out exactly when it left the root once more than it came back; else it came back as often as it left.
+-- the slot is out and left the root once more than it came back, or it isn't out and came back as often as it left
 abbrev pub IsOutBy : Root → SlotName → ℕ → ℕ → Type 0
 IsOutBy r name left back = (IsNameOut r name × (left ≡ back + 1)) ⊎ ((IsNameOut r name → ⊥) × (left ≡ back))
 
--- in the root that a journal leaves this is so for each name, by how often it left and came back in the journal
+-- in the root that a journal leaves, a slot is out exactly if it left the root once more than it came back in the journal
 abbrev pub OutIsLeft : Type 0
 OutIsLeft = (pools : List PoolEntry) (journal : List RootEntry) (name : SlotName) → IsJournal pools journal →
     IsOutBy (root_replayed pools journal new_root) name (times_left name journal) (times_back name journal)
@@ -188,7 +189,8 @@ pub record CallsFit : Type 0 where
 abbrev pub IsUsed : Root → Type 0
 IsUsed r = (s : Span) → Contains r.spans s → is_in state.None s ≡ false
 
--- an entry keeps that, so a journal does; and the counts of the states add up to the spans
+-- Takes, returns and purges keep each span in one of the four states, so a journal does. In such a root the counts of the four
+-- states add up to the number of spans.
 pub record SpansAreUsed : Type 0 where
   pub takes_keep : (class want : ℕ) (r : Root) → IsSound r → class < class_count → IsUsed r → IsUsed (takes class want r).root
   pub returns_keep : (r : Root) (xs : List SlotName) → IsSound r → All (IsOut r) xs → AllPairs ◌≢◌ xs → IsUsed r →
@@ -199,7 +201,7 @@ pub record SpansAreUsed : Type 0 where
   pub counted : (r : Root) → IsUsed r →
       count_in state.Full r + count_in state.Active r + count_in state.Empty r + count_in state.Decommitted r ≡ length r.spans
 
--- the names of a span's slots that are out, and of all slots and direct maps that are out of a root
+-- the names of the slots of a span that are out
 abbrev pub names_of : Span → List SlotName
 names_of s = map (λ n. name_of (title_at s n)) (out_of s)
 
@@ -207,12 +209,12 @@ names_of s = map (λ n. name_of (title_at s n)) (out_of s)
 abbrev pub names_out : Root → List SlotName
 names_out r = flat_map names_of r.spans ++ map name_of r.maps
 
--- how many slots of its spans were made
+-- how many slots of the root's spans were made
 abbrev pub slots_made : Root → ℕ
 slots_made r = sum_by (λ (s : Span). s.made) r.spans
 
--- What is out is listed, each once; and the slots that a root keeps and those that are out are together the slots that
--- were made and the direct maps that are mapped.
+-- What is out is listed, each once. The slots that a root keeps and those that are out are together the slots that were made
+-- and the direct maps that are mapped.
 pub record AddsUp (r : Root) : Type 0 where
   pub out : (name : SlotName) → Contains (names_out r) name ↔ IsNameOut r name
   pub once : AllPairs ◌≢◌ (names_out r)

@@ -1,7 +1,7 @@
 -- What a root has is its own: each of its super pages and direct maps is the run that its entry of the pool took,
 -- and a slot lies in the super page of the entry that it names.
 use Rattle.std.specs.Prelude.{◌≡◌, ℕ, ◌+◌, ◌≤◌, List, Contains}
-use Rattle.pa_machine.specs.declared.title.Title.{Title}
+use Rattle.pa_slot.specs.declared.title.Title.{Title}
 use Rattle.pa_layout.specs.Pages.{page_place, supers_for}
 use Rattle.pa_record.specs.declared.taken.SuperPage.{SuperPage}
 use Rattle.pa_record.specs.declared.pool.PoolEntry.{PoolEntry}
@@ -20,8 +20,8 @@ pub record IsTakenBy (pools : List PoolEntry) (r : Root) : Type 0 where
   pub supers : (at : SuperPage) → Contains r.supers at → FoundRun pools at.born 1 at.number
   pub maps : (t : Title) → Contains r.maps t → IsMapTaken pools t
 
--- An entry that fits keeps that, so a journal's root has it; and a slot that was made of such a root lies in the super page
--- of its own entry.
+-- Each entry that fits keeps all super pages and direct maps of the root the runs that the pool's entries took, so a journal
+-- does. A slot that was made of such a root lies in the super page of its own entry.
 pub record RootsAreTaken : Type 0 where
   pub next : (pools : List PoolEntry) (act : RootAct) (n : ℕ) (r : Root) → IsSound r → IsBornBelow n r → AsksFrom n (asked_by act) →
       RootActFits pools act r → IsTakenBy pools r → IsTakenBy pools (root_next pools act r)

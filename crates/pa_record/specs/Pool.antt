@@ -11,7 +11,7 @@ pub record PoolState : Type 0 where
   pub entries : ℕ
   pub taken : List Taken
 
--- at the start nothing is taken
+-- the pool at the start, of which nothing is taken
 abbrev pub new_pool : ℕ → PoolState
 new_pool supers = record { supers = supers; entries = 0; taken = [] }
 
@@ -35,12 +35,12 @@ pub record IsOneTake (s : PoolState) (first count : ℕ) (t : Taken) : Type 0 wh
   pub begins : t.first ≡ first
   pub reaches : t.count ≡ count
 
--- it was taken for this partition, as its entry says
+-- the run was taken for this partition, as the pool's entry that took it says
 abbrev pub IsPartitions : List PoolEntry → ℕ → Taken → Type 0
 IsPartitions pools partition t = (e : PoolEntry) × (slice_get pools t.entry ≡ Some e) × (e.partition ≡ partition)
 
--- An entry fits: a take has a count of at least 1 and finds the lowest free run, or none if there is none; a give
--- names one take of its partition that wasn't given back.
+-- an entry fits if it is a take of at least 1 super page that finds the lowest free run, or none if there is none, or if it is
+-- a give that names one take of its partition that wasn't given back
 abbrev pub PoolActFits : List PoolEntry → ℕ → PoolAct → PoolState → Type 0
 PoolActFits pools partition (Take count found) s = (1 ≤ count) × IsLowest s count found
 PoolActFits pools partition (Give count first) s = (t : Taken) × IsOneTake s first count t × IsPartitions pools partition t
@@ -75,7 +75,7 @@ abbrev pub PoolReplays : List PoolEntry → List PoolEntry → PoolState → Typ
 PoolReplays pools [] s = Unit {0}
 PoolReplays pools (e ∷ es) s = PoolActFits pools e.partition e.act s × PoolReplays pools es (pool_next e.act s)
 
--- the entries are those of a pool over that many super pages
+-- the entries are those of a pool over this many super pages
 abbrev pub IsPool : ℕ → List PoolEntry → Type 0
 IsPool supers pools = PoolReplays pools pools (new_pool supers)
 
@@ -83,7 +83,7 @@ IsPool supers pools = PoolReplays pools pools (new_pool supers)
 abbrev pub act_at : List PoolEntry → ℕ → Option PoolAct
 act_at pools j = option_map (λ (e : PoolEntry). e.act) (slice_get pools j)
 
--- entry j of the pool is a take of `count` super pages that found those from `first` on; one that found none; a give
+-- entry j of the pool is a take of `count` super pages that found those from `first` on
 abbrev pub FoundRun : List PoolEntry → ℕ → ℕ → ℕ → Type 0
 FoundRun pools j count first = act_at pools j ≡ Some (Take count (Some first))
 

@@ -9,7 +9,7 @@ abbrev pub Covers : Taken → ℕ → Type 0
 Covers t x = (t.first ≤ x) × (x < t.first + t.count)
 
 -- Each run that is taken lies in the region and isn't empty, and was found by the entry of the pool that it names, in this
--- list; no super page is in two runs, and no two runs have one entry.
+-- list. No super page is in two runs, and no two runs have one entry.
 pub record IsSoundPool (pools : List PoolEntry) (s : PoolState) : Type 0 where
   pub entries : s.entries ≤ length pools
   pub some : (t : Taken) → Contains s.taken t → 1 ≤ t.count
@@ -32,7 +32,7 @@ pub record PoolGrows : Type 0 where
   pub next : (supers : ℕ) (pools : List PoolEntry) (e : PoolEntry) →
       pool_replayed (pools ++ e ∷ []) (new_pool supers) ≡ pool_next e.act (pool_replayed pools (new_pool supers))
 
--- there is one lowest free run; and what was given back is free
+-- a take has one answer, and a run that was given back is free
 pub record PoolAnswers : Type 0 where
   pub lowest : (s : PoolState) (count : ℕ) (a b : Option ℕ) → IsLowest s count a → IsLowest s count b → a ≡ b
   pub free : (pools : List PoolEntry) (s : PoolState) (first count : ℕ) (t : Taken) → IsSoundPool pools s → IsOneTake s first count t →

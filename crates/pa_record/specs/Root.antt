@@ -1,7 +1,7 @@
 -- The root of a partition: what a list of its journal's entries replays to, and which entry fits.
 use Rattle.std.specs.Prelude.{◌≡◌, ℕ, zero, suc, ◌+◌, ◌-◌, ◌<◌, ◌≤◌, ◌==◌, ◌&&◌, nat_lt, nat_le, if◌then◌else◌, ◌⊎◌, List, [], ◌∷◌, ◌++◌, map, length, Option, Some, None, IsSome, IsNone, All, AllPairs, Contains, find, count_by, slice_get, filter_map, ◌≢◌}
-use Rattle.pa_machine.specs.declared.title.Title.{Title}
-use Rattle.pa_machine.specs.declared.word.SlotName.{SlotName}
+use Rattle.pa_slot.specs.declared.title.Title.{Title}
+use Rattle.pa_slot.specs.declared.word.SlotName.{SlotName}
 use Rattle.pa_layout.specs.Pages.{page_place, supers_for}
 use Rattle.pa_buckets.specs.declared.spans.State.{State}
 use Rattle.pa_buckets.specs.declared.spans.State.TheVariants as state
@@ -28,15 +28,15 @@ pub record Root : Type 0 where
   pub maps : List Title
   pub spans : List Span
 
--- at the start there are none
+-- the root at the start, which has no super page, no direct map and no span
 abbrev pub new_root : Root
 new_root = record { supers = []; page = 0; turn = 0; maps = []; spans = [] }
 
--- the current super page, which is the last one that was taken; none, if none was
+-- the current super page: the last one that was taken, or none if none was
 abbrev pub current : Root → Option SuperPage
 current r = slice_get r.supers (length r.supers - 1)
 
--- s enters the state; if it was in another one before, it gets the next turn
+-- the span in this state, with the next turn if it was in another one before
 abbrev pub in_state : State → ℕ → Span → Span
 in_state to turn s = if same_state s.state to then s else record s { state = to; turn = turn }
 
@@ -84,7 +84,7 @@ pub record Took : Type 0 where
   pub root : Root
   pub title : Option Title
 
--- the front of the span's list is taken
+-- the root after the front of this list of the span is taken, and as it was if the list is empty
 abbrev pub front_taken : List ℕ → Span → Root → Took
 front_taken [] s r = record { root = r; title = None }
 front_taken (number ∷ rest) s r =
@@ -112,7 +112,7 @@ and_then t further = elim t.title as (λ o. Filled) [
   | Some title ↦ let rest = further t.root in record { root = rest.root; titles = title ∷ rest.titles }
 ]
 
--- takes until that many slots are taken or a take finds none
+-- takes until `want` slots are taken or a take finds none
 abbrev pub takes : ℕ → ℕ → Root → Filled
 takes class zero r = record { root = r; titles = [] }
 takes class (suc want) r = and_then (one_take class r) (takes class want)
@@ -121,7 +121,7 @@ takes class (suc want) r = and_then (one_take class r) (takes class want)
 abbrev pub opened : ℕ → ℕ → Root → Root
 opened number born r = record r { supers = r.supers ++ record { number = number; born = born } ∷ []; page = 1 }
 
--- the oldest empty span is decommitted
+-- the root after this empty span, if there is one, is decommitted
 abbrev pub decommitted_span : Option Span → Root → Root
 decommitted_span None r = r
 decommitted_span (Some s) r = entered state.Decommitted (without_pages s) r
@@ -134,25 +134,25 @@ oldest_decommitted r = decommitted_span (earliest (is_in state.Empty) r.spans) r
 abbrev pub empties : Root → ℕ
 empties r = count_by (is_in state.Empty) r.spans
 
--- at most 16 spans stay empty
+-- the root after its oldest empty span is decommitted if more than 16 are empty
 abbrev pub settled : Root → Root
 settled r = if nat_lt 16 (empties r) then oldest_decommitted r else r
 
--- the slot goes to the front of its span's list
+-- the root after the slot came back to the front of the list of this span, if there is one
 abbrev pub put_back : SlotName → Option Span → Root → Root
 put_back name None r = r
 put_back name (Some s) r = let t = with_front (number_in s name) s in entered (state_back t) t r
 
--- a slot is returned
+-- the root after a slot is returned and, if more than 16 spans are empty then, the oldest empty one is decommitted
 abbrev pub returned : SlotName → Root → Root
 returned name r = settled (put_back name (find (holds name) r.spans) r)
 
--- slots are returned one by one
+-- the root after these slots are returned one by one
 abbrev pub all_returned : List SlotName → Root → Root
 all_returned [] r = r
 all_returned (name ∷ names) r = all_returned names (returned name r)
 
--- every empty span is decommitted, the one with the least turn first
+-- the root after its oldest empty span is decommitted, n times
 abbrev pub decommitted_times : ℕ → Root → Root
 decommitted_times zero r = r
 decommitted_times (suc n) r = decommitted_times n (oldest_decommitted r)
@@ -161,7 +161,7 @@ decommitted_times (suc n) r = decommitted_times n (oldest_decommitted r)
 abbrev pub purged : Root → Root
 purged r = decommitted_times (empties r) r
 
--- a direct map: its slot starts 16,384 bytes after the first of its super pages
+-- the title of a direct map with this name, whose slot has `len` bytes
 abbrev pub map_title : SlotName → ℕ → Title
 map_title name len = record { start = name.start; len = len; born = name.born }
 
@@ -193,7 +193,7 @@ abbrev pub IsTitleOut : Root → Title → Type 0
 IsTitleOut r t =
     ((s : Span) × Contains r.spans s × (number : ℕ) × IsOutOf s (name_of t) number × (t ≡ title_at s number)) ⊎ Contains r.maps t
 
--- the super page that an act of the pool found; 0 if it found none
+-- the super page that an act of the pool found, or 0 if it found none
 abbrev pub super_of : Option PoolAct → ℕ
 super_of (Some (pool.Take count (Some first))) = first
 super_of a = 0
@@ -221,7 +221,7 @@ abbrev pub Asked : List PoolEntry → ℕ → Option ℕ → Root → Type 0
 Asked pools class None r = IsSome (span_for class r)
 Asked pools class (Some j) r = IsNone (span_for class r) × (first : ℕ) × FoundRun pools j 1 first
 
--- no room for a slot of a class, or for a direct map
+-- a Full fits: its entry of the pool found nothing, and if it names a class, the root has no span of it to take from
 abbrev pub FullFits : List PoolEntry → Option ℕ → ℕ → Root → Type 0
 FullFits pools None asked r = (count : ℕ) × FoundNone pools asked count
 FullFits pools (Some class) asked r = IsNone (span_for class r) × FoundNone pools asked 1

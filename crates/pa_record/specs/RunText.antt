@@ -30,11 +30,11 @@ pub record IsRunText (r : Run) (bytes : List ℕ) : Type 0 where
   pub form : IsPrintable r
   pub text : bytes ≡ run_text r
 
--- the journal of partition P, and the history of cell K; one that isn't there is empty
+-- the journal of partition p, empty if the run has none
 abbrev pub journal_of : Run → ℕ → List RootEntry
 journal_of r p = slice_index_or r.roots.items p []
 
--- the history of cell K, empty if the run has no such cell
+-- the history of cell k, empty if the run has no such cell
 abbrev pub history_of : Run → ℕ → List CellEntry
 history_of r k = slice_index_or r.cells.items k []
 

@@ -1,7 +1,7 @@
 -- What holds of a root at every moment.
 use Rattle.std.specs.Prelude.{◌≡◌, ◌≢◌, ℕ, ◌+◌, ◌*◌, ◌/◌, ◌<◌, ◌≤◌, ◌⊎◌, min, false, List, [], ◌∷◌, length, Option, Some, None, Contains, AllPairs}
-use Rattle.pa_machine.specs.declared.title.Title.{Title}
-use Rattle.pa_machine.specs.declared.word.SlotName.{SlotName}
+use Rattle.pa_slot.specs.declared.title.Title.{Title}
+use Rattle.pa_slot.specs.declared.word.SlotName.{SlotName}
 use Rattle.pa_layout.specs.Pages.{page_place, supers_for}
 use Rattle.pa_buckets.specs.declared.spans.State.{State}
 use Rattle.pa_buckets.specs.declared.spans.State.TheVariants as state
@@ -16,7 +16,7 @@ use Rattle.pa_record.specs.declared.root.RootAct.TheVariants.{Fill, Map, Full, G
 use Rattle.pa_record.specs.Pool.{FoundRun}
 use Rattle.pa_record.specs.Root.{Root, new_root, current, empties, map_title, root_replayed, names, asked_by, IsOut}
 
--- what a state says of the slots that are out; a span that is in none yet has none out
+-- what a state says of how many slots are out: a span that has no state yet has none out
 abbrev pub StateSays : State → Span → Type 0
 StateSays state.None s = s.allocated ≡ 0
 StateSays state.Active s = (1 ≤ s.allocated) × (s.allocated < slots_of s.class)
@@ -24,8 +24,8 @@ StateSays state.Empty s = s.allocated ≡ 0
 StateSays state.Decommitted s = (s.allocated ≡ 0) × (s.provisioned ≡ 0) × (s.committed ≡ 0)
 StateSays state.Full s = s.allocated ≡ slots_of s.class
 
--- A span's numbers agree: the list has what is provisioned and not out, each number once; as many slots are provisioned
--- as fit into the committed pages; and no more are made than the class's spans have.
+-- A span's numbers agree. The list has what is provisioned and not out, each number once. As many slots are provisioned as fit
+-- into the committed pages, and no more are made than the class's spans have.
 pub record IsCounted (s : Span) : Type 0 where
   pub class : s.class < class_count
   pub listed : s.allocated + length s.free ≡ s.provisioned
@@ -83,13 +83,13 @@ pub record IsBornBelow (n : ℕ) (r : Root) : Type 0 where
 abbrev pub IsMade : Root → Title → Type 0
 IsMade r t = (s : Span) × Contains r.spans s × (number : ℕ) × (number < s.made) × (t ≡ title_at s number)
 
--- the title is that of a direct map, which an entry of the journal made
+-- the title is that of a direct map that an entry of the journal made
 abbrev pub IsMapBy : List RootEntry → Title → Type 0
 IsMapBy journal t =
     (e : RootEntry) × (asked len : ℕ) × (slot : SlotName) × Contains journal e × (e.act ≡ Map asked slot len) × (t ≡ map_title slot len)
 
--- A title that a journal makes: a slot that was cut, as its root's spans, which never go, record it; or
--- that of a direct map, whether or not it went back.
+-- a journal makes the title: it is that of a slot that was cut, which the spans of its root record for good, or of a direct
+-- map, whether or not it went back
 abbrev pub IsMadeBy : List PoolEntry → List RootEntry → Title → Type 0
 IsMadeBy pools journal t = IsMade (root_replayed pools journal new_root) t ⊎ IsMapBy journal t
 
@@ -124,7 +124,7 @@ given_back (Give slots) = names slots
 given_back (Unmap asked slot) = []
 given_back Purge = []
 
--- a batch has at most 16 slots
+-- the act's batch, if it has one, has at most 16 slots
 abbrev pub HasBatch : RootAct → Type 0
 HasBatch (Fill class asked slots) = length slots ≤ 16
 HasBatch (Map asked slot len) = Unit {0}
@@ -133,7 +133,7 @@ HasBatch (Give slots) = length slots ≤ 16
 HasBatch (Unmap asked slot) = Unit {0}
 HasBatch Purge = Unit {0}
 
--- the entries of the pool that are named are n or later, and the first that may be named after them
+-- the entry of the pool that is named, if one is, is n or later
 abbrev pub AsksFrom : ℕ → Option ℕ → Type 0
 AsksFrom n None = Unit {0}
 AsksFrom n (Some j) = n ≤ j
@@ -143,9 +143,9 @@ abbrev pub least_after : ℕ → Option ℕ → ℕ
 least_after n None = n
 least_after n (Some j) = j + 1
 
--- What an entry that fits leaves: a sound root, at most 16 empty spans, turns that rose by at most 32; what is out and
--- isn't given back stays out, what is given back isn't out; and the entries of the pool that it has are those that it had
--- and the one that is named.
+-- What an entry that fits leaves: a sound root, at most 16 empty spans, turns that rose by at most 32. What is out and isn't
+-- given back stays out, and what is given back isn't out. The entries of the pool that the root has are those that it had and
+-- the one that is named.
 pub record IsNext (n : ℕ) (act : RootAct) (r after : Root) : Type 0 where
   pub sound : IsSound after
   pub settled : IsSettled after

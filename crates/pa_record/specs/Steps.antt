@@ -1,13 +1,13 @@
 -- What takes, returns and decommits leave of a root.
 use Rattle.std.specs.Prelude.{◌≡◌, ◌≢◌, ℕ, ◌+◌, ◌-◌, ◌*◌, ◌≤◌, ◌⊎◌, Bool, true, List, length, Some, Contains, AllPairs}
-use Rattle.pa_machine.specs.declared.title.Title.{Title}
-use Rattle.pa_machine.specs.declared.word.SlotName.{SlotName}
+use Rattle.pa_slot.specs.declared.title.Title.{Title}
+use Rattle.pa_slot.specs.declared.word.SlotName.{SlotName}
 use Rattle.pa_buckets.specs.Table.{slot_of}
 use Rattle.pa_record.specs.Spans.{Span, name_of}
 use Rattle.pa_record.specs.Root.{Root, Took, Filled, empties, IsOut}
 use Rattle.pa_record.specs.Sound.{IsSound, IsMade}
 
--- s passes the test, and no other that does has a greater turn; a lesser one
+-- s passes the test, and no other span that does has a greater turn
 pub record IsLatest (test : Span → Bool) (ss : List Span) (s : Span) : Type 0 where
   pub among : Contains ss s
   pub passes : test s ≡ true
@@ -65,7 +65,7 @@ pub record TakesNothing (r after : Root) : Type 0 where
   pub keeps : (t : Title) → IsMade r t → IsMade after t
   pub only : (name : SlotName) → IsOut after name → IsOut r name
 
--- the oldest empty span is decommitted that many times: nothing else changes
+-- the oldest empty span was decommitted n times, and nothing else changed
 pub record IsDecommittedTimes (n : ℕ) (r after : Root) : Type 0 where
   pub kept : TakesNothing r after
   pub turn : after.turn ≤ r.turn + n

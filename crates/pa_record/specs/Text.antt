@@ -21,7 +21,7 @@ use Rattle.pa_record.specs.declared.report.ReportLine.{ReportLine}
 use Rattle.pa_record.specs.declared.run.Run.{Run}
 use Rattle.pa_record.specs.declared.entry.Answer.TheVariants.{Made, Done, Value, Dangling, SecondFree, NotOwner, StaleReset, StaleUse, Nothing, Filled, NotRef, Shared, OutOfRange, TooLarge, Full, Swapped, Purged}
 
--- ` SLOT`, ` SLOT FOUND`, and the same or nothing
+-- ` SLOT`: a space and the slot's name
 abbrev pub spaced_slot : Seen → List ℕ
 spaced_slot seen = codes " " ++ slot_text seen.slot
 
@@ -75,7 +75,7 @@ numbered_text n = slot_text n.slot ++ codes "@" ++ decimal n.number
 abbrev pub slots_text : List Numbered → List ℕ
 slots_text slots = flat_map (λ n. codes " " ++ numbered_text n) slots
 
--- what a root did
+-- the text of what a root did
 abbrev pub root_act_text : RootAct → List ℕ
 root_act_text (acts.Fill class pool slots) = codes "fill " ++ decimal class ++ codes " " ++ number_or (codes "-") pool ++ slots_text slots
 root_act_text (acts.Map pool slot len) = codes "map " ++ decimal pool ++ codes " " ++ slot_text slot ++ codes "@0 " ++ decimal len
@@ -89,7 +89,7 @@ abbrev pub root_text : ℕ → ℕ → RootEntry → List ℕ
 root_text p j e = field_text (codes "r ") p ++ field_text (codes " ") j ++ field_text (codes " ") e.line ++ codes " "
     ++ root_act_text e.act ++ 10 ∷ []
 
--- what the pool did
+-- the text of what the pool did
 abbrev pub pool_act_text : PoolAct → List ℕ
 pool_act_text (turns.Take count first) = codes "take " ++ decimal count ++ codes " " ++ number_or (codes "none") first
 pool_act_text (turns.Give count first) = codes "give " ++ decimal count ++ codes " " ++ decimal first
@@ -138,7 +138,7 @@ abbrev pub lines_from : {A : Type 0} → (ℕ → A → List ℕ) → ℕ → Li
 lines_from f n [] = []
 lines_from f n (x ∷ xs) = f n x ++ lines_from f (n + 1) xs
 
--- the lines of a journal of partition P, and of the journals from partition 0 on
+-- the lines of a journal of partition p
 abbrev pub journal_text : ℕ → List RootEntry → List ℕ
 journal_text p entries = lines_from (root_text p) 0 entries
 
@@ -150,7 +150,7 @@ roots_text journals = lines_from journal_text 0 journals
 abbrev pub pools_text : List PoolEntry → List ℕ
 pools_text entries = lines_from pool_text 0 entries
 
--- the lines of the history of cell K, and of the histories from cell 0 on
+-- the lines of the history of cell k
 abbrev pub history_text : ℕ → List CellEntry → List ℕ
 history_text k entries = lines_from (cell_text k) 0 entries
 
@@ -158,7 +158,7 @@ history_text k entries = lines_from (cell_text k) 0 entries
 abbrev pub cells_text : List (List CellEntry) → List ℕ
 cells_text histories = lines_from history_text 0 histories
 
--- the whole text
+-- the whole text of a run
 abbrev pub run_text : Run → List ℕ
 run_text r = codes "run 1\n" ++ flat_map entry_text r.entries.items ++ roots_text r.roots.items ++ pools_text r.pool.items
     ++ cells_text r.cells.items ++ flat_map report_text r.report.items ++ codes "end\n"

@@ -14,7 +14,7 @@ use Rattle.pa_record.specs.Census.{census}
 abbrev pub slots : ℕ → ℕ → List ℕ → List Numbered
 slots born number starts = map (λ start. record { slot = record { start = start; born = born }; number = number }) starts
 
--- entries of a journal, with their lines
+-- on this line a fill took these slots of the class, and asked the pool for a super page if it names an entry of it
 abbrev pub fill : ℕ → ℕ → Option ℕ → List Numbered → RootEntry
 fill line class asked xs = record { line = line; act = Fill class asked xs }
 
@@ -30,16 +30,17 @@ give line xs = record { line = line; act = Give xs }
 abbrev pub purge : ℕ → RootEntry
 purge line = record { line = line; act = Purge }
 
--- a direct map that starts there; one that goes, of this entry of the pool and at this number
+-- on this line a direct map of `len` bytes was made that starts there, in super pages that the pool's entry `asked` took
 abbrev pub map_made : ℕ → ℕ → ℕ → ℕ → RootEntry
 map_made line asked start len = record { line = line; act = Map asked (record { start = start; born = asked }) len }
 
--- a direct map that goes on this line, by entry `asked` of the pool; its slot is of entry `born`, and its count word has this number
+-- on this line a direct map went back by entry `asked` of the pool: its slot is of entry `born`, and its count word has this
+-- number
 abbrev pub map_gone : ℕ → ℕ → ℕ → ℕ → ℕ → RootEntry
 map_gone line asked start born number =
     record { line = line; act = Unmap asked (record { slot = record { start = start; born = born }; number = number }) }
 
--- entries of the pool, with their lines and partitions
+-- on this line the partition asked for `count` super pages, and the pool found those from `first` on, or none
 abbrev pub pool_take : ℕ → ℕ → ℕ → Option ℕ → PoolEntry
 pool_take line partition count first = record { line = line; partition = partition; act = pool.Take count first }
 
@@ -60,7 +61,7 @@ census_of slots bytes committed reserved full active empty decommitted =
       decommitted = decommitted;
     }
 
--- the entries are those of a pool and of a root, which has this at the end
+-- the entries are those of a pool and of a journal of a root, which has this census at the end
 pub record IsWorked (supers : ℕ) (pools : List PoolEntry) (journal : List RootEntry) (at_end : Census) : Type 0 where
   pub is_pool : IsPool supers pools
   pub is_journal : IsJournal pools journal
@@ -73,7 +74,7 @@ short_fill_pool =
     ∷ pool_take 7 0 1 None
     ∷ []
 
--- its journal: four fills of a slot each, and one that gets no super page
+-- the journal of the short fill: four fills of a slot each, and one that gets no super page
 abbrev pub short_fill_journal : List RootEntry
 short_fill_journal =
     fill 2 58 (Some 0) (slots 0 0 (16384 ∷ []))
@@ -83,7 +84,7 @@ short_fill_journal =
     ∷ full 7 (Some 38) 1
     ∷ []
 
--- its end: nothing is kept, 502 system pages of one super page are committed, and four spans are full
+-- the end of the short fill: nothing is kept, 502 system pages of one super page are committed, and four spans are full
 abbrev pub short_fill_census : Census
 short_fill_census = census_of 0 0 2056192 2097152 4 0 0 0
 
@@ -94,7 +95,7 @@ full_region_pool =
     ∷ pool_take 4 0 1 None
     ∷ []
 
--- its journal: two fills of 56 pages, a third that gets no super page, and eight slots of 16 bytes
+-- the journal of the full region: two fills of 56 pages, a third that gets no super page, and eight slots of 16 bytes
 abbrev pub full_region_journal : List RootEntry
 full_region_journal =
     fill 2 58 (Some 0) (slots 0 0 (16384 ∷ []))
@@ -103,7 +104,7 @@ full_region_journal =
     ∷ fill 5 0 None (slots 0 0 (1851392 ∷ 1851408 ∷ 1851424 ∷ 1851440 ∷ 1851456 ∷ 1851472 ∷ 1851488 ∷ 1851504 ∷ []))
     ∷ []
 
--- its end: 248 slots of 16 bytes are kept, two spans are full, and one is active
+-- the end of the full region: 248 slots of 16 bytes are kept, two spans are full, and one is active
 abbrev pub full_region_census : Census
 full_region_census = census_of 248 3968 1839104 2097152 2 1 0 0
 
@@ -118,7 +119,7 @@ direct_map_again_pool =
     ∷ pool_take 9 0 1 (Some 0)
     ∷ []
 
--- its journal: a direct map is made, goes and is made again; then there is no room for another one, and it goes and is
+-- the journal of the direct map again: a direct map is made, goes and is made again, and after a refused one it goes and is
 -- made once more
 abbrev pub direct_map_again_journal : List RootEntry
 direct_map_again_journal =
@@ -130,7 +131,7 @@ direct_map_again_journal =
     ∷ map_made 9 5 16384 2002944
     ∷ []
 
--- its end: one direct map of 2,002,944 bytes in one super page, and no span
+-- the end of the direct map again: one direct map of 2,002,944 bytes in one super page, and no span
 abbrev pub direct_map_again_census : Census
 direct_map_again_census = census_of 0 0 2002944 2097152 0 0 0 0
 
@@ -140,7 +141,7 @@ cache_overflow_pool =
     pool_take 2 0 1 (Some 0)
     ∷ []
 
--- its journal: nine fills of eight slots of 16 bytes, and batches of 16, 16 and 1 slots on one line
+-- the journal of the cache overflow: nine fills of eight slots of 16 bytes, and batches of 16, 16 and 1 slots on one line
 abbrev pub cache_overflow_journal : List RootEntry
 cache_overflow_journal =
     fill 2 0 (Some 0) (slots 0 0 (16384 ∷ 16400 ∷ 16416 ∷ 16432 ∷ 16448 ∷ 16464 ∷ 16480 ∷ 16496 ∷ []))
@@ -159,7 +160,7 @@ cache_overflow_journal =
     ∷ give 125 (slots 0 0 (17520 ∷ []))
     ∷ []
 
--- its end: 217 slots of 16 bytes are kept, in one active span with one system page
+-- the end of the cache overflow: 217 slots of 16 bytes are kept, in one active span with one system page
 abbrev pub cache_overflow_census : Census
 cache_overflow_census = census_of 217 3472 4096 2097152 0 1 0 0
 
@@ -170,7 +171,7 @@ empty_ring_pool =
     pool_take 2 0 1 (Some 0)
     ∷ []
 
--- its journal: 17 spans of one slot are filled, each slot comes back, and one more fill takes the last of them
+-- the journal of the ring: 17 spans of one slot are filled, each slot comes back, and one more fill takes the last of them
 abbrev pub empty_ring_journal : List RootEntry
 empty_ring_journal =
     fill 2 43 (Some 0) (slots 0 0 (16384 ∷ []))
@@ -210,7 +211,7 @@ empty_ring_journal =
     ∷ fill 36 43 None (slots 0 2 (1064960 ∷ []))
     ∷ []
 
--- its end: 16 slots of 65,536 bytes are kept; one span is full, 15 are empty, and one is decommitted
+-- the end of the ring: 16 slots of 65,536 bytes are kept, one span is full, 15 are empty, and one is decommitted
 abbrev pub empty_ring_census : Census
 empty_ring_census = census_of 16 1048576 1048576 2097152 1 0 15 1
 
@@ -220,7 +221,7 @@ purge_pool =
     pool_take 2 0 1 (Some 0)
     ∷ []
 
--- its journal: a fill of eight slots of 16 bytes, a batch of all eight, a purge, and a fill with the same slots
+-- the journal of the purge: a fill of eight slots of 16 bytes, a batch of all eight, a purge, and a fill with the same slots
 abbrev pub purge_journal : List RootEntry
 purge_journal =
     fill 2 0 (Some 0) (slots 0 0 (16384 ∷ 16400 ∷ 16416 ∷ 16432 ∷ 16448 ∷ 16464 ∷ 16480 ∷ 16496 ∷ []))
@@ -229,7 +230,7 @@ purge_journal =
     ∷ fill 5 0 None (slots 0 2 (16384 ∷ []) ++ slots 0 0 (16400 ∷ 16416 ∷ 16432 ∷ 16448 ∷ 16464 ∷ 16480 ∷ 16496 ∷ []))
     ∷ []
 
--- its end: 248 slots of 16 bytes are kept, in one active span with one system page
+-- the end of the purge: 248 slots of 16 bytes are kept, in one active span with one system page
 abbrev pub purge_census : Census
 purge_census = census_of 248 3968 4096 2097152 0 1 0 0
 
@@ -245,7 +246,8 @@ span_lists_pool =
     ∷ pool_take 25 0 2 (Some 1)
     ∷ []
 
--- its journal: fills and batches of spans of a page, with a purge among them; then a direct map, more fills, and another map in its place
+-- the journal of the span lists: fills and batches of spans of a page, with a purge among them, and then a direct map, more
+-- fills, and another map in its place
 abbrev pub span_lists_journal : List RootEntry
 span_lists_journal =
     fill 2 27 (Some 0) (slots 0 0 (16384 ∷ 20480 ∷ []))
@@ -274,6 +276,6 @@ span_lists_journal =
     ∷ map_made 25 4 2113536 2068480
     ∷ []
 
--- its end: 256 slots are kept; three spans are full, two are active, and two are decommitted
+-- the end of the span lists: 256 slots are kept, three spans are full, two are active, and two are decommitted
 abbrev pub span_lists_census : Census
 span_lists_census = census_of 256 44928 4833280 8388608 3 2 0 2

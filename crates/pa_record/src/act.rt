@@ -2,7 +2,7 @@ ghost use Rattle.std.specs.Prelude.{◌≡◌, ◌≤◌, length};
 
 use crate::Numbered;
 use pa_buckets::Class;
-use pa_machine::SlotName;
+use pa_slot::SlotName;
 use std::marker::Model;
 
 /// At most 16 slots of an act, borrowed from where they are kept. They are seen as the list of them.
@@ -23,7 +23,7 @@ impl<'a> Model for LentSlots<'a> {
 }
 
 impl<'a> LentSlots<'a> {
-    /// These slots.
+    /// At most 16 slots, lent.
     pub fn of(of: &'a [Numbered]) -> LentSlots<'a>
         requires few { length of.now ≤ 16 }
         ensures slots { result ≡ of.now }
@@ -39,7 +39,7 @@ impl<'a> LentSlots<'a> {
         self.of
     }
 
-    /// The same slots.
+    /// The slots, lent once more.
     pub fn lent(&self) -> LentSlots<'_>
         ensures slots { result ≡ self.now }
     {

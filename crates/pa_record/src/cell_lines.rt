@@ -1,19 +1,20 @@
-ghost use Rattle.std.specs.Prelude.{◌≡◌, ◌++◌, codes, OnOk, OnErr};
+ghost use Rattle.std.specs.Prelude.{◌≡◌, ◌<◌, ◌++◌, codes, length, OnOk, OnErr, List, Contains};
 ghost use Rattle.std.specs.Io.{StartsWith};
 ghost use Rattle.pa_text.specs.Hex.{slot_text};
 ghost use Rattle.pa_record.specs.Text.{field_text, held_text, cell_text, history_text, cells_text};
 
 use crate::writing::push_field;
 use crate::{CellEntry, Held, History};
-use pa_machine::{OutOfMemory, SlotName};
+use pa_slot::{OutOfMemory, SlotName};
 use pa_text::{Text, push_byte, push_bytes, push_slot};
 
 /// Appends the lines of all exchanges, by cell from cell 0 on and by index. If memory runs out, a first part of it
-/// may have been appended.
+/// may have been appended; it doesn't if no cell has an exchange.
 #[tactic(auto, using(crate::proofs::Joining::starts_through))]
 pub fn push_cells(out: &mut Text, cells: &[History]) -> Result<(), OutOfMemory>
     ensures pushed { OnOk result (out.new ≡ out.old ++ cells_text cells.now) }
     ensures kept { OnErr result (StartsWith out.new out.old) }
+    ensures asks { OnErr result ((history : List CellEntry) × Contains cells.now history × (0 < length history)) }
 {
     let mut cell = 0;
     for history in cells {
@@ -28,6 +29,7 @@ pub fn push_cells(out: &mut Text, cells: &[History]) -> Result<(), OutOfMemory>
 fn push_history(out: &mut Text, cell: u64, entries: &[CellEntry]) -> Result<(), OutOfMemory>
     ensures pushed { OnOk result (out.new ≡ out.old ++ history_text cell entries.now) }
     ensures kept { OnErr result (StartsWith out.new out.old) }
+    ensures asks { OnErr result (0 < length entries.now) }
 {
     let mut index = 0;
     for entry in entries {

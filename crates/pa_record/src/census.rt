@@ -1,10 +1,10 @@
 ghost use Rattle.std.specs.Prelude.{◌≡◌, ◌*◌, ◌≤◌, ◌^◌, length, sum_by};
-ghost use Rattle.pa_machine.specs.declared.title.Title.{Title as Slot};
+ghost use Rattle.pa_slot.specs.declared.title.Title.{Title as Slot};
 ghost use Rattle.pa_layout.specs.Pages.{supers_for};
 
 use crate::Tally;
 use pa_layout::supers_for;
-use pa_machine::Title;
+use pa_slot::Title;
 
 /// What one root has: its free slots, its bytes, and how many of its spans are in each state.
 #[derive(Clone, Copy, Debug, PartialEq, Eq)]
@@ -28,7 +28,7 @@ pub struct Mapped {
     pub supers: u64,
 }
 
-/// They are counted in one pass.
+/// What these direct maps have together, counted in one pass.
 pub fn mapped_of(maps: &[Title]) -> Mapped
     requires { length maps.now ≤ 2147483647 }
     ensures bytes { result.bytes ≡ sum_by (λ (t : Slot). t.len) maps.now }

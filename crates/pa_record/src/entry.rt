@@ -1,4 +1,4 @@
-use pa_machine::{SlotName, Word};
+use pa_slot::{SlotName, Word};
 
 /// The record of one op line: the line's number in the trace, whose head is line 1, the thread that played it,
 /// and its answer.

@@ -9,7 +9,7 @@ use crate::act::Act;
 use crate::lent_entry::LentEntry;
 use crate::{CellEntry, Entry, History, Journal, Numbered, PoolEntry, ReportLine, RootEntry, Run};
 use pa_buckets::Class;
-use pa_machine::SlotName;
+use pa_slot::SlotName;
 
 /// Each number of a run has the bits of its type, each class is one of the 59, and no batch has more than 16 slots.
 pub fn run_fits(run: &Run)
@@ -51,7 +51,8 @@ fn journal_fits(entries: &[RootEntry])
     }
 }
 
-/// So has each number of an entry of a journal; its class is one of the 59, and its batch has no more than 16 slots.
+/// Each number of an entry of a journal has the bits of its type, its class is one of the 59, and its batch has at most 16
+/// slots.
 pub fn root_fits(entry: &LentEntry<'_>)
     ensures { RootInBits entry.now }
 {
@@ -118,7 +119,7 @@ fn numbered_fits(slot: Numbered)
     ensures { NumberedInBits slot }
 {}
 
-/// So has each number of the pool's entries.
+/// Each number of the pool's entries has the bits of its type.
 pub fn pool_fits(entries: &[PoolEntry])
     ensures { AllByRecursion PoolInBits entries.now }
 {
@@ -131,7 +132,7 @@ fn pool_entry_fits(entry: PoolEntry)
     ensures { PoolInBits entry }
 {}
 
-/// So has each number of the exchanges with the cells.
+/// Each number of the exchanges with the cells has the bits of its type.
 pub fn histories_fit(histories: &[History])
     ensures { AllByRecursion (AllByRecursion CellInBits) histories.now }
 {
@@ -152,7 +153,7 @@ fn exchange_fits(entry: CellEntry)
     ensures { CellInBits entry }
 {}
 
-/// So has each number of the report.
+/// Each number of the report has the bits of its type.
 pub fn report_fits(report: &[ReportLine])
     ensures { AllByRecursion ReportInBits report.now }
 {

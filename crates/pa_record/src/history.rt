@@ -1,6 +1,6 @@
 ghost use Rattle.std.specs.Prelude.{◌≡◌, [], ◌∷◌, ◌++◌, OnOk, OnErr};
 
-use pa_machine::{OutOfMemory, SlotName};
+use pa_slot::{OutOfMemory, SlotName};
 use std::alloc::Global;
 use std::marker::Model;
 

@@ -22,7 +22,7 @@ impl<'a> Model for LentEntry<'a> {
 }
 
 impl<'a> LentEntry<'a> {
-    /// What a root did on this line.
+    /// The entry of a root that did this on this line.
     pub fn of(line: u32, act: Act<'a>) -> LentEntry<'a>
         ensures entry { result ≡ record { line = line; act = act_of act.entry } }
     {

@@ -1,4 +1,4 @@
-use pa_machine::SlotName;
+use pa_slot::SlotName;
 
 /// A slot, and a number of its count word.
 #[derive(Clone, Copy, Debug, PartialEq, Eq)]

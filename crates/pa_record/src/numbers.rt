@@ -7,7 +7,7 @@ ghost use Rattle.pa_record.specs.Numbers.{option_numbers, slot_numbers, numbered
 
 use crate::{CellEntry, Held, Numbered, PoolAct, PoolEntry, RootAct, RootEntry};
 use arrayvec::ArrayVec;
-use pa_machine::SlotName;
+use pa_slot::SlotName;
 
 /// The numbers of a journal's entry, in the order of its fields: a variant is its index in its enum, counted from 0,
 /// before its fields; a list is its length before its members; an `Option` is 0, or 1 before its value.

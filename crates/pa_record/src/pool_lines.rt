@@ -1,18 +1,20 @@
-ghost use Rattle.std.specs.Prelude.{◌≡◌, ◌++◌, OnOk, OnErr};
+ghost use Rattle.std.specs.Prelude.{◌≡◌, ◌<◌, ◌++◌, length, OnOk, OnErr};
 ghost use Rattle.std.specs.Io.{StartsWith};
 ghost use Rattle.pa_record.specs.Text.{field_text, number_or, pool_act_text, pool_text, pools_text};
 
 use crate::root_lines::push_number_or;
 use crate::writing::push_field;
 use crate::{PoolAct, PoolEntry};
-use pa_machine::OutOfMemory;
+use pa_slot::OutOfMemory;
 use pa_text::{Text, push_byte};
 
-/// Appends the lines of the pool's entries, from entry 0 on. If memory runs out, a first part of it may have been appended.
+/// Appends the lines of the pool's entries, from entry 0 on. If memory runs out, a first part of it may have been appended; it doesn't
+/// if there are none.
 #[tactic(auto, using(crate::proofs::Joining::starts_through))]
 pub fn push_pool(out: &mut Text, entries: &[PoolEntry]) -> Result<(), OutOfMemory>
     ensures pushed { OnOk result (out.new ≡ out.old ++ pools_text entries.now) }
     ensures kept { OnErr result (StartsWith out.new out.old) }
+    ensures asks { OnErr result (0 < length entries.now) }
 {
     let mut index = 0;
     for entry in entries {

@@ -8,7 +8,7 @@ pub struct Tally {
 }
 
 impl Tally {
-    /// The slots of both, whose numbers and bytes together stay below 2^64.
+    /// The sum of two tallies, in slots and in bytes, each below 2^64.
     pub fn and(self, other: Tally) -> Tally
         requires slots { self.slots + other.slots < 2 ^ 64 }
         requires bytes { self.bytes + other.bytes < 2 ^ 64 }

@@ -1,18 +1,20 @@
-ghost use Rattle.std.specs.Prelude.{◌≡◌, ◌++◌, OnOk, OnErr};
+ghost use Rattle.std.specs.Prelude.{◌≡◌, ◌<◌, ◌++◌, length, OnOk, OnErr};
 ghost use Rattle.std.specs.List.{flat_map};
 ghost use Rattle.std.specs.Io.{StartsWith};
 ghost use Rattle.pa_record.specs.Text.{field_text, tally_text, places_text, bytes_text, spans_text, report_text};
 
 use crate::writing::push_field;
 use crate::{ReportLine, Tally};
-use pa_machine::OutOfMemory;
+use pa_slot::OutOfMemory;
 use pa_text::{Text, push_byte};
 
-/// Appends the lines of the report, in their order. If memory runs out, a first part of it may have been appended.
+/// Appends the lines of the report, in their order. If memory runs out, a first part of it may have been appended; it doesn't if there
+/// are none.
 #[tactic(auto, using(crate::proofs::Joining::starts_through))]
 pub fn push_report(out: &mut Text, report: &[ReportLine]) -> Result<(), OutOfMemory>
     ensures pushed { OnOk result (out.new ≡ out.old ++ flat_map report_text report.now) }
     ensures kept { OnErr result (StartsWith out.new out.old) }
+    ensures asks { OnErr result (0 < length report.now) }
 {
     for line in report {
         push_line(out, line)?;

@@ -5,7 +5,7 @@ use crate::act::{Act, LentSlots};
 use crate::lent_entry::LentEntry;
 use crate::{Batch, Numbered};
 use pa_buckets::Class;
-use pa_machine::SlotName;
+use pa_slot::SlotName;
 
 /// One entry of a root's journal: the line of the trace whose op made it, and what the root did.
 #[derive(Debug, Drop, PartialEq, Eq)]

@@ -11,7 +11,7 @@ use crate::lent_entry::LentEntry;
 use crate::writing::push_field;
 use crate::{Journal, Numbered, RootEntry};
 use pa_buckets::Class;
-use pa_machine::{OutOfMemory, SlotName};
+use pa_slot::{OutOfMemory, SlotName};
 use pa_text::{Text, push_byte, push_bytes, push_number, push_slot};
 
 // Appends the lines of all journals, from partition 0 on.

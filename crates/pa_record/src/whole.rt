@@ -9,15 +9,15 @@ use crate::pool_lines::push_pool;
 use crate::report_lines::push_report;
 use crate::root_lines::push_roots;
 use crate::{Entry, Run, push_entry, run_fits};
-use pa_machine::OutOfMemory;
+use pa_slot::OutOfMemory;
 use pa_text::{Text, push_bytes};
 use std::alloc::Global;
 
 // The bytes of a line of a record, the pool or a cell, for the memory that is reserved ahead: few are longer.
 const LINE_BYTES: usize = 72;
-// The same of a line of a journal.
+// The bytes of a line of a journal, for the memory that is reserved ahead: few are longer.
 const JOURNAL_BYTES: usize = 160;
-// The same of a line of the report.
+// The bytes of a line of the report, for the memory that is reserved ahead: few are longer.
 const REPORT_BYTES: usize = 256;
 
 /// The run's one text. Each fill and each give names at least one slot, and there are at most 4 journals and 64

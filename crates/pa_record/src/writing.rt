@@ -5,7 +5,7 @@ ghost use Rattle.pa_text.specs.Hex.{hex};
 ghost use Rattle.pa_record.specs.Text.{answer_text, entry_text, field_text, seen_text, seen_text_if, spaced_slot};
 
 use crate::{Answer, Entry, Seen};
-use pa_machine::OutOfMemory;
+use pa_slot::OutOfMemory;
 use pa_text::{Text, push_byte, push_bytes, push_number, push_slot, push_word};
 
 /// Appends the line of the record, with its LF. If memory runs out, a first part of it may have been appended.

@@ -1,7 +1,7 @@
 -- Words have a root if a store over them has its spans, and their lists stand.
 use Rattle.std.proofs.Common.{◌≡◌, ℕ, List, sym, ◌∙◌, subst}
 use Rattle.std.specs.Prelude.{Contains}
-use Rattle.pa_machine.specs.Links.{AreLinked}
+use Rattle.pa_slot.specs.Links.{AreLinked}
 use Rattle.pa_record.specs.Spans.{Span}
 use Rattle.pa_record.specs.Root.{Root}
 use Rattle.pa_spans.specs.Lists.{SpanListParts, Stand}

@@ -1,14 +1,14 @@
 -- Words that are the same in the records of a root's spans, and in the first words of their free slots, have the root too.
 use Rattle.std.proofs.Common.{◌≡◌, ℕ, ◌+◌, ◌<◌, ◌≤◌, List, arith}
 use Rattle.std.specs.Prelude.{slice_index}
-use Rattle.pa_machine.proofs.Links.{links_stay}
+use Rattle.pa_slot.proofs.Links.{links_stay}
 use Rattle.pa_lists.proofs.Elements.{all_from_members}
-use Rattle.pa_machine.specs.Links.{first_word}
+use Rattle.pa_slot.specs.Links.{first_word}
 use Rattle.pa_records.specs.Words.{record_word}
 use Rattle.pa_records.specs.Records.{span_record, names_free, SpansStay}
 use Rattle.pa_records.proofs.Words.{FourKept, same_record}
 
--- the same four words
+-- if four words are the same, the record in them is kept
 kept : (words others : List ℕ) (q : ℕ) → ((i : ℕ) → q ≤ i → i < q + 4 → slice_index others i ≡ slice_index words i) → FourKept words others q
 kept words others q same = record {
   first = same q (omega arith) (omega arith);

@@ -80,7 +80,7 @@ without_changes : (x : SpanRecord) (spans : ℕ → SpanRecord) (u : ℕ) → al
 without_changes x spans u =
     previous_changes x.next x.previous (with_next x.previous x.next spans) u ∙ next_changes x.previous x.next spans u
 
--- the span in front is the one that entered; others stay
+-- the span in front is the one that entered, with its new state and turn
 front_is : (at : ℕ) (x : SpanRecord) (to : State) (head turn : ℕ) (spans : ℕ → SpanRecord) →
     alone (in_front at x to head turn spans at) ≡ record (alone x) { state = to; turn = turn }
 front_is at x to head turn spans =
@@ -128,13 +128,13 @@ entered_is_stored l spans after s to is moved =
           })
     ]
 
--- so the store has the spans of the root in which it is there
+-- after a span entered a state, the store has the spans of the root in which it is in that state
 pub enters_stored : (l : SpanListParts) (spans after : ℕ → SpanRecord) (has : ℕ → Type 0) (ss : List Span) (s : Span) (to : State) → AreStored spans has ss →
     Contains ss s → ((u : ℕ) → after u ≡ spans_entered s.place to l spans u) → AreStored after has (put (in_state to l.turn s) ss)
 enters_stored l spans after has ss s to st among moved =
     put_is_stored spans after has ss s (in_state to l.turn s) st among (entered_is_stored l spans after s to (st.numbers s among) moved)
 
--- the same pages have a span
+-- a store with spans at the same offsets has the same spans of the root
 pub stored_same : (spans : ℕ → SpanRecord) (has had : ℕ → Type 0) (ss : List Span) → ((u : ℕ) → has u → had u) → ((u : ℕ) → had u → has u) →
     AreStored spans has ss → AreStored spans had ss
 stored_same spans has had ss to from st = record {

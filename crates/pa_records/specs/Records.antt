@@ -1,8 +1,8 @@
 -- What words say of a root: the record of each of its spans is that of the span, and the span's free slots are chained.
 use Rattle.std.specs.Prelude.{◌≡◌, ℕ, ◌+◌, ◌<◌, ◌≤◌, ◌==◌, ◌&&◌, nat_lt, Bool, List, [], ◌∷◌, map, Option, Some, None, Contains, slice_index}
-use Rattle.pa_machine.specs.declared.title.Title.{Title}
-use Rattle.pa_machine.specs.declared.word.SlotName.{SlotName}
-use Rattle.pa_machine.specs.Links.{AreLinked, first_word}
+use Rattle.pa_slot.specs.declared.title.Title.{Title}
+use Rattle.pa_slot.specs.declared.word.SlotName.{SlotName}
+use Rattle.pa_slot.specs.Links.{AreLinked, first_word}
 use Rattle.pa_buckets.specs.declared.spans.State.{State}
 use Rattle.pa_buckets.specs.declared.spans.State.TheVariants as state
 use Rattle.pa_record.specs.declared.pool.PoolEntry.{PoolEntry}
@@ -16,7 +16,7 @@ use Rattle.pa_records.specs.Words.{record_word, IsRecordAt}
 abbrev pub is_beside : Span → Span → Bool
 is_beside s t = (t.class == s.class) && same_state t.state s.state
 
--- of the spans beside s the one with the next lesser turn, and the one with the next greater turn
+-- of the spans beside s the one with the next lesser turn, if there is one
 abbrev pub next_of : List Span → Span → Option Span
 next_of ss s = latest (λ t. is_beside s t && nat_lt t.turn s.turn) ss
 
@@ -66,7 +66,7 @@ span_record ss s = record_with s (neighbour_in s.state (previous_of ss s)) (neig
 abbrev pub HasRecord : List ℕ → List Span → Span → Type 0
 HasRecord words ss s = IsRecordAt words (record_word s.place) (span_record ss s)
 
--- the span's free slots, front first, and their names
+-- the titles of the span's free slots, front first
 abbrev pub titles_free : Span → List Title
 titles_free s = map (title_at s) s.free
 
@@ -83,13 +83,13 @@ pub record HasSpans (words : List ℕ) (r : Root) : Type 0 where
 abbrev pub AreSpansIn : List PoolEntry → (ℕ → List RootEntry) → List ℕ → Type 0
 AreSpansIn pools journals words = (p : ℕ) → p < 4 → HasSpans words (root_replayed pools (journals p) new_root)
 
--- other words are the same in these records, and in the first word of each free slot
+-- other words are the same in the records of the root's spans, and in the first word of each of their free slots
 pub record KeepsSpans (words others : List ℕ) (r : Root) : Type 0 where
   pub records : (s : Span) (q : ℕ) → Contains r.spans s → record_word s.place ≤ q → q < record_word s.place + 4 →
       slice_index others q ≡ slice_index words q
   pub firsts : (s : Span) (name : SlotName) → Contains r.spans s → Contains (names_free s) name →
       first_word others name ≡ first_word words name
 
--- words that are the same there have the root too
+-- if words have a root, so do others that are the same in its records and in the first words of its free slots
 abbrev pub SpansStay : Type 0
 SpansStay = (words others : List ℕ) (r : Root) → KeepsSpans words others r → HasSpans words r → HasSpans others r

@@ -6,15 +6,15 @@ use Rattle.pa_buckets.specs.declared.spans.State.TheVariants as state
 use Rattle.pa_buckets.specs.Limits.{class_count}
 use Rattle.pa_spans.specs.declared.span.Span.{Span}
 
--- where the record of the page at this offset begins, in bytes, and which word of the region that is
+-- the byte offset at which the record of the page at this offset begins
 abbrev pub record_byte : ℕ → ℕ
 record_byte place = record_place (super_page_at place) (page_at place)
 
--- the word of the region with which that record begins: its byte offset divided by 8
+-- the word of the region with which the record of the page at this offset begins: its byte offset divided by 8
 abbrev pub record_word : ℕ → ℕ
 record_word place = record_byte place / 8
 
--- the number of a state, and the state of a number
+-- the number that a record has for a state
 abbrev pub state_number : State → ℕ
 state_number state.None = 0
 state_number state.Active = 1
@@ -22,12 +22,13 @@ state_number state.Empty = 2
 state_number state.Decommitted = 3
 state_number state.Full = 4
 
--- the state with this number; each number above 3 is that of Full
+-- The state with this number. Each number above 3 is that of Full.
 abbrev pub numbered_state : ℕ → State
 numbered_state n =
     if n == 0 then state.None else (if n == 1 then state.Active else (if n == 2 then state.Empty else (if n == 3 then state.Decommitted else state.Full)))
 
--- Words 0 to 2 of a record; word 3 is the turn.
+-- word 0 of a record: the class in bits 0 to 7, the number of the state in bits 8 to 15, how many slots are allocated in bits 16 to
+-- 31, how many are provisioned in bits 32 to 47, and how many pages are committed in bits 48 to 63
 abbrev pub counts_of : Span → ℕ
 counts_of s = s.class + 256 * state_number s.state + 65536 * s.allocated + 4294967296 * s.provisioned + 281474976710656 * s.committed
 

@@ -1,6 +1,6 @@
 //! What words say of a root, as laws: calls that do nothing, and whose clauses are proved.
 ghost use Rattle.std.specs.Prelude.{◌≡◌, ◌↔◌, ℕ, List, Contains};
-ghost use Rattle.pa_machine.specs.Links.{AreLinked};
+ghost use Rattle.pa_slot.specs.Links.{AreLinked};
 ghost use Rattle.pa_buckets.specs.declared.spans.State.{State};
 ghost use Rattle.pa_record.specs.Spans.{Span, put};
 ghost use Rattle.pa_record.specs.Root.{Root, in_state, new_root, root_replayed};

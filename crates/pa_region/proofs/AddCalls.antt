@@ -1,4 +1,4 @@
--- The table lets a seat add to a totals word and load one; and what the words of a kind are together.
+-- The table lets a seat add to a totals word and load one. Then what the words of a kind are together.
 use Rattle.std.proofs.Common.{◌≡◌, ℕ, ◌+◌, ◌-◌, ◌%◌, ◌^◌, ◌<◌, ◌≤◌, List, length, set, refl, sym, ◌∙◌, ap, subst, arith, inl, inr}
 use Rattle.std.specs.Prelude.{slice_index}
 use Rattle.std.specs.List.{sum_by}
@@ -26,7 +26,7 @@ use Rattle.pa_region.proofs.Ends.{all_logs}
 use Rattle.pa_region.proofs.ByNumber.{all_most}
 use Rattle.pa_region.proofs.AddStep.{added_here, added_beside, add_keeps, total_small}
 
--- what an addition tells: the view after it
+-- what an addition leaves: the view after it
 abbrev pub AddTells : ℕ → ℕ → Me (Unit {0}) View → Me (Unit {0}) View → Type 0
 AddTells k bytes me after = (after.0 ≡ after_add k bytes me.0) × (after.1 ≡ me.1)
 
@@ -49,7 +49,7 @@ add_allowed k bytes slots id place me is can s kept homes at_id small =
       (refl, refl),
     )
 
--- what a load of a totals word tells: nothing changes, and who has every stake knows the sum
+-- what a load of a totals word says: nothing changes, and a seat that has every stake knows the sum
 abbrev pub TotalTells : ℕ → Me (Unit {0}) View → ℕ → Me (Unit {0}) View → Type 0
 TotalTells k me word after = (after.0 ≡ me.0) × (after.1 ≡ me.1) × (HasEveryStake me.0 → word ≡ logged_of me.0 (added_to k))
 
@@ -150,7 +150,7 @@ of_four q word bytes small = elim (cases_lt word 16) [
       omega arith
 ]
 
--- the same of each entry
+-- an entry weighs as much for the four words of a kind as for the kind
 four_words : (q : ℕ) (e : Entry) → q < 4 → added_to q e + added_to (4 + q) e + added_to (8 + q) e + added_to (12 + q) e ≡ added_as q e
 four_words q (Counted t step found value) small = refl
 four_words q (Looked t found) small = refl
@@ -165,7 +165,7 @@ logged_split views f g h each =
     sum_split (λ v. logged_of v f) (λ v. logged_of v g) (λ v. logged_of v h) views
     (λ v. sum_split (λ (s : Stake). sum_by f s.log) (λ (s : Stake). sum_by g s.log) (λ (s : Stake). sum_by h s.log) v.stakes (λ s. sum_split f g h s.log each))
 
--- so the four words of a kind are what all logs added to it, which isn't above what they owe
+-- the four words of a kind are together what all logs added to it, which isn't above what they owe
 pub kinds_are_owed : (words : List ℕ) (views : List View) (q : ℕ) → IsKept words views → q < 4 →
     (slice_index words (total_place words q) + slice_index words (total_place words (4 + q)) + slice_index words (total_place words (8 + q)) + slice_index words
     (total_place words (12 + q)) ≡ logged_in views (added_as q)) ×

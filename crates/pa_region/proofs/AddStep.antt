@@ -8,8 +8,8 @@ use Rattle.std.proofs.lemmas.List.{length-set, get_or-set_same, get_or-set_other
 use lib.Seq.{take-set-le}
 use Rattle.std.proofs.lemmas.Bool.{lt-ltb}
 use Rattle.std.proofs.lemmas.Bool.Decides.{eqb_tells}
-use Rattle.pa_machine.specs.declared.title.Title.{Title}
-use Rattle.pa_machine.specs.Holdings.{Piece, Thing, FreeTitle, OwnOf, RefOf, IsTitleHeld}
+use Rattle.pa_slot.specs.declared.title.Title.{Title}
+use Rattle.pa_slot.specs.Holdings.{Piece, Thing, FreeTitle, OwnOf, RefOf, IsTitleHeld}
 use Rattle.pa_machine.specs.Events.{total_of}
 use Rattle.pa_region.specs.declared.view.Entry.{Entry}
 use Rattle.pa_region.specs.declared.view.Entry.TheVariants.{Counted, Looked, Read, Added, Entered, Uncut}
@@ -39,7 +39,7 @@ use Rattle.pa_region.proofs.OrderPart.{ending, order_plain}
 use Rattle.pa_region.proofs.StepsPart.{logging, eased_same, filled_entry}
 use Rattle.pa_region.proofs.StepsKept.{others_apart}
 
--- the words of the bytes stay where a totals word is written
+-- a store to a totals word leaves the words of the bytes
 bytes_beyond : (words : List ℕ) (p x : ℕ) → length words - 16 ≤ p → byte_words (set words p x) ≡ byte_words words
 bytes_beyond words p x past = rw (length-set words p x) (take-set-le (length words - 16) words p x past)
 
@@ -112,7 +112,7 @@ add_logs k bytes words views i v kept at_i can r q =
         let e = kept.logs.each_stake (least_stake v.stakes) in
         elim (one_lt (least_stake v.stakes) 16) [ inl y ↦ let z = y.0 in omega arith | inr m ↦ let z = m.1 in absurd (omega arith) ]
 
--- so the sum is small
+-- the sum after an addition is small
 add_fits : (k bytes : ℕ) (words : List ℕ) (views : List View) (i : ℕ) (v : View) → IsKept words views → get_elem? views i ≡ some v → CanAdd k bytes v →
     logged_in views (added_to k) + bytes ≤ 2199023255552
 add_fits k bytes words views i v kept at_i can =

@@ -3,14 +3,14 @@ use Rattle.std.proofs.Common.{◌≡◌, ℕ, ◌+◌, ◌%◌, ◌<◌, List, s
 use Rattle.std.specs.Prelude.{slice_index}
 use mathlib.Core.Option.{some}
 use lib.ListN.{get_elem?}
-use Rattle.pa_machine.specs.declared.title.Title.{Title}
-use Rattle.pa_machine.specs.declared.word.Step.{Step}
-use Rattle.pa_machine.specs.declared.word.Step.TheVariants.{Issue, Copy, Reset, Free, Write}
-use Rattle.pa_machine.specs.Count.{CanStep, stepped}
-use Rattle.pa_machine.specs.Run.{IsFree}
-use Rattle.pa_machine.specs.Titles.{IsWellFormed, count_place, count_word}
-use Rattle.pa_machine.specs.Holdings.{RawByte, FreeTitle, OwnOf, RefOf, IsTitleHeld}
-use Rattle.pa_machine.proofs.Same.{title_tells}
+use Rattle.pa_slot.specs.declared.title.Title.{Title}
+use Rattle.pa_slot.specs.declared.word.Step.{Step}
+use Rattle.pa_slot.specs.declared.word.Step.TheVariants.{Issue, Copy, Reset, Free, Write}
+use Rattle.pa_slot.specs.Count.{CanStep, stepped}
+use Rattle.pa_slot.specs.Run.{IsFree}
+use Rattle.pa_slot.specs.Titles.{IsWellFormed, count_place, count_word}
+use Rattle.pa_slot.specs.Holdings.{RawByte, FreeTitle, OwnOf, RefOf, IsTitleHeld}
+use Rattle.pa_slot.proofs.Same.{title_tells}
 use Rattle.pa_region.specs.declared.view.View.{View}
 use Rattle.pa_machine.proofs.Parts.{free_or}
 use Rattle.pa_region.specs.Views.{held_of_view, free_of, HasTitle, byte_words}
@@ -66,7 +66,7 @@ count_allowed step t slots id place me at_place can s k homes at_id small =
 pub user_held : (t : Title) (v : View) → IsUser t v → IsTitleHeld (held_of_view v) t
 user_held t v has = title_held v t (omega arith)
 
--- so is a title that it holds free
+-- a title that a view holds free is held
 pub free_held : (t : Title) (v : View) → 0 < free_of v t → IsTitleHeld (held_of_view v) t
 free_held t v has = title_held v t (omega arith)
 
@@ -118,7 +118,7 @@ count_sound region step t word v can sound = record {
               sound.well u (held_title v u (omega arith))
         ]
 
--- so it is after a look
+-- what the type of a seat keeps holds after a look
 pub look_sound : (region : TableId) (t : Title) (word : ℕ) (v : View) → IsSeatSound region v → IsSeatSound region (after_look t word v)
 look_sound region t word v sound = record {
   small = sound.small;
@@ -133,7 +133,7 @@ look_sound region t word v sound = record {
         let a = look_holds t word v (FreeTitle u) in let b = look_holds t word v (OwnOf u) in let c = look_holds t word v (RefOf u) in
         sound.well u (held_title v u (omega arith))
 
--- the same, by the number that is added
+-- a counted step is allowed, given by the number that is added
 pub count_allowed_by : (step : Step) (t : Title) (slots id place added : ℕ) (me : Me (Unit {0}) View) → place ≡ count_place t → added ≡ adds step → CanCount step t me.0 →
     Allows (λ (s : TableState (Unit {0}) View). IsKept s.words s.views) slots id me place (λ n. (n + added) % 2 ^ 64) (λ word after. CountTells step t me word after)
 count_allowed_by step t slots id place added me at_place e can =

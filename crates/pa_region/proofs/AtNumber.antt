@@ -1,7 +1,7 @@
 -- A history up to a number: its words, its content, and what the next step leaves of them.
 use Rattle.std.proofs.Common.{◌≡◌, ℕ, ◌≤◌, List, [], ◌∷◌, length, refl, sym, ◌∙◌, ap, arith, inl, inr}
 use Rattle.std.proofs.lemmas.Bool.{cases_lt, lt-ltb, le-ltb}
-use Rattle.pa_machine.specs.Count.{number_of}
+use Rattle.pa_slot.specs.Count.{number_of}
 use Rattle.pa_region.specs.History.{Done, reached, IsLegal, IsWordIn, content_of}
 use Rattle.pa_region.specs.Contents.{up_to, content_at_number, word_at_number}
 use Rattle.pa_region.proofs.LogPart.{reached_number}
@@ -20,12 +20,12 @@ up_to_none (d ∷ older) = rw (le-ltb (length older) 0 (omega arith)) (up_to_non
 pub up_to_more : (k : ℕ) (d : Done) (history : List Done) → k ≤ length history → up_to k (d ∷ history) ≡ up_to k history
 up_to_more k d history within = rw (le-ltb (length history) k within) refl
 
--- so the content there stays
+-- the content at a number that was reached stays after one more step
 pub content_within : (k : ℕ) (d : Done) (history : List Done) → k ≤ length history →
     content_at_number k (d ∷ history) ≡ content_at_number k history
 content_within k d history within = ap content_of (up_to_more k d history within)
 
--- and the word
+-- the word with a number that was reached stays after one more step
 pub word_within : (k : ℕ) (d : Done) (history : List Done) → k ≤ length history →
     word_at_number k (d ∷ history) ≡ word_at_number k history
 word_within k d history within = ap reached (up_to_more k d history within)
@@ -42,7 +42,7 @@ up_to_length k (d ∷ older) within = elim (cases_lt (length older) k) [
   | inr n ↦ rw (le-ltb (length older) k n) (up_to_length k older n)
 ]
 
--- it is legal up to any number
+-- a legal history is legal up to any number
 pub up_to_legal : (k : ℕ) (history : List Done) → IsLegal history → IsLegal (up_to k history)
 up_to_legal k [] legal = legal
 up_to_legal k (d ∷ older) legal = elim (cases_lt (length older) k) [

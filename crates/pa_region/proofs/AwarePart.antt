@@ -5,10 +5,10 @@ use Rattle.std.specs.List.{sum_by, filter}
 use Rattle.std.proofs.lemmas.List.Sums.{sum_by-cons}
 use Rattle.std.proofs.lemmas.Bool.{cases_lt, cases_Bool}
 use Rattle.std.proofs.lemmas.Bool.Decides.{eqb_tells}
-use Rattle.pa_machine.specs.declared.title.Title.{Title}
-use Rattle.pa_machine.specs.Count.{number_of}
-use Rattle.pa_machine.specs.Titles.{IsWellFormed, poison}
-use Rattle.pa_machine.specs.Holdings.{Thing, RawByte, FreeTitle, OwnOf, RefOf, one}
+use Rattle.pa_slot.specs.declared.title.Title.{Title}
+use Rattle.pa_slot.specs.Count.{number_of}
+use Rattle.pa_slot.specs.Titles.{IsWellFormed, poison}
+use Rattle.pa_slot.specs.Holdings.{Thing, RawByte, FreeTitle, OwnOf, RefOf, one}
 use Rattle.pa_region.specs.declared.view.Entry.{Entry}
 use Rattle.pa_region.specs.declared.view.Stake.{Stake}
 use Rattle.pa_region.specs.declared.view.Keeper.{Keeper}
@@ -182,7 +182,7 @@ filter_by test amount r (s ∷ ss) = elim (eqb_tells s.number r) [
     left_out true z = let f = sum_by-cons (amount_by r amount) s (filter (λ (x : Stake). test x.number) ss) in omega arith
     left_out false z = refl
 
--- so no stake's log of the rest added more than it owes
+-- no stake's log of the rest added more than it owes
 part_covered : (test : ℕ → Bool) (ss : List Stake) (r q : ℕ) →
     sum_by (amount_by r (sum_by (added_as q))) ss ≤ sum_by (amount_by r (sum_by (owes_as q))) ss →
     sum_by (amount_by r (sum_by (added_as q))) (filter (λ (s : Stake). test s.number) ss)
@@ -197,7 +197,7 @@ not_twice : (b : Bool) → b ≡ not (not b)
 not_twice true = refl
 not_twice false = refl
 
--- so of a view that hands something over
+-- a view that hands something over stays aware
 pub left_aware : (p : Parcel) (v : View) → CanHand p v → IsAware v → IsAware (left_after p v)
 left_aware p v can a =
     let parts = hand_parts p v can in
@@ -237,7 +237,7 @@ given_stake p k (s ∷ ss) has = elim (cases_Bool (p.stakes s.number)) [
 first_given : (p : Parcel) (v : View) → HasEveryStake (given_after p v) → p.stakes 0 ≡ true
 first_given p v every = given_stake p 0 v.stakes (every 0 (omega arith))
 
--- and of the view that gets it
+-- the view that gets what is handed over is aware
 pub given_aware : (p : Parcel) (v : View) → CanHand p v → IsAware v → IsAware (given_after p v)
 given_aware p v can a =
     let parts = hand_parts p v can in

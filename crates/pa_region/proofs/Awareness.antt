@@ -12,12 +12,12 @@ use Rattle.atomic_table.specs.Table.{Me, Allows, keeps}
 use Rattle.atomic_table.specs.Table.{State as TableState}
 use Rattle.atomic_table.proofs.Lists.{set_again}
 use Rattle.std.specs.Prelude.{slice_index}
-use Rattle.pa_machine.specs.declared.title.Title.{Title}
-use Rattle.pa_machine.specs.Count.{number_of}
-use Rattle.pa_machine.specs.Titles.{count_word}
-use Rattle.pa_machine.specs.Holdings.{RawByte, one, IsTitleHeld}
+use Rattle.pa_slot.specs.declared.title.Title.{Title}
+use Rattle.pa_slot.specs.Count.{number_of}
+use Rattle.pa_slot.specs.Titles.{count_word}
+use Rattle.pa_slot.specs.Holdings.{RawByte, one, IsTitleHeld}
 use Rattle.pa_machine.specs.Events.{total_of}
-use Rattle.pa_machine.proofs.Arith.{held_small}
+use Rattle.pa_slot.proofs.Arith.{held_small}
 use Rattle.pa_region.specs.declared.view.Made.{Made}
 use Rattle.pa_region.specs.declared.view.Keeper.{Keeper}
 use Rattle.pa_region.specs.declared.view.SeenList.{SeenList}
@@ -49,7 +49,7 @@ among_more k n ns = elim (eqb_tells n.keeper k) [
   | inr m ↦ rw m.0 omega arith
 ]
 
--- and no shorter than the note
+-- the list of a keeper among notes is no shorter than the first note of that keeper
 among_here : (n : SeenList) (ns : List SeenList) → length n.entries ≤ length (list_among n.keeper (n ∷ ns))
 among_here n ns = elim (eqb_tells n.keeper n.keeper) [
   | inl y ↦ elim (longer_is n.entries (list_among n.keeper ns)) [ inl z ↦ let z1 = z.1 in rw (y.0, z.0) omega arith | inr z ↦ rw (y.0, z.0) omega arith ]

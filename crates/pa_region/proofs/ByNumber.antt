@@ -4,7 +4,7 @@ use Rattle.std.specs.List.{sum_by}
 use Rattle.std.proofs.lemmas.List.Sums.{sum_by-cons}
 use Rattle.std.proofs.lemmas.Bool.{cases_lt}
 use Rattle.std.proofs.lemmas.Bool.Decides.{eqb_tells}
-use Rattle.pa_machine.specs.Holdings.{one}
+use Rattle.pa_slot.specs.Holdings.{one}
 use Rattle.pa_region.specs.declared.view.Entry.{Entry}
 use Rattle.pa_region.specs.declared.view.Stake.{Stake}
 use Rattle.pa_region.specs.declared.view.View.{View}
@@ -48,7 +48,7 @@ amount_one amount n s small =
     let here : amount_by s.number amount s ≡ amount s.log = elim (eqb_tells s.number s.number) [ inl y ↦ rw y.0 refl | inr m ↦ absurd (m.1 refl) ] in
     omega arith
 
--- all stakes' amounts, where each number is below n
+-- the amounts by number are those of all stakes together, if each number is below n
 amounts : (amount : List Entry → ℕ) (n : ℕ) (ss : List Stake) → ((k : ℕ) → n ≤ k → sum_by (λ (s : Stake). one (eqb s.number k)) ss ≡ 0) →
     up_to n (λ r. sum_by (amount_by r amount) ss) ≡ sum_by (λ (s : Stake). amount s.log) ss
 amounts amount n [] none = up_none n (λ r. 0) (λ r small. refl)

@@ -4,9 +4,9 @@ use mathlib.Core.Option.{some}
 use lib.ListN.{get_elem?}
 use Rattle.std.proofs.lemmas.List.{length-set, get_or-take, length-take-le}
 use Rattle.std.proofs.Math.Seq.{take-set-lt}
-use Rattle.pa_machine.specs.declared.title.Title.{Title}
-use Rattle.pa_machine.specs.Titles.{count_place}
-use Rattle.pa_machine.specs.Holdings.{FreeTitle, OwnOf, RefOf, IsTitleHeld}
+use Rattle.pa_slot.specs.declared.title.Title.{Title}
+use Rattle.pa_slot.specs.Titles.{count_place}
+use Rattle.pa_slot.specs.Holdings.{FreeTitle, OwnOf, RefOf, IsTitleHeld}
 use Rattle.pa_machine.specs.Events.{total_of}
 use Rattle.pa_region.specs.declared.view.View.{View}
 use Rattle.pa_region.specs.Views.{held_of_view, byte_words, shown}

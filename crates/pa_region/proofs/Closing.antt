@@ -8,11 +8,11 @@ use mathlib.Core.Option.{some, some-injective}
 use lib.ListN.{get_elem?}
 use Rattle.atomic_table.specs.Table.{Final}
 use Rattle.atomic_table.specs.Table.{Seen as SeenAt, State as TableState}
-use Rattle.pa_machine.specs.declared.title.Title.{Title}
-use Rattle.pa_machine.specs.declared.title.OwnState.{OwnState}
-use Rattle.pa_machine.specs.declared.title.OwnState.TheVariants.{Clean, Dirty, Poisoned}
-use Rattle.pa_machine.specs.Titles.{same_title, same_state, count_word}
-use Rattle.pa_machine.specs.Holdings.{OwnOf, OwnAs, one, IsTitleHeld}
+use Rattle.pa_slot.specs.declared.title.Title.{Title}
+use Rattle.pa_slot.specs.declared.title.OwnState.{OwnState}
+use Rattle.pa_slot.specs.declared.title.OwnState.TheVariants.{Clean, Dirty, Poisoned}
+use Rattle.pa_slot.specs.Titles.{same_title, same_state, count_word}
+use Rattle.pa_slot.specs.Holdings.{OwnOf, OwnAs, one, IsTitleHeld}
 use Rattle.pa_machine.specs.Events.{total_of}
 use Rattle.pa_region.specs.declared.view.OwnTitle.{OwnTitle}
 use Rattle.pa_region.specs.declared.view.View.{View}

@@ -4,18 +4,18 @@ use Rattle.std.specs.Prelude.{if◌then◌else◌}
 use Rattle.std.proofs.lemmas.Bool.{cases_lt}
 use mathlib.Core.Option.{some}
 use lib.ListN.{get_elem?}
-use Rattle.pa_machine.specs.declared.title.Title.{Title}
-use Rattle.pa_machine.specs.declared.title.OwnState.{OwnState}
-use Rattle.pa_machine.specs.declared.title.OwnState.TheVariants.{Clean, Dirty, Poisoned}
-use Rattle.pa_machine.specs.declared.word.Step.{Step}
-use Rattle.pa_machine.specs.declared.word.Step.TheVariants.{Issue, Copy, Reset, Free, Write}
+use Rattle.pa_slot.specs.declared.title.Title.{Title}
+use Rattle.pa_slot.specs.declared.title.OwnState.{OwnState}
+use Rattle.pa_slot.specs.declared.title.OwnState.TheVariants.{Clean, Dirty, Poisoned}
+use Rattle.pa_slot.specs.declared.word.Step.{Step}
+use Rattle.pa_slot.specs.declared.word.Step.TheVariants.{Issue, Copy, Reset, Free, Write}
 use Rattle.pa_machine.specs.declared.event.Event.TheVariants.{Count as CountEvent}
-use Rattle.pa_machine.specs.Count.{stepped}
-use Rattle.pa_machine.specs.Titles.{same_title, Covers, IsWellFormed, IsContentOf, content_count, content_place, content_at, count_place, count_word}
-use Rattle.pa_machine.specs.Holdings.{OwnPiece, FreeTitle, OwnAs, RefOf}
+use Rattle.pa_slot.specs.Count.{stepped}
+use Rattle.pa_slot.specs.Titles.{same_title, Covers, IsWellFormed, IsContentOf, content_count, content_place, content_at, count_place, count_word}
+use Rattle.pa_slot.specs.Holdings.{OwnPiece, FreeTitle, OwnAs, RefOf}
 use Rattle.pa_machine.specs.Events.{State, CanCount as CoreCan, HoldsOpen, Holds, IsEnabled, Happens, IsAfter, returned_at}
 use Rattle.pa_machine.specs.Trail.{KeepsContent, noted}
-use Rattle.pa_machine.proofs.Same.{title_tells}
+use Rattle.pa_slot.proofs.Same.{title_tells}
 use Rattle.pa_machine.proofs.Amounts.{content_unwritten}
 use Rattle.pa_machine.proofs.Happening.{own_state_is}
 use Rattle.pa_machine.proofs.Noting.{keeps_content}

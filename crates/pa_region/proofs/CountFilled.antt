@@ -2,15 +2,15 @@
 use Rattle.std.proofs.Common.{◌≡◌, ℕ, ◌+◌, ◌<◌, ◌≤◌, true, false, List, [], ◌∷◌, ◌++◌, refl, sym, ◌∙◌, ap, subst, arith, inl, inr}
 use mathlib.Core.Option.{some}
 use lib.ListN.{get_elem?}
-use Rattle.pa_machine.specs.declared.title.Title.{Title}
-use Rattle.pa_machine.specs.declared.title.OwnState.{OwnState}
-use Rattle.pa_machine.specs.declared.title.OwnState.TheVariants.{Clean, Poisoned}
-use Rattle.pa_machine.specs.declared.word.Step.{Step}
-use Rattle.pa_machine.specs.declared.word.Step.TheVariants.{Issue, Copy, Reset, Free, Write}
-use Rattle.pa_machine.specs.Titles.{same_title, content_count, progress}
-use Rattle.pa_machine.specs.Holdings.{Thing, OwnPiece, OwnOf, OwnAs, RefOf, held_in}
+use Rattle.pa_slot.specs.declared.title.Title.{Title}
+use Rattle.pa_slot.specs.declared.title.OwnState.{OwnState}
+use Rattle.pa_slot.specs.declared.title.OwnState.TheVariants.{Clean, Poisoned}
+use Rattle.pa_slot.specs.declared.word.Step.{Step}
+use Rattle.pa_slot.specs.declared.word.Step.TheVariants.{Issue, Copy, Reset, Free, Write}
+use Rattle.pa_slot.specs.Titles.{same_title, content_count, progress}
+use Rattle.pa_slot.specs.Holdings.{Thing, OwnPiece, OwnOf, OwnAs, RefOf, held_in}
 use Rattle.pa_machine.specs.Events.{returned_at}
-use Rattle.pa_machine.proofs.Same.{title_tells, title_self, state_tells}
+use Rattle.pa_slot.proofs.Same.{title_tells, title_self, state_tells}
 use Rattle.pa_machine.proofs.Parts.{Changes, IsNoneOf}
 use Rattle.pa_machine.proofs.Totals.{IsTally}
 use Rattle.pa_machine.proofs.Amounts.{own_self, state_here, state_apart, returned_cases}
@@ -23,8 +23,8 @@ use Rattle.pa_region.specs.Filled.{IsFilled, IsLeft, IsSteady, Filled}
 use Rattle.pa_region.proofs.Pieces.{lost_by, gained_by}
 use Rattle.pa_region.proofs.LogPart.{history_by}
 
--- what a counted step needs of the steps: no Own is there for an issue; a copy has a Ref, or an Own; a free has the Own with all
--- words poisoned, and was alone with it; a write has one that isn't poisoned
+-- What a counted step needs of the steps. For an issue there is no Own. A copy has a Ref, or an Own. A free has the Own with
+-- all words poisoned, and was alone with it. A write has one that isn't poisoned.
 abbrev pub IsReady : Step → ℕ → Title → OwnState → List OneStep → (Thing → ℕ) → Type 0
 IsReady Issue r t a steps total = total (OwnOf t) ≡ 0
 IsReady Copy r t a steps total = 0 < total (OwnOf t) + total (RefOf t)
@@ -32,7 +32,7 @@ IsReady Reset r t a steps total = 0 < total (RefOf t)
 IsReady Free r t a steps total = (a ≡ Poisoned (content_count t)) × (0 < total (OwnAs t a)) × (total (OwnOf t) ≡ 1) × IsAlone r t steps
 IsReady Write r t a steps total = (progress a ≡ 0) × (0 < total (OwnAs t a)) × (total (OwnOf t) ≡ 1)
 
--- then it is in place
+-- a counted step that has what it needs of the steps is in place
 pub count_placed : (step : Step) (r : ℕ) (t : Title) (a : OwnState) (steps : List OneStep) (all : List Stamped) (history : Title → List Done) (total : Thing → ℕ) (views : List View) →
     Filled steps all history total views → IsReady step r t a steps total → IsCountInPlace step r t steps
 count_placed Issue r t a steps all history total views f ready = (f.left t ready).none

@@ -3,16 +3,16 @@ use Rattle.std.proofs.Common.{◌≡◌, ℕ, ◌+◌, ◌<◌, ◌≤◌, Bool,
 use Rattle.std.specs.Prelude.{if◌then◌else◌}
 use mathlib.Core.Option.{some}
 use lib.ListN.{get_elem?}
-use Rattle.pa_machine.specs.declared.title.Title.{Title}
-use Rattle.pa_machine.specs.declared.title.OwnState.{OwnState}
-use Rattle.pa_machine.specs.declared.word.Step.{Step}
-use Rattle.pa_machine.specs.declared.word.Step.TheVariants.{Issue, Copy, Reset, Free, Write}
-use Rattle.pa_machine.specs.Count.{stepped, number_of, refs_of}
-use Rattle.pa_machine.specs.Titles.{same_title, count_place, count_word}
-use Rattle.pa_machine.specs.Holdings.{FreeTitle, OwnOf, RefOf, one}
+use Rattle.pa_slot.specs.declared.title.Title.{Title}
+use Rattle.pa_slot.specs.declared.title.OwnState.{OwnState}
+use Rattle.pa_slot.specs.declared.word.Step.{Step}
+use Rattle.pa_slot.specs.declared.word.Step.TheVariants.{Issue, Copy, Reset, Free, Write}
+use Rattle.pa_slot.specs.Count.{stepped, number_of, refs_of}
+use Rattle.pa_slot.specs.Titles.{same_title, count_place, count_word}
+use Rattle.pa_slot.specs.Holdings.{FreeTitle, OwnOf, RefOf, one}
 use Rattle.pa_machine.specs.Events.{total_of}
 use Rattle.pa_machine.proofs.Parts.{word_covered}
-use Rattle.pa_machine.proofs.Same.{title_tells}
+use Rattle.pa_slot.proofs.Same.{title_tells}
 use Rattle.pa_region.specs.declared.view.Entry.TheVariants.{Counted, Looked}
 use Rattle.pa_region.specs.declared.view.OwnTitle.{OwnTitle}
 use Rattle.pa_region.specs.declared.view.View.{View}
@@ -28,7 +28,7 @@ use Rattle.pa_region.proofs.Bytes.{held_in_all}
 use Rattle.pa_region.proofs.Shown.{put_there}
 use Rattle.pa_region.proofs.ValuePart.{ShownGood}
 use Rattle.pa_region.proofs.ListPart.{IsGrown, lists_grown}
-use Rattle.pa_machine.proofs.Runs.{number_stepped}
+use Rattle.pa_slot.proofs.Runs.{number_stepped}
 
 -- a counted step leaves keepers, leases, lists, stakes and what was seen to the entry
 pub moved_rest : (step : Step) (t : Title) (word : ℕ) (v : View) →
@@ -55,7 +55,7 @@ other_handles step t word v u can ne has =
     let r1 = refs_have v u in let r2 = refs_have w u in
     omega arith
 
--- so it has seen more, and entered nothing
+-- a view after a counted step has seen more, and entered nothing
 pub count_grown : (step : Step) (t : Title) (word : ℕ) (v : View) → HasHandle step t v → IsGrown v (after_count step t word v)
 count_grown step t word v can =
     let m = moved_rest step t word v in
@@ -137,7 +137,7 @@ idle_title word o = go (eqb (refs_of word) 0)
     go true = refl
     go false = refl
 
--- so does a look
+-- a view after a look has seen more, and entered nothing
 pub look_grown : (t : Title) (word : ℕ) (v : View) → IsGrown v (after_look t word v)
 look_grown t word v = record {
   keepers = refl;

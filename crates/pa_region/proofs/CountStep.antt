@@ -5,19 +5,19 @@ use Rattle.std.specs.List.{sum_by}
 use Rattle.std.proofs.lemmas.Bool.{cases_lt}
 use mathlib.Core.Option.{some}
 use lib.ListN.{get_elem?}
-use Rattle.pa_machine.specs.declared.title.Title.{Title}
-use Rattle.pa_machine.specs.declared.title.OwnState.{OwnState}
-use Rattle.pa_machine.specs.declared.title.OwnState.TheVariants.{Clean}
-use Rattle.pa_machine.specs.declared.word.Step.{Step}
-use Rattle.pa_machine.specs.declared.word.Step.TheVariants.{Issue, Copy, Reset, Free, Write}
+use Rattle.pa_slot.specs.declared.title.Title.{Title}
+use Rattle.pa_slot.specs.declared.title.OwnState.{OwnState}
+use Rattle.pa_slot.specs.declared.title.OwnState.TheVariants.{Clean}
+use Rattle.pa_slot.specs.declared.word.Step.{Step}
+use Rattle.pa_slot.specs.declared.word.Step.TheVariants.{Issue, Copy, Reset, Free, Write}
 use Rattle.pa_machine.specs.declared.event.Event.TheVariants.{Count as CountEvent}
-use Rattle.pa_machine.specs.Count.{CanStep, stepped, number_of, refs_of}
-use Rattle.pa_machine.specs.Titles.{same_title, count_place, count_word}
-use Rattle.pa_machine.specs.Holdings.{Thing, OwnOf, RefOf, one, held_in, IsTitleHeld}
+use Rattle.pa_slot.specs.Count.{CanStep, stepped, number_of, refs_of}
+use Rattle.pa_slot.specs.Titles.{same_title, count_place, count_word}
+use Rattle.pa_slot.specs.Holdings.{Thing, OwnOf, RefOf, one, held_in, IsTitleHeld}
 use Rattle.pa_machine.specs.Good.{IsGood}
 use Rattle.pa_machine.specs.Events.{returned_at, total_of}
-use Rattle.pa_machine.proofs.Same.{title_self}
-use Rattle.pa_machine.proofs.Arith.{stepped_is, held_small}
+use Rattle.pa_slot.proofs.Same.{title_self}
+use Rattle.pa_slot.proofs.Arith.{stepped_is, held_small}
 use Rattle.pa_machine.proofs.Amounts.{returned_cases, own_self}
 use Rattle.pa_machine.proofs.Totals.{tally_of}
 use Rattle.pa_machine.proofs.Happening.{happens_good}
@@ -122,7 +122,7 @@ count_logged : (step : Step) (t : Title) (word : ℕ) (v : View) → HasStake v 
 count_logged step t word v has weight =
     rw (moved_stakes step t word v) (noted_logs (entry_of step t word v) v.stakes weight has)
 
--- and its stakes are the same
+-- a counted step leaves the stakes
 pub count_stakes : (step : Step) (t : Title) (word : ℕ) (v : View) → HasStake v → (k : ℕ) → stake_of (after_count step t word v) k ≡ stake_of v k
 count_stakes step t word v has k = rw (moved_stakes step t word v) (noted_stakes (entry_of step t word v) v.stakes k has)
 

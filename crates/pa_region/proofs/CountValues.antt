@@ -6,17 +6,17 @@ use Rattle.std.proofs.lemmas.Bool.Decides.{eqb_tells}
 use Rattle.std.proofs.lemmas.List.{length-set, get_or-set_same, get_or-set_other}
 use mathlib.Core.Option.{some}
 use lib.ListN.{get_elem?}
-use Rattle.pa_machine.specs.declared.title.Title.{Title}
-use Rattle.pa_machine.specs.declared.title.OwnState.TheVariants.{Clean}
-use Rattle.pa_machine.specs.declared.word.Step.{Step}
-use Rattle.pa_machine.specs.declared.word.Step.TheVariants.{Issue, Copy, Reset, Free, Write}
-use Rattle.pa_machine.specs.Count.{stepped, refs_of, held_of}
-use Rattle.pa_machine.specs.Run.{IsFree}
-use Rattle.pa_machine.specs.Titles.{Covers, IsWellFormed, IsContentOf, content_count, content_place, count_place, count_word, poison}
-use Rattle.pa_machine.specs.Holdings.{Thing, RawByte, FreeTitle, OwnOf, held_in, IsTitleHeld}
+use Rattle.pa_slot.specs.declared.title.Title.{Title}
+use Rattle.pa_slot.specs.declared.title.OwnState.TheVariants.{Clean}
+use Rattle.pa_slot.specs.declared.word.Step.{Step}
+use Rattle.pa_slot.specs.declared.word.Step.TheVariants.{Issue, Copy, Reset, Free, Write}
+use Rattle.pa_slot.specs.Count.{stepped, refs_of, held_of}
+use Rattle.pa_slot.specs.Run.{IsFree}
+use Rattle.pa_slot.specs.Titles.{Covers, IsWellFormed, IsContentOf, content_count, content_place, count_place, count_word, poison}
+use Rattle.pa_slot.specs.Holdings.{Thing, RawByte, FreeTitle, OwnOf, held_in, IsTitleHeld}
 use Rattle.pa_machine.specs.Events.{returned_at, total_of}
-use Rattle.pa_machine.proofs.Same.{title_tells}
-use Rattle.pa_machine.proofs.Arith.{stepped_is}
+use Rattle.pa_slot.proofs.Same.{title_tells}
+use Rattle.pa_slot.proofs.Arith.{stepped_is}
 use Rattle.pa_machine.proofs.Amounts.{returned_cases, free_self, own_self}
 use Rattle.pa_machine.proofs.Parts.{IsWordOf, word_covered}
 use Rattle.pa_region.specs.declared.view.View.{View}
@@ -58,7 +58,7 @@ moved_long Free t word v = go (is_back (stepped Free word))
     go false = refl
 moved_long Write t word v = refl
 
--- and what is known beside the title's own words
+-- a counted step leaves what is known beside the title's own words
 moved_beside : (step : Step) (t : Title) (word : ℕ) (v : View) (q : ℕ) → (IsWordOf t q → ⊥) → slice_index (moved step t word v).words q ≡ slice_index v.words q
 moved_beside Issue t word v q out = refl
 moved_beside Copy t word v q out = refl
@@ -114,8 +114,8 @@ other_holds step t u word v can ne =
     let lf = l.free in let lo = l.own in let gf = g.free in let go = g.own in
     (omega arith, omega arith)
 
--- Of its own title: a view that holds it free after the step got it back by it; one that has its Own had it before, or held the
--- title free before an issue.
+-- What holding the step's own title afterwards says. A view that holds it free got it back by the step. One that has its Own
+-- had it before, or held the title free before an issue.
 record IsHeldBy (step : Step) (t : Title) (word : ℕ) (v : View) : Type 0 where
   free : 0 < free_of (after_count step t word v) t → (is_back (stepped step word) ≡ true) × ((step ≡ Reset) ⊎ ((step ≡ Free) × (0 < own_of v t)))
   own : 0 < own_of (after_count step t word v) t → ((step ≡ Issue) × (0 < free_of v t)) ⊎ ((0 < own_of v t) × ((moved step t word v).words ≡ v.words))

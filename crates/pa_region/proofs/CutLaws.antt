@@ -3,9 +3,9 @@ use Rattle.std.proofs.Common.{◌≡◌, ℕ, zero, suc, ◌+◌, ◌*◌, ◌%�
 use Rattle.std.specs.Prelude.{slice_index}
 use Rattle.std.proofs.lemmas.List.Sums.{sum_by-cons}
 use Rattle.std.proofs.lemmas.Bool.{le-leb}
-use Rattle.pa_machine.specs.declared.title.Title.{Title}
-use Rattle.pa_machine.specs.Titles.{Covers}
-use Rattle.pa_machine.specs.Holdings.{one}
+use Rattle.pa_slot.specs.declared.title.Title.{Title}
+use Rattle.pa_slot.specs.Titles.{Covers}
+use Rattle.pa_slot.specs.Holdings.{one}
 use Rattle.pa_machine.proofs.Cutting.{covers_or}
 use Rattle.pa_region.specs.declared.view.RawRange.{RawRange}
 use Rattle.pa_region.specs.declared.view.View.{View}
@@ -75,7 +75,7 @@ cut_next t u v can far = record {
       omega arith;
 }
 
--- the same bytes can be cut again, for a title that is born later
+-- the bytes of a title that was uncut can be cut again, for a title that is born later
 pub cut_again : (t u : Title) (v : View) → u.start ≡ t.start → u.len ≡ t.len → t.born < u.born → u.start % 8 ≡ 0 → u.len % 8 ≡ 0 → 16 ≤ u.len → CanCut u (after_uncut t v)
 cut_again t u v start len later start_aligned len_aligned long = record {
   start_aligned = start_aligned;

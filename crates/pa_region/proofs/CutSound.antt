@@ -5,10 +5,10 @@ use Rattle.std.proofs.lemmas.List.Sums.{sum_by-cons}
 use Rattle.atomic_table.specs.Seated.{TableId}
 use Rattle.atomic_table.specs.Table.{Me, Allows, keeps}
 use Rattle.atomic_table.specs.Table.{State as TableState}
-use Rattle.pa_machine.specs.declared.title.Title.{Title}
-use Rattle.pa_machine.specs.Titles.{same_title, IsWellFormed, count_place, count_word}
-use Rattle.pa_machine.specs.Holdings.{FreePiece, RawByte, one, amount}
-use Rattle.pa_machine.proofs.Same.{title_one}
+use Rattle.pa_slot.specs.declared.title.Title.{Title}
+use Rattle.pa_slot.specs.Titles.{same_title, IsWellFormed, count_place, count_word}
+use Rattle.pa_slot.specs.Holdings.{FreePiece, RawByte, one, amount}
+use Rattle.pa_slot.proofs.Same.{title_one}
 use Rattle.pa_machine.proofs.Cutting.{covers_or, uncovered_raw}
 use Rattle.pa_region.specs.declared.view.View.{View}
 use Rattle.pa_region.specs.Views.{seen_of}
@@ -72,7 +72,7 @@ cut_allowed t slots id place me can zero s k homes at_id small = (
   ((refl, refl), (cut_unseen t s.words s.views id me.0 k at_id can).1),
 )
 
--- and one that can uncut it may do so
+-- a seat that can uncut a title may do so
 pub uncut_allowed : (t : Title) (slots id place : ℕ) (me : Me (Unit {0}) View) → CanUncut t me.0 →
     Allows (λ (s : TableState (Unit {0}) View). IsKept s.words s.views) slots id me place (λ n. n) (λ word after. Leaves (after_uncut t me.0) me after)
 uncut_allowed t slots id place me can s k homes at_id small = (
@@ -111,7 +111,7 @@ titled_sound region t v sound can = record {
   long = sound.long;
 }
 
--- and after an uncut
+-- what the type of a seat keeps holds after an uncut
 pub uncut_sound : (region : TableId) (t : Title) (v : View) → IsSeatSound region v → CanUncut t v → IsSeatSound region (after_uncut t v)
 uncut_sound region t v sound can = record {
   small = sound.small;

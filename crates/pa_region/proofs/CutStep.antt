@@ -5,13 +5,13 @@ use Rattle.std.proofs.lemmas.List.Sums.{sum_by-cons}
 use Rattle.std.proofs.lemmas.Bool.{cases_lt}
 use mathlib.Core.Option.{some}
 use lib.ListN.{get_elem?}
-use Rattle.pa_machine.specs.declared.title.Title.{Title}
+use Rattle.pa_slot.specs.declared.title.Title.{Title}
 use Rattle.pa_machine.specs.declared.event.Event.TheVariants.{Cut}
-use Rattle.pa_machine.specs.Count.{number_of, refs_of}
-use Rattle.pa_machine.specs.Titles.{same_title, Covers, count_place, count_word}
-use Rattle.pa_machine.specs.Holdings.{RawPiece, FreePiece, RefPiece, Thing, RawByte, FreeTitle, OwnOf, OwnAs, RefOf, one, amount, held_in, IsTitleHeld}
+use Rattle.pa_slot.specs.Count.{number_of, refs_of}
+use Rattle.pa_slot.specs.Titles.{same_title, Covers, count_place, count_word}
+use Rattle.pa_slot.specs.Holdings.{RawPiece, FreePiece, RefPiece, Thing, RawByte, FreeTitle, OwnOf, OwnAs, RefOf, one, amount, held_in, IsTitleHeld}
 use Rattle.pa_machine.specs.Events.{IsEnabled, Happens, total_of}
-use Rattle.pa_machine.proofs.Same.{title_tells, title_one}
+use Rattle.pa_slot.proofs.Same.{title_tells, title_one}
 use Rattle.pa_machine.proofs.Parts.{Changes, raw_none, free_none}
 use Rattle.pa_machine.proofs.Cutting.{covered_raw, uncovered_raw, covers_or}
 use Rattle.pa_machine.proofs.Happening.{after_changes, happens_good}
@@ -126,7 +126,7 @@ cut_unnamed t words views i v k at_i can = elim (cases_lt 0 (logged_in views (na
   | inr n ↦ omega arith
 ]
 
--- so none has a step on it, and nobody has seen one
+-- no log has a step on a title that can be cut, and nobody has seen one
 pub cut_unseen : (t : Title) (words : List ℕ) (views : List View) (i : ℕ) (v : View) → IsKept words views → get_elem? views i ≡ some v → CanCut t v →
     (logged_in views (counted_on t) ≡ 0) × (seen_of v t ≡ 0)
 cut_unseen t words views i v k at_i can =

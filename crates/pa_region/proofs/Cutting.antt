@@ -3,8 +3,8 @@ use Rattle.std.proofs.Common.{◌≡◌, ℕ, ◌+◌, ◌<◌, ◌≤◌, Bool,
 use Rattle.std.specs.List.{sum_by}
 use Rattle.std.proofs.lemmas.List.Sums.{sum_by-cons, sum_by-le-sum_by}
 use Rattle.std.proofs.lemmas.Bool.{cases_lt, le-leb, lt-leb}
-use Rattle.pa_machine.specs.declared.title.Title.{Title}
-use Rattle.pa_machine.specs.Holdings.{one}
+use Rattle.pa_slot.specs.declared.title.Title.{Title}
+use Rattle.pa_slot.specs.Holdings.{one}
 use Rattle.pa_region.specs.declared.view.RawRange.{RawRange}
 use Rattle.pa_region.specs.declared.view.Entry.{Entry}
 use Rattle.pa_region.specs.declared.view.Entry.TheVariants.{Counted, Looked, Read, Added, Entered, Uncut}
@@ -33,7 +33,7 @@ outside_none a e b (r ∷ rs) low high =
       ]
     ]
 
--- and inside of it there is no other
+-- the inside parts have no byte from outside
 pub inside_none : (a e b : ℕ) (rs : List RawRange) → (b < a) ⊎ (e ≤ b) → sum_by (λ r. one (has_byte r b)) (inside a e rs) ≡ 0
 inside_none a e b [] far = refl
 inside_none a e b (r ∷ rs) far =

@@ -4,8 +4,8 @@ use Rattle.std.specs.Prelude.{slice_index}
 use Rattle.std.specs.List.{sum_by}
 use mathlib.Core.Option.{some, some-injective, some-ne-none}
 use lib.ListN.{get_elem?}
-use Rattle.pa_machine.specs.declared.title.Title.{Title}
-use Rattle.pa_machine.specs.Holdings.{Thing}
+use Rattle.pa_slot.specs.declared.title.Title.{Title}
+use Rattle.pa_slot.specs.Holdings.{Thing}
 use Rattle.pa_machine.specs.Events.{total_of}
 use Rattle.pa_region.specs.declared.view.Entry.{Entry}
 use Rattle.pa_region.specs.declared.view.Stake.{Stake}
@@ -25,7 +25,7 @@ pub all_logs : (views : List View) (i : ℕ) (v : View) (history : Title → Lis
 all_logs views i v history words total at_i l every weight =
     all_of (λ (s : Stake). sum_by weight s.log) views i v at_i every l.each_stake (λ u none. any_none (sum_by weight) u.stakes none)
 
--- so it knows all logs
+-- a view that has every stake knows all logs
 unfoldable pub knows_logs : (words : List ℕ) (views : List View) (i : ℕ) (v : View) → IsKept words views → get_elem? views i ≡ some v → HasEveryStake v → HasAllLogs v
 knows_logs words views i v k at_i every =
     let own_logs : (weight : Entry → ℕ) → logged_in views weight ≡ logged_of v weight = all_logs views i v k.history (byte_words words) (total_of (shown words views)) at_i k.logs every in

@@ -8,7 +8,7 @@ use Rattle.std.proofs.lemmas.Bool.{cases_Bool}
 use Rattle.std.proofs.lemmas.Bool.Decides.{eqb_tells}
 use mathlib.Core.Option.{some}
 use lib.ListN.{get_elem?}
-use Rattle.pa_machine.specs.Holdings.{one}
+use Rattle.pa_slot.specs.Holdings.{one}
 use Rattle.pa_region.specs.declared.view.Entry.{Entry}
 use Rattle.pa_region.specs.declared.view.Entry.TheVariants.{Entered}
 use Rattle.pa_region.specs.declared.view.Made.{Made}
@@ -68,7 +68,7 @@ eqb_flip a b c e = elim (eqb_tells a b) [
 abbrev pub list_with : (ℕ → List Made) → ℕ → Made → ℕ → List Made
 list_with list k m q = if eqb q k then list q ++ m ∷ [] else list q
 
--- it has what the entry puts there
+-- a keeper's list has what the entry puts there
 pub list_grows : (list : ℕ → List Made) (k : ℕ) (m : Made) (q : ℕ) → list_with list k m q ≡ list q ++ entry_in q (Entered k m)
 list_grows list k m q = elim (eqb_tells q k) [
   | inl y ↦ rw (y.0, eqb_flip q k true y.0) refl

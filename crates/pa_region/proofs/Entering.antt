@@ -6,7 +6,7 @@ use Rattle.std.proofs.lemmas.List.Sums.{sum_by-cons, sum_by_push, sum_by-le-sum_
 use Rattle.std.proofs.lemmas.Bool.{cases_lt}
 use mathlib.Core.Option.{some}
 use lib.ListN.{get_elem?}
-use Rattle.pa_machine.specs.Holdings.{one}
+use Rattle.pa_slot.specs.Holdings.{one}
 use Rattle.pa_region.specs.declared.view.Entry.{Entry}
 use Rattle.pa_region.specs.declared.view.Stake.{Stake}
 use Rattle.pa_region.specs.declared.view.View.{View}
@@ -31,7 +31,7 @@ least_from n (s ∷ ss) e h =
           elim (one_eq s.number n) [ inl y ↦ let z = y.0 in omega arith | inr k ↦ absurd (k.1 here) ]
     ]
 
--- so it has one with the least number
+-- a view that has a stake has one with the least number
 pub least_there : (ss : List Stake) → least_stake ss < 16 → 0 < sum_by (λ (s : Stake). one (eqb s.number (least_stake ss))) ss
 least_there ss h = least_from (least_stake ss) ss refl h
 
@@ -48,7 +48,7 @@ noted_logs e ss weight h =
     let p = sum_by_push weight first.0.log e in
     omega arith
 
--- and the stakes are the same
+-- an entry in the log leaves the stakes
 pub noted_stakes : (e : Entry) (ss : List Stake) (k : ℕ) → least_stake ss < 16 →
     sum_by (λ (s : Stake). one (eqb s.number k)) (noted e ss) ≡ sum_by (λ (s : Stake). one (eqb s.number k)) ss
 noted_stakes e ss k h =

@@ -1,8 +1,8 @@
 -- Whether counted steps and looks of an order found what they should, as a test that computes.
 use Rattle.std.proofs.Common.{◌≡◌, ℕ, Bool, true, ◌&&◌, List, [], ◌∷◌, ◌++◌, sym, ◌∙◌, ap, subst, eqb, append-nil, append_assoc}
 use Rattle.std.proofs.lemmas.Bool.{and_parts, eqb-true}
-use Rattle.pa_machine.specs.declared.title.Title.{Title}
-use Rattle.pa_machine.specs.Count.{number_of}
+use Rattle.pa_slot.specs.declared.title.Title.{Title}
+use Rattle.pa_slot.specs.Count.{number_of}
 use Rattle.pa_region.specs.declared.view.Entry.{Entry}
 use Rattle.pa_region.specs.declared.view.Entry.TheVariants.{Counted, Looked, Read, Added, Entered, Uncut}
 use Rattle.pa_region.specs.Order.{Stamped, steps_on, Touches}
@@ -13,7 +13,7 @@ finds before (Counted t step word value) = eqb (number_of word) (steps_on t befo
 finds before (Looked t word) = eqb (number_of word) (steps_on t before)
 finds before other = true
 
--- so did each of an order's entries, behind these
+-- each entry of an order, after these, found the number of counted steps of its title before it
 abbrev pub all_find : List Stamped → List Stamped → Bool
 all_find before [] = true
 all_find before (m ∷ after) = finds before m.entry && all_find (before ++ m ∷ []) after

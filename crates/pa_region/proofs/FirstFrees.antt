@@ -1,11 +1,11 @@
 -- The first Free from a number on.
 use Rattle.std.proofs.Common.{◌≡◌, ℕ, ◌+◌, ◌<◌, ◌≤◌, Bool, true, false, ◌&&◌, List, [], ◌∷◌, length, refl, sym, ◌∙◌, ap, arith, inl, inr, leb}
 use Rattle.std.proofs.lemmas.Bool.{cases_lt, cases_Bool, le-leb, lt-leb, lt-ltb}
-use Rattle.pa_machine.specs.declared.word.Step.{Step}
-use Rattle.pa_machine.specs.declared.word.Step.TheVariants.{Issue, Copy, Reset, Free, Write}
-use Rattle.pa_machine.specs.Count.{CanStep, stepped, held_of}
-use Rattle.pa_machine.specs.Holdings.{one}
-use Rattle.pa_machine.proofs.Arith.{stepped_is}
+use Rattle.pa_slot.specs.declared.word.Step.{Step}
+use Rattle.pa_slot.specs.declared.word.Step.TheVariants.{Issue, Copy, Reset, Free, Write}
+use Rattle.pa_slot.specs.Count.{CanStep, stepped, held_of}
+use Rattle.pa_slot.specs.Holdings.{one}
+use Rattle.pa_slot.proofs.Arith.{stepped_is}
 use Rattle.pa_region.specs.History.{Done, reached, IsLegal}
 use Rattle.pa_region.specs.Contents.{word_at_number}
 use Rattle.pa_region.specs.Frees.{is_free, frees_from, IsFirstFree}
@@ -16,7 +16,7 @@ and_true : (a b : Bool) → b ≡ true → one (a && b) ≡ one a
 and_true true b e = rw e refl
 and_true false b e = refl
 
--- and one that isn't leaves none
+-- a conjunction with false weighs nothing
 and_false : (a b : Bool) → b ≡ false → one (a && b) ≡ 0
 and_false true b e = rw e refl
 and_false false b e = refl
@@ -25,7 +25,7 @@ and_false false b e = refl
 pub frees_more : (k : ℕ) (d : Done) (history : List Done) → k ≤ length history → frees_from k (d ∷ history) ≡ one (is_free d.step) + frees_from k history
 frees_more k d history within = let a = and_true (is_free d.step) (leb k (length history)) (le-leb k (length history) within) in omega arith
 
--- and counts nothing if the number is past it
+-- a step counts nothing if the number is past it
 frees_less : (k : ℕ) (d : Done) (history : List Done) → length history < k → frees_from k (d ∷ history) ≡ frees_from k history
 frees_less k d history past = let a = and_false (is_free d.step) (leb k (length history)) (lt-leb k (length history) past) in omega arith
 
@@ -57,7 +57,7 @@ first_within history k n first = elim (cases_lt n (length history)) [
   | inr past ↦ let z = frees_past n history past in let h = first.here in absurd (omega arith)
 ]
 
--- it stays the first under later steps
+-- a first Free stays the first under a later step
 pub first_stays : (d : Done) (history : List Done) (k n : ℕ) → IsFirstFree history k n → IsFirstFree (d ∷ history) k n
 first_stays d history k n first =
     let within = first_within history k n first in
@@ -98,7 +98,7 @@ has_first k (d ∷ older) some_free =
           ]
     ]
 
--- and only one
+-- there is only one first Free from a number on
 pub one_first : (history : List Done) (k n m : ℕ) → IsFirstFree history k n → IsFirstFree history k m → n ≡ m
 one_first history k n m first other =
     let a = first.none_before in let b = first.here in

@@ -1,4 +1,4 @@
--- The fifth part at the start, with empty lists, and keepers and leases in the first view; and the seventh, with empty logs.
+-- The fifth part at the start, with empty lists, and keepers and leases in the first view, and the seventh, with empty logs.
 use Rattle.std.proofs.Common.{◌≡◌, ℕ, zero, suc, ◌+◌, ◌<◌, ◌≤◌, List, [], ◌∷◌, ◌++◌, refl, sym, ap, subst, arith, ◌⊎◌, inl, inr, eqb, leb}
 use Rattle.std.specs.Prelude.{slice_index}
 use Rattle.std.specs.List.{sum_by}
@@ -7,9 +7,9 @@ use Rattle.std.proofs.lemmas.List.Sums.{sum_by-cons}
 use Rattle.std.proofs.lemmas.Bool.{cases_lt, le-leb}
 use mathlib.Core.Option.{some, some-injective, some-ne-none}
 use lib.ListN.{get_elem?}
-use Rattle.pa_machine.specs.Count.{number_of}
-use Rattle.pa_machine.specs.Titles.{count_place, count_word}
-use Rattle.pa_machine.specs.Holdings.{one}
+use Rattle.pa_slot.specs.Count.{number_of}
+use Rattle.pa_slot.specs.Titles.{count_place, count_word}
+use Rattle.pa_slot.specs.Holdings.{one}
 use Rattle.pa_region.specs.declared.view.Stake.{Stake}
 use Rattle.pa_region.specs.declared.view.Keeper.{Keeper}
 use Rattle.pa_region.specs.declared.view.View.{View}
@@ -52,7 +52,7 @@ keeper_count from (suc count) k =
     let b = sum_by-cons (λ (s : Stake). one (eqb s.number k)) (record { number = from; log = [] }) (stakes_from (suc from) count) in
     omega arith
 
--- their lists are empty
+-- the lists of the first keepers are empty
 keepers_empty : (from count : ℕ) → Each (λ (q : Keeper). q.entries ≡ []) (keepers_from from count)
 keepers_empty from zero = tt
 keepers_empty from (suc count) = (refl, keepers_empty (suc from) count)
@@ -77,7 +77,7 @@ first_listed words budget = record {
   handles = λ t has. absurd (omega arith);
 }
 
--- its words are 0, so it has seen all numbers of its free titles
+-- the words of the first view are 0, so it has seen all numbers of its free titles
 first_free : (words budget : ℕ) → HasSeenFree (first_view words budget)
 first_free words budget t free =
     let z : number_of (count_word (blank words) t) ≡ 0 = ap number_of (blank_at words (count_place t)) in
@@ -108,7 +108,7 @@ logs_empty : (from count : ℕ) → Each (λ (s : Stake). s.log ≡ by_stake s.n
 logs_empty from zero = tt
 logs_empty from (suc count) = (refl, logs_empty (suc from) count)
 
--- and so is the order of all that was logged
+-- at the start nothing was logged, and this is of one order
 pub first_order : (words budget : ℕ) → InOneOrder [] (λ k. []) (first_view words budget ∷ [])
 first_order words budget = record {
   stakes = tt;

@@ -2,12 +2,12 @@
 use Rattle.std.proofs.Common.{◌≡◌, ℕ, ◌+◌, ◌<◌, ◌≤◌, Bool, true, false, ◌&&◌, List, ◌∷◌, length, refl, sym, ◌∙◌, ap, subst, arith, ◌⊎◌, inl, inr, eqb}
 use Rattle.std.specs.Prelude.{if◌then◌else◌}
 use Rattle.std.proofs.lemmas.Bool.{cases_Bool, ne_eqb}
-use Rattle.pa_machine.specs.declared.title.Title.{Title}
-use Rattle.pa_machine.specs.declared.word.Step.{Step}
-use Rattle.pa_machine.specs.Count.{number_of}
-use Rattle.pa_machine.specs.Titles.{same_title}
-use Rattle.pa_machine.specs.Holdings.{one}
-use Rattle.pa_machine.proofs.Same.{title_tells, title_self}
+use Rattle.pa_slot.specs.declared.title.Title.{Title}
+use Rattle.pa_slot.specs.declared.word.Step.{Step}
+use Rattle.pa_slot.specs.Count.{number_of}
+use Rattle.pa_slot.specs.Titles.{same_title}
+use Rattle.pa_slot.specs.Holdings.{one}
+use Rattle.pa_slot.proofs.Same.{title_tells, title_self}
 use Rattle.pa_region.specs.declared.view.Entry.{Entry}
 use Rattle.pa_region.specs.declared.view.Entry.TheVariants.{Counted}
 use Rattle.pa_region.specs.Views.{counted_at, looked_at}
@@ -29,7 +29,7 @@ not_at t u step word value n other = go (same_title t u) (eqb (number_of word) n
     go true b e = ap one e
     go false b e = refl
 
--- and one on another title
+-- a counted step on another title weighs nothing
 not_on : (t u : Title) (step : Step) (word value n : ℕ) → same_title t u ≡ false → counted_at u n (Counted t step word value) ≡ 0
 not_on t u step word value n other = rw other refl
 
@@ -103,7 +103,7 @@ content_counted t step value history u k within = elim (title_tells t u) [
   | inr n ↦ rw n.0 refl
 ]
 
--- so what was right stays right over a counted step
+-- reads that were right stay right over a counted step
 pub right_counted : (t : Title) (step : Step) (value word least : ℕ) (history : Title → List Done) (pairs after : (Entry → Entry → ℕ) → ℕ) (pairs_by after_by : ℕ → (Entry → Entry → ℕ) → ℕ)
     (logs : (Entry → ℕ) → ℕ) (logs_by logs_after : ℕ → (Entry → ℕ) → ℕ) (poisoned later : Title → ℕ → ℕ) → AreRight history pairs pairs_by logs_by poisoned →
     ((u : Title) → IsChained logs u (history u)) → number_of word ≡ length (history t) →

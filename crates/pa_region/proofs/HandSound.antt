@@ -4,9 +4,9 @@ use Rattle.std.proofs.lemmas.Bool.{cases_lt}
 use Rattle.atomic_table.specs.Seated.{TableId}
 use Rattle.atomic_table.specs.Table.{Splits, Joins}
 use Rattle.atomic_table.specs.Table.{State as TableState}
-use Rattle.pa_machine.specs.declared.title.Title.{Title}
-use Rattle.pa_machine.specs.Titles.{IsWellFormed}
-use Rattle.pa_machine.specs.Holdings.{Thing, RawByte, FreeTitle, OwnOf, RefOf}
+use Rattle.pa_slot.specs.declared.title.Title.{Title}
+use Rattle.pa_slot.specs.Titles.{IsWellFormed}
+use Rattle.pa_slot.specs.Holdings.{Thing, RawByte, FreeTitle, OwnOf, RefOf}
 use Rattle.pa_region.specs.declared.view.View.{View}
 use Rattle.pa_region.specs.Views.{held_of_view, HasTitle}
 use Rattle.pa_region.specs.Rule.{IsKept}
@@ -40,7 +40,7 @@ left_sound region p v can s = sound_less region v (left_after p v) s (λ x. let 
 pub given_sound : (region : TableId) (p : Parcel) (v : View) → CanHand p v → IsSeatSound region v → IsSeatSound region (given_after p v)
 given_sound region p v can s = sound_less region v (given_after p v) s (λ x. let e = (hand_parts p v can).things x in omega arith) (omega arith)
 
--- and so are two together
+-- what the type of a seat keeps holds of two views together
 pub united_sound : (region : TableId) (v w : View) → IsSeatSound region v → IsSeatSound region w → IsSeatSound region (united v w)
 united_sound region v w s r = record {
   small = s.small;
@@ -67,6 +67,6 @@ pub hand_allowed : (p : Parcel) (id : ℕ) (v : View) → CanHand p v →
     Splits (λ (s : TableState (Unit {0}) View). IsKept s.words s.views) id v (left_after p v) (given_after p v)
 hand_allowed p id v can s k at_i = hand_keeps p s.words s.views id v k at_i can
 
--- and two be joined
+-- two seats may be joined
 pub take_allowed : (id other : ℕ) (v w : View) → CanTake v w → Joins (λ (s : TableState (Unit {0}) View). IsKept s.words s.views) id v other w (united v w) (spent_of w)
 take_allowed id other v w can s k at_i ne at_j = join_keeps s.words s.views id other v w k at_i (sym (put_beside s.views id other (united v w) ne) ∙ at_j) ne at_j can

@@ -8,9 +8,9 @@ use Rattle.std.proofs.lemmas.List.Filters.{sum_by-filter_both}
 use mathlib.Core.Option.{some}
 use lib.ListN.{get_elem?}
 use Rattle.atomic_table.proofs.Lists.{at_snoc}
-use Rattle.pa_machine.specs.declared.title.Title.{Title}
-use Rattle.pa_machine.specs.Titles.{same_title}
-use Rattle.pa_machine.specs.Holdings.{Thing, RawByte, FreeTitle, OwnOf, RefOf, one}
+use Rattle.pa_slot.specs.declared.title.Title.{Title}
+use Rattle.pa_slot.specs.Titles.{same_title}
+use Rattle.pa_slot.specs.Holdings.{Thing, RawByte, FreeTitle, OwnOf, RefOf, one}
 use Rattle.pa_region.specs.declared.view.Made.{Made}
 use Rattle.pa_region.specs.declared.view.Stake.{Stake}
 use Rattle.pa_region.specs.declared.view.Keeper.{Keeper}
@@ -77,7 +77,7 @@ left_stake p v can stake some_own =
     let has = stake (omega arith) in
     subst (λ (ss : List Stake). least_stake ss < 16) (sym (stakes_kept p v can (omega arith))) has
 
--- so it finds the steps steady
+-- a view that hands something over still finds the steps steady
 left_steady : (steps : List OneStep) (p : Parcel) (v : View) → CanHand p v → IsSteady steps v → IsSteady steps (left_after p v)
 left_steady steps p v can s = record {
   waits = λ t found is quiet. absurd (true≢false quiet);

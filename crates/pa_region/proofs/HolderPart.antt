@@ -1,19 +1,19 @@
 -- The first part after a step: what counts of titles and budgets.
 use Rattle.std.proofs.Common.{◌≡◌, ℕ, ◌+◌, ◌<◌, ◌≤◌, List, set, refl, subst, arith, inl, inr}
 use Rattle.std.proofs.lemmas.Bool.{cases_lt}
-use Rattle.pa_machine.specs.declared.title.Title.{Title}
-use Rattle.pa_machine.specs.declared.title.OwnState.{OwnState}
-use Rattle.pa_machine.specs.declared.title.OwnState.TheVariants.{Clean}
-use Rattle.pa_machine.specs.declared.word.Step.{Step}
-use Rattle.pa_machine.specs.declared.word.Step.TheVariants.{Issue, Copy, Reset, Free, Write}
-use Rattle.pa_machine.specs.Count.{CanStep, stepped, number_of, refs_of}
-use Rattle.pa_machine.specs.Titles.{count_place, count_word}
-use Rattle.pa_machine.specs.Holdings.{Thing, RawByte, FreeTitle, OwnOf, RefOf, held_in, IsTitleHeld}
+use Rattle.pa_slot.specs.declared.title.Title.{Title}
+use Rattle.pa_slot.specs.declared.title.OwnState.{OwnState}
+use Rattle.pa_slot.specs.declared.title.OwnState.TheVariants.{Clean}
+use Rattle.pa_slot.specs.declared.word.Step.{Step}
+use Rattle.pa_slot.specs.declared.word.Step.TheVariants.{Issue, Copy, Reset, Free, Write}
+use Rattle.pa_slot.specs.Count.{CanStep, stepped, number_of, refs_of}
+use Rattle.pa_slot.specs.Titles.{count_place, count_word}
+use Rattle.pa_slot.specs.Holdings.{Thing, RawByte, FreeTitle, OwnOf, RefOf, held_in, IsTitleHeld}
 use Rattle.pa_machine.specs.Good.{IsCounted, IsGood}
 use Rattle.pa_machine.specs.Events.{returned_at}
-use Rattle.pa_machine.proofs.Same.{title_tells}
+use Rattle.pa_slot.proofs.Same.{title_tells}
 use Rattle.pa_machine.proofs.Parts.{Changes, IsChangeAt, IsNoneOf, nil_none, free_none, own_none, ref_none, change_untouched, change_held, IsUntouched}
-use Rattle.pa_machine.proofs.Arith.{stepped_is}
+use Rattle.pa_slot.proofs.Arith.{stepped_is}
 use Rattle.pa_machine.proofs.Amounts.{returned_cases}
 use Rattle.pa_machine.proofs.Keeps.{returned_here, returned_raw, same_keeps}
 use Rattle.pa_machine.proofs.Amounts.{free_self, own_self, ref_self, word_written}

@@ -7,15 +7,15 @@ use Rattle.std.proofs.lemmas.Bool.{cases_lt}
 use Rattle.std.proofs.lemmas.Bool.Decides.{eqb_tells}
 use mathlib.Core.Option.{some}
 use lib.ListN.{get_elem?}
-use Rattle.pa_machine.specs.declared.title.Title.{Title}
-use Rattle.pa_machine.specs.declared.title.OwnState.TheVariants.{Clean}
-use Rattle.pa_machine.specs.declared.word.Step.{Step}
-use Rattle.pa_machine.specs.declared.word.Step.TheVariants.{Issue, Copy, Reset, Free, Write}
-use Rattle.pa_machine.specs.Count.{refs_of}
-use Rattle.pa_machine.specs.Titles.{same_title}
-use Rattle.pa_machine.specs.Holdings.{OwnOf, one}
+use Rattle.pa_slot.specs.declared.title.Title.{Title}
+use Rattle.pa_slot.specs.declared.title.OwnState.TheVariants.{Clean}
+use Rattle.pa_slot.specs.declared.word.Step.{Step}
+use Rattle.pa_slot.specs.declared.word.Step.TheVariants.{Issue, Copy, Reset, Free, Write}
+use Rattle.pa_slot.specs.Count.{refs_of}
+use Rattle.pa_slot.specs.Titles.{same_title}
+use Rattle.pa_slot.specs.Holdings.{OwnOf, one}
 use Rattle.pa_machine.specs.Events.{total_of}
-use Rattle.pa_machine.proofs.Same.{title_tells}
+use Rattle.pa_slot.proofs.Same.{title_tells}
 use Rattle.pa_region.specs.declared.view.OwnTitle.{OwnTitle}
 use Rattle.pa_region.specs.declared.view.View.{View}
 use Rattle.pa_region.specs.Views.{idle_of, idle_in, held_of_view, shown}
@@ -105,7 +105,7 @@ idle_part v t =
     let l = sum_by-le-sum_by (idle_own t) (λ (o : OwnTitle). one (is_own_of t o)) v.owns (λ o. one_and (same_title o.title t) o.idle) in
     omega arith
 
--- and so is what all views know
+-- what all views know of Refs that are left is within the Owns of the title
 pub idle_within : (words : List ℕ) (views : List View) (t : Title) → idle_in views t ≤ total_of (shown words views) (OwnOf t)
 idle_within words views t =
     let s = total_sum words views (OwnOf t) in

@@ -6,10 +6,10 @@ use Rattle.std.proofs.lemmas.List.Sums.{sum_by-append, sum_by-cons}
 use Rattle.std.proofs.lemmas.Bool.{cases_lt, lt-ltb, le-ltb, true≢false}
 use mathlib.Core.Option.{some}
 use lib.ListN.{get_elem?}
-use Rattle.pa_machine.specs.declared.title.Title.{Title}
-use Rattle.pa_machine.specs.Count.{number_of}
-use Rattle.pa_machine.specs.Titles.{same_title, count_place, count_word}
-use Rattle.pa_machine.specs.Holdings.{FreePiece, RefPiece, Thing, RawByte, one, amount}
+use Rattle.pa_slot.specs.declared.title.Title.{Title}
+use Rattle.pa_slot.specs.Count.{number_of}
+use Rattle.pa_slot.specs.Titles.{same_title, count_place, count_word}
+use Rattle.pa_slot.specs.Holdings.{FreePiece, RefPiece, Thing, RawByte, one, amount}
 use Rattle.pa_machine.proofs.Parts.{word_covered}
 use Rattle.pa_region.specs.declared.view.RawRange.{RawRange}
 use Rattle.pa_region.specs.declared.view.OwnTitle.{OwnTitle}
@@ -74,7 +74,7 @@ united_parts v w = record {
 }
 
 -- the least stake of both isn't above that of one
-least_both : (ss more : List Stake) → least_stake (ss ++ more) ≤ least_stake ss
+pub least_both : (ss more : List Stake) → least_stake (ss ++ more) ≤ least_stake ss
 least_both [] more = least_small more
   where
     least_small : (xs : List Stake) → least_stake xs ≤ 16

@@ -6,10 +6,10 @@ use Rattle.std.proofs.lemmas.List.{append-nil}
 use Rattle.std.proofs.lemmas.List.Sums.{sum_by-cons, sum_by-append}
 use Rattle.std.proofs.lemmas.Bool.{cases_Bool, cases_lt}
 use Rattle.std.proofs.lemmas.Bool.Decides.{eqb_tells}
-use Rattle.pa_machine.specs.declared.title.Title.{Title}
-use Rattle.pa_machine.specs.Count.{number_of}
-use Rattle.pa_machine.specs.Titles.{same_title, IsWellFormed, count_place, count_word}
-use Rattle.pa_machine.specs.Holdings.{FreeTitle, one}
+use Rattle.pa_slot.specs.declared.title.Title.{Title}
+use Rattle.pa_slot.specs.Count.{number_of}
+use Rattle.pa_slot.specs.Titles.{same_title, IsWellFormed, count_place, count_word}
+use Rattle.pa_slot.specs.Holdings.{FreeTitle, one}
 use Rattle.pa_region.proofs.PoisonedOwns.{poisoned_unclean}
 use Rattle.pa_region.proofs.Pieces.{frees_have}
 use Rattle.pa_region.specs.declared.view.OwnTitle.{OwnTitle}
@@ -139,7 +139,7 @@ lend_keeps lender done r can there long aware back =
       undone = λ t. let e = parts.undone t in let c = cut.undone t in omega arith;
     }
 
--- and its logs have what was done with it
+-- a seat that gets its stake back keeps what it has, and its logs have what was done with the stake
 pub lends_back : (lender done : View) (r : ℕ) (more : List Entry) → IsAware lender → CanHand (stake_parcel r) lender → CanHand (stake_parcel r) done →
     length lender.words ≡ length done.words → IsAware (united (left_after (stake_parcel r) lender) (given_after (stake_parcel r) done)) →
     stake_of done r ≡ stake_of lender r → log_of r done ≡ log_of r lender ++ more →
@@ -270,7 +270,7 @@ lends_again v w k can =
 pub hosts_again : (v w : View) → Keeps v w → CanHost v → CanHost w
 hosts_again v w k can = ((λ n. k.stakes n ∙ can.0 n), k.unclean ∙ can.1)
 
--- and has seen the same number of a title that it holds free
+-- a view that keeps what another has has seen the same number of a title that it holds free
 pub kept_number : (v w : View) (n : ℕ) (t : Title) → IsAware v → IsAware w → Keeps v w → IsWellFormed n t → 0 < free_of v t → seen_of w t ≡ seen_of v t
 kept_number v w n t a b k well free =
     let e = k.things (FreeTitle t) in let x = frees_have v t in let y = frees_have w t in

@@ -4,7 +4,7 @@ use Rattle.core.specs.List.{AllByRecursion as Each}
 use Rattle.std.proofs.lemmas.Bool.Decides.{eqb_tells}
 use mathlib.Core.Option.{some, some-injective}
 use lib.ListN.{get_elem?}
-use Rattle.pa_machine.specs.declared.title.Title.{Title}
+use Rattle.pa_slot.specs.declared.title.Title.{Title}
 use Rattle.pa_region.specs.declared.view.Entry.{Entry}
 use Rattle.pa_region.specs.declared.view.Made.{Made}
 use Rattle.pa_region.specs.declared.view.Stake.{Stake}
@@ -41,7 +41,7 @@ logging_keeps list k before after (inr logs) each =
     (each_changed (λ (s : Stake). made_with s.number list ≡ entered_in k s.log) (λ (s : Stake). eqb s.number (least_stake before)) (with_entry_last logs.0) before
     (λ s here. here ∙ sym (entered_nothing k s.log logs.0 (logs.2 k))) each)
 
--- such a view stays as it was to the lists
+-- a view that has seen more, and entered nothing, stays as it was to the lists
 pub listed_grown : (list : ℕ → List Made) (v w : View) → IsListed list v → IsGrown v w → IsListed list w
 listed_grown list v w l g = record {
   beginnings = subst (λ (ns : List SeenList). Each (λ n. IsBeginning n.entries (list n.keeper)) ns) (sym g.lists) l.beginnings;
@@ -63,7 +63,7 @@ each_set P views i v w at_i others here j u at_j = elim (eqb_tells j i) [
   | inr n ↦ others j u (sym (put_beside views i j w n.1) ∙ at_j) n.1
 ]
 
--- such a step keeps the part
+-- a step after which a view has seen more, and entered nothing, keeps the part
 pub lists_grown : (list : ℕ → List Made) (views : List View) (i : ℕ) (v w : View) → get_elem? views i ≡ some v → Lists list views → IsGrown v w → HasSeenFree w →
     Lists list (set views i w)
 lists_grown list views i v w at_i l g free = record {

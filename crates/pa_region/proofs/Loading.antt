@@ -8,10 +8,10 @@ use Rattle.atomic_table.specs.Table.{Me, Allows, keeps}
 use Rattle.atomic_table.specs.Table.{State as TableState}
 use Rattle.atomic_table.specs.Seated.{TableId}
 use Rattle.atomic_table.proofs.Lists.{set_again}
-use Rattle.pa_machine.specs.declared.title.Title.{Title}
-use Rattle.pa_machine.specs.Run.{IsFree}
-use Rattle.pa_machine.specs.Titles.{Covers, IsWellFormed, content_count, count_place, count_word}
-use Rattle.pa_machine.specs.Holdings.{RawByte, IsTitleHeld}
+use Rattle.pa_slot.specs.declared.title.Title.{Title}
+use Rattle.pa_slot.specs.Run.{IsFree}
+use Rattle.pa_slot.specs.Titles.{Covers, IsWellFormed, content_count, count_place, count_word}
+use Rattle.pa_slot.specs.Holdings.{RawByte, IsTitleHeld}
 use Rattle.pa_machine.specs.declared.event.Event.TheVariants.{Load}
 use Rattle.pa_machine.specs.Events.{IsEnabled, Happens, IsRawWord, IsTitleWord, total_of}
 use Rattle.pa_machine.proofs.Parts.{word_covered}

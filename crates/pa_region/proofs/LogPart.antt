@@ -3,13 +3,13 @@ use Rattle.std.proofs.Common.{◌≡◌, ℕ, ◌+◌, ◌<◌, ◌≤◌, Bool,
 use Rattle.std.specs.Prelude.{if◌then◌else◌}
 use Rattle.std.proofs.lemmas.Bool.{cases_lt}
 use Rattle.std.proofs.lemmas.Bool.Decides.{eqb_tells}
-use Rattle.pa_machine.specs.declared.title.Title.{Title}
-use Rattle.pa_machine.specs.declared.title.OwnState.{OwnState}
-use Rattle.pa_machine.specs.declared.word.Step.{Step}
-use Rattle.pa_machine.specs.Count.{CanStep, stepped, number_of}
-use Rattle.pa_machine.specs.Titles.{same_title, count_word}
-use Rattle.pa_machine.specs.Holdings.{Thing, one, IsTitleHeld}
-use Rattle.pa_machine.proofs.Same.{title_tells, title_self}
+use Rattle.pa_slot.specs.declared.title.Title.{Title}
+use Rattle.pa_slot.specs.declared.title.OwnState.{OwnState}
+use Rattle.pa_slot.specs.declared.word.Step.{Step}
+use Rattle.pa_slot.specs.Count.{CanStep, stepped, number_of}
+use Rattle.pa_slot.specs.Titles.{same_title, count_word}
+use Rattle.pa_slot.specs.Holdings.{Thing, one, IsTitleHeld}
+use Rattle.pa_slot.proofs.Same.{title_tells, title_self}
 use Rattle.pa_region.specs.declared.view.Entry.{Entry}
 use Rattle.pa_region.specs.declared.view.Entry.TheVariants.{Counted, Looked, Read, Added, Entered, Uncut}
 use Rattle.std.proofs.lemmas.Bool.{eq-eqb, eqb-true}
@@ -18,7 +18,7 @@ use Rattle.pa_region.specs.History.{Done, reached, IsLegal, IsWordIn, IsLogged, 
 use Rattle.pa_region.specs.Rule.{Holders, Logs}
 use Rattle.pa_region.proofs.Adding.{one_lt, one_eq, one_small}
 use Rattle.pa_region.proofs.HolderPart.{IsCountStep, held_after, other_stays, word_here, words_by}
-use Rattle.pa_machine.proofs.Runs.{number_stepped}
+use Rattle.pa_slot.proofs.Runs.{number_stepped}
 
 -- the found word and the title are tested among the rest
 inner : (a b c d : Bool) → one (a && (b && (c && d))) ≤ one c
@@ -156,7 +156,7 @@ chain_more logs after t d history c grows can with_entry = record {
           | inr m ↦ let z = m.0 in (omega arith, go older s.1 legal.1 (omega arith))
         ]
 
--- a held title's word after a look or a counted step elsewhere stays the last one; the part after a counted step
+-- the third part stays true over a counted step
 pub logs_count : (step : Step) (t : Title) (a : OwnState) (value : ℕ) (words : List ℕ) (total later : Thing → ℕ) (idle : Title → ℕ) (budget steps : ℕ)
     (history : Title → List Done) (logs after : (Entry → ℕ) → ℕ) (stakes stakes_after : ℕ → ℕ) →
     Logs history words total logs stakes → Holders words total idle budget steps → IsCountStep step t a words total later →

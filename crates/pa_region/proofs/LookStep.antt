@@ -5,14 +5,14 @@ use Rattle.std.specs.List.{sum_by}
 use Rattle.std.proofs.lemmas.Bool.Decides.{eqb_tells}
 use mathlib.Core.Option.{some}
 use lib.ListN.{get_elem?}
-use Rattle.pa_machine.specs.declared.title.Title.{Title}
-use Rattle.pa_machine.specs.Count.{number_of, refs_of}
-use Rattle.pa_machine.specs.Titles.{same_title, Covers, count_place, count_word}
-use Rattle.pa_machine.specs.Holdings.{Piece, FreePiece, RefPiece, Thing, RawByte, FreeTitle, OwnOf, RefOf, one, IsTitleHeld}
+use Rattle.pa_slot.specs.declared.title.Title.{Title}
+use Rattle.pa_slot.specs.Count.{number_of, refs_of}
+use Rattle.pa_slot.specs.Titles.{same_title, Covers, count_place, count_word}
+use Rattle.pa_slot.specs.Holdings.{Piece, FreePiece, RefPiece, Thing, RawByte, FreeTitle, OwnOf, RefOf, one, IsTitleHeld}
 use Rattle.pa_machine.specs.declared.event.Event.TheVariants.{Load}
 use Rattle.pa_machine.specs.Events.{IsEnabled, Happens, total_of}
 use Rattle.pa_machine.proofs.Parts.{word_covered}
-use Rattle.pa_machine.proofs.Same.{title_tells}
+use Rattle.pa_slot.proofs.Same.{title_tells}
 use Rattle.pa_region.specs.declared.view.OwnTitle.{OwnTitle}
 use Rattle.pa_region.specs.declared.view.Entry.{Entry}
 use Rattle.pa_region.specs.declared.view.Entry.TheVariants.{Looked}
@@ -44,7 +44,7 @@ use Rattle.pa_region.proofs.OrderPart.{ending, order_plain}
 use Rattle.pa_region.proofs.StepsPart.{logging, eased_same, filled_entry}
 use Rattle.pa_region.proofs.StepsKept.{others_apart}
 
--- and no piece
+-- a look leaves an Own the same piece
 look_piece : (word : ℕ) (o : OwnTitle) → own_piece (idle_if word o) ≡ own_piece o
 look_piece word o = go (refs_of word == 0)
   where
@@ -52,7 +52,7 @@ look_piece word o = go (refs_of word == 0)
     go true = refl
     go false = refl
 
--- so it holds the same
+-- a view holds the same things after a look
 pub look_holds : (t : Title) (word : ℕ) (v : View) (x : Thing) → held_of_view (after_look t word v) x ≡ held_of_view v x
 look_holds t word v x =
     let before = held_split v x in
@@ -60,7 +60,7 @@ look_holds t word v x =
     let same = unchanged_sum t (idle_if word) v.owns (look_piece word) x in
     omega arith
 
--- and it knows no more words
+-- a view knows no more words after a look
 look_knows : (t : Title) (word : ℕ) (v : View) (q : ℕ) → Knows (after_look t word v) q → Knows v q
 look_knows t word v q (inl raw) = let e = look_holds t word v (RawByte (8 * q)) in inl (omega arith)
 look_knows t word v q (inr (inl free)) = inr (inl free)
@@ -71,7 +71,7 @@ look_knows t word v q (inr (inr own)) =
     let has = own.1 in
     inr (inr (own.0, omega arith, own.2))
 
--- its pieces are the same, one by one
+-- the pieces of a view's Owns are the same after a look, one by one
 look_pieces : (t : Title) (word : ℕ) (os : List OwnTitle) → map own_piece (changed (is_own_of t) (idle_if word) os) ≡ map own_piece os
 look_pieces t word [] = refl
 look_pieces t word (o ∷ os) = go (is_own_of t o) (look_pieces t word os)
@@ -81,7 +81,7 @@ look_pieces t word (o ∷ os) = go (is_own_of t o) (look_pieces t word os)
     go true again = ap (λ p. p ∷ map own_piece os) (look_piece word o)
     go false again = ap (λ ps. own_piece o ∷ ps) again
 
--- so the core that is shown stays
+-- a look leaves the core that is shown
 pub look_shown : (t : Title) (words : List ℕ) (views : List View) (i : ℕ) (v : View) → get_elem? views i ≡ some v →
     shown words (set views i (after_look t (count_word (byte_words words) t) v)) ≡ shown words views
 look_shown t words views i v at_i =
@@ -89,7 +89,7 @@ look_shown t words views i v at_i =
     ap (λ (os : List Piece). map raw_piece v.raws ++ (map FreePiece v.frees ++ (os ++ map RefPiece v.refs))) (look_pieces t (count_word (byte_words words) t) v.owns) in
     ap (λ (hs : List (List Piece)). record { words = byte_words words; holdings = hs }) (map_same pieces_of views i v _ at_i same)
 
--- and the look is a load
+-- a look is a load of the core
 pub look_event : (t : Title) (words : List ℕ) (views : List View) (i : ℕ) (v : View) → IsKept words views → get_elem? views i ≡ some v → HasTitle v t →
     IsEnabled (Load i (count_offset t)) (shown words views) ×
     Happens (Load i (count_offset t)) (shown words views) (shown words (set views i (after_look t (count_word (byte_words words) t) v)))
@@ -107,7 +107,7 @@ look_event t words views i v k at_i mine = (
         let held = held_in_all words views i v t at_i (title_held v t mine) in
         word_covered (length (byte_words words)) t (count_place t) (k.holders.good.divided.well t held) (omega arith, omega arith)
 
--- its logs have the look more
+-- a look adds its entry to the view's logs
 look_logged : (t : Title) (word : ℕ) (v : View) → HasStake v → (weight : Entry → ℕ) →
     logged_of (after_look t word v) weight ≡ logged_of v weight + weight (Looked t word)
 look_logged t word v has weight = noted_logs (Looked t word) v.stakes weight has

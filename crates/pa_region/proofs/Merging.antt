@@ -4,10 +4,10 @@ use Rattle.std.specs.Prelude.{slice_index, if◌then◌else◌}
 use Rattle.std.specs.List.{sum_by}
 use Rattle.std.proofs.lemmas.List.Sums.{sum_by-cons}
 use Rattle.std.proofs.lemmas.Bool.{cases_lt, lt-ltb, le-ltb, le-leb, lt-leb}
-use Rattle.pa_machine.specs.declared.title.Title.{Title}
-use Rattle.pa_machine.specs.Titles.{same_title, Covers, IsContentOf}
-use Rattle.pa_machine.specs.Holdings.{RawByte, one}
-use Rattle.pa_machine.proofs.Same.{title_one}
+use Rattle.pa_slot.specs.declared.title.Title.{Title}
+use Rattle.pa_slot.specs.Titles.{same_title, Covers, IsContentOf}
+use Rattle.pa_slot.specs.Holdings.{RawByte, one}
+use Rattle.pa_slot.proofs.Same.{title_one}
 use Rattle.pa_region.specs.declared.view.OwnTitle.{OwnTitle}
 use Rattle.pa_region.specs.declared.view.View.{View}
 use Rattle.pa_region.specs.Views.{held_of_view, Knows}
@@ -41,7 +41,7 @@ free_covering q (f ∷ fs) h =
           (again.0, omega arith, again.2)
     ]
 
--- and the other way round
+-- if a free title covers the word, one that does is counted among the free ones
 covering_free : (q : ℕ) (fs : List Title) (t : Title) → 0 < sum_by (λ u. one (same_title u t)) fs → Covers t (8 * q) →
     0 < sum_by (λ t. one (leb t.start (8 * q) && ltb (8 * q) (t.start + t.len))) fs
 covering_free q [] t h covers = absurd (omega arith)
@@ -74,7 +74,7 @@ own_covering q (f ∷ fs) h =
           (again.0, omega arith, again.2)
     ]
 
--- and the other way round
+-- if the word is a content word of an Own, one of which it is a content word is counted among the Owns
 covering_own : (q : ℕ) (os : List OwnTitle) (t : Title) → 0 < sum_by (λ (o : OwnTitle). one (same_title o.title t)) os → IsContentOf t (8 * q) →
     0 < sum_by (λ (o : OwnTitle). one (leb o.title.start (8 * q) && ltb (8 * q + 8) (o.title.start + o.title.len))) os
 covering_own q [] t h inside = absurd (omega arith)
@@ -112,7 +112,7 @@ merged_long v q [] (y ∷ ys) e = absurd (omega arith)
 merged_long v q (x ∷ xs) [] e = refl
 merged_long v q (x ∷ xs) (y ∷ ys) e = ap suc (merged_long v (suc q) xs ys (omega arith))
 
--- which word is where
+-- the word at each place of two lists that are merged
 pub merged_at : (v : View) (q : ℕ) (xs ys : List ℕ) (i : ℕ) → length xs ≡ length ys →
     slice_index (merged v q xs ys) i ≡ (if ltb 0 (knowing v (q + i)) then slice_index xs i else slice_index ys i)
 unfolding merged

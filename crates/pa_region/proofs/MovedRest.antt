@@ -1,8 +1,8 @@
 -- What a counted step leaves of its view, and its entry.
 use Rattle.std.proofs.Common.{◌≡◌, ℕ, refl}
-use Rattle.pa_machine.specs.declared.title.Title.{Title}
-use Rattle.pa_machine.specs.declared.word.Step.{Step}
-use Rattle.pa_machine.specs.declared.word.Step.TheVariants.{Issue, Copy, Reset, Free, Write}
+use Rattle.pa_slot.specs.declared.title.Title.{Title}
+use Rattle.pa_slot.specs.declared.word.Step.{Step}
+use Rattle.pa_slot.specs.declared.word.Step.TheVariants.{Issue, Copy, Reset, Free, Write}
 use Rattle.pa_region.specs.declared.view.Entry.{Entry}
 use Rattle.pa_region.specs.declared.view.Entry.TheVariants.{Counted}
 use Rattle.pa_region.specs.declared.view.View.{View}
@@ -16,7 +16,7 @@ moved_raws Reset t word v = refl
 moved_raws Free t word v = refl
 moved_raws Write t word v = refl
 
--- its stakes
+-- a counted step leaves the stakes of what is moved
 pub moved_stakes : (step : Step) (t : Title) (word : ℕ) (v : View) → (moved step t word v).stakes ≡ v.stakes
 moved_stakes Issue t word v = refl
 moved_stakes Copy t word v = refl

@@ -1,10 +1,10 @@
 -- The second part after a step: titles that logs name.
 use Rattle.std.proofs.Common.{◌≡◌, ℕ, ◌+◌, ◌<◌, ◌≤◌, sym, ◌∙◌, ap, subst, arith, inl, inr}
-use Rattle.pa_machine.specs.declared.title.Title.{Title}
-use Rattle.pa_machine.specs.Titles.{same_title, IsWellFormed}
-use Rattle.pa_machine.specs.Holdings.{Thing, one, IsTitleHeld}
+use Rattle.pa_slot.specs.declared.title.Title.{Title}
+use Rattle.pa_slot.specs.Titles.{same_title, IsWellFormed}
+use Rattle.pa_slot.specs.Holdings.{Thing, one, IsTitleHeld}
 use Rattle.pa_machine.specs.Good.{IsDivided}
-use Rattle.pa_machine.proofs.Same.{title_tells, title_one}
+use Rattle.pa_slot.proofs.Same.{title_tells, title_one}
 use Rattle.pa_region.specs.Rule.{Reservations, Named}
 
 -- nothing that is read changes, and all titles stay held

@@ -38,7 +38,7 @@ both_stake a h host =
     let g = given_stake (least_stake a.stakes) a in
     omega arith
 
--- its least stake is the lent one
+-- the least stake of the host with a lent stake is that stake
 pub host_least : (a h : View) → CanLend a → CanHost h → least_stake (both_of a h).stakes ≡ least_stake a.stakes
 host_least a h lends host =
     let r = least_stake a.stakes in
@@ -57,7 +57,7 @@ host_least a h lends host =
           absurd (omega arith)
     ]
 
--- so it may make an entry if it has the keeper
+-- the host with a lent stake may make an entry if it has the keeper
 pub enter_can : (a h : View) (k : ℕ) → CanLend a → CanHost h → 0 < keeper_of h k → CanEnter k (both_of a h)
 enter_can a h k lends host has =
     let e = (united_parts h (given_after (stake_parcel (least_stake a.stakes)) a)).keepers k in
@@ -65,11 +65,11 @@ enter_can a h k lends host has =
     let small = lends.0 in
     (omega arith, omega arith)
 
--- its Owns are clean
+-- the Owns of the host with a lent stake are clean
 pub both_clean : (a h : View) → CanHost h → unclean_of (both_of a h) ≡ 0
 both_clean a h host = let e = (united_parts h (given_after (stake_parcel (least_stake a.stakes)) a)).unclean in let z = host.1 in omega arith
 
--- and hand the stake back
+-- the Owns of the host are clean after its entry, so it can hand the stake back
 entered_clean : (a h : View) (k : ℕ) (numbers : List ℕ) → CanHost h → unclean_of (after_enter k numbers (both_of a h)) ≡ 0
 entered_clean a h k numbers host = both_clean a h host
 
@@ -126,7 +126,7 @@ noted_of a h k numbers lends host has aware_a aware_h long aware_u aware_f =
       known = λ t. seen_right t a.seen u.seen;
     }
 
--- the same, of the views of the seats as they come
+-- what an entry with a lent stake leaves, of the views of the seats as they come
 pub noted_by : (a h l g u e l2 g2 f : View) (k : ℕ) (numbers : List ℕ) → l ≡ left_after (stake_parcel (least_stake a.stakes)) a →
     g ≡ given_after (stake_parcel (least_stake a.stakes)) a → u ≡ united h g → e ≡ after_enter k numbers u →
     l2 ≡ left_after (stake_parcel (least_stake e.stakes)) e → g2 ≡ given_after (stake_parcel (least_stake e.stakes)) e → f ≡ united l g2 →

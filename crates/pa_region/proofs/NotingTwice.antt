@@ -24,19 +24,19 @@ use Rattle.pa_region.proofs.Noting.{both_of, can_hand, both_stake, host_least, b
 pub lend_on : (a h : View) → CanLend a → CanHost h → CanLend (both_of a h)
 lend_on a h lends host = let l = host_least a h lends host in let small = lends.0 in (omega arith, both_clean a h host)
 
--- and after it came back make an entry of its own
+-- after the stake came back from another host, the host can make an entry of its own
 pub enter_later : (a h w : View) (k : ℕ) → CanLend a → CanHost h → 0 < keeper_of h k → Keeps (both_of a h) w → CanEnter k w
 enter_later a h w k lends host has keeps =
     let e = (united_parts h (given_after (stake_parcel (least_stake a.stakes)) a)).keepers k in
     let c = keeps.keepers k in
     (omega arith, (lends_again (both_of a h) w keeps (lend_on a h lends host)).0.0)
 
--- and hand it back
+-- after its own entry the host can hand the stake back
 pub lend_later : (a h w : View) (k : ℕ) (numbers : List ℕ) → CanLend a → CanHost h → 0 < keeper_of h k → Keeps (both_of a h) w → CanLend (after_enter k numbers w)
 lend_later a h w k numbers lends host has keeps =
     (lends_again w (after_enter k numbers w) (entering_keeps k numbers w (enter_later a h w k lends host has keeps)) (lends_again (both_of a h) w keeps (lend_on a h lends host)).0).0
 
--- whose stake it is
+-- the least stake of the host after its own entry is still the lender's
 later_least : (a h w : View) (k : ℕ) (numbers : List ℕ) → CanLend a → CanHost h → 0 < keeper_of h k → Keeps (both_of a h) w →
     least_stake (after_enter k numbers w).stakes ≡ least_stake a.stakes
 later_least a h w k numbers lends host has keeps =
@@ -89,7 +89,7 @@ noted_twice_of a h w b b2 inner outer first second m lends host has aware_a awar
     same_here : (i : ℕ) (more : List Entry) → (if i == i then more else []) ≡ more
     same_here i more = elim (eqb_tells i i) [ inl y ↦ rw y.0 refl | inr n ↦ absurd (n.1 refl) ]
 
--- the same, of the views of the seats as they come
+-- what two entries with a lent stake leave, of the views of the seats as they come
 pub noted_twice : (a h l g u w e l2 g2 f b b2 : View) (inner outer : ℕ) (first second : List ℕ) → l ≡ left_after (stake_parcel (least_stake a.stakes)) a →
     g ≡ given_after (stake_parcel (least_stake a.stakes)) a → u ≡ united h g → e ≡ after_enter outer second w →
     l2 ≡ left_after (stake_parcel (least_stake e.stakes)) e → g2 ≡ given_after (stake_parcel (least_stake e.stakes)) e → f ≡ united l g2 →

@@ -6,7 +6,7 @@ use Rattle.std.proofs.lemmas.Bool.{cases_lt}
 use Rattle.std.proofs.lemmas.Bool.Decides.{eqb_tells}
 use mathlib.Core.Option.{some}
 use lib.ListN.{get_elem?}
-use Rattle.pa_machine.specs.Holdings.{one}
+use Rattle.pa_slot.specs.Holdings.{one}
 use Rattle.pa_region.specs.declared.view.Entry.{Entry}
 use Rattle.pa_region.specs.declared.view.Stake.{Stake}
 use Rattle.pa_region.specs.declared.view.View.{View}
@@ -59,7 +59,7 @@ stake_alone views i j v u at_i at_j ne has once =
     let pair = sum_pair (λ w. stake_of w (least_stake v.stakes)) views i j v u at_i at_j ne in
     omega arith
 
--- where a view has the only stake of a number, all logs of the number are in it
+-- if a view has the only stake of a number, all logs of the number are in it
 pub number_log : (weight : Entry → ℕ) (views : List View) (i : ℕ) (v : View) (r : ℕ) → get_elem? views i ≡ some v → stakes_in views r ≤ 1 → 0 < stake_of v r →
     logged_by views r weight ≡ logged_of_by v r weight
 number_log weight views i v r at_i once has =
@@ -83,7 +83,7 @@ covered_of views i v at_i each r q covered = elim (cases_lt 0 (stake_of v r)) [
     once : stakes_in views r ≤ 1
     once = let e = each r in elim (one_lt r 16) [ inl y ↦ let z = y.0 in omega arith | inr m ↦ let z = m.0 in omega arith ]
 
--- so all its logs are in the view
+-- the logs of the least stake's number of a view are its own least log
 pub own_log : (weight : Entry → ℕ) (views : List View) (i : ℕ) (v : View) → get_elem? views i ≡ some v → HasStake v → stakes_in views (least_stake v.stakes) ≡ 1 →
     logged_by views (least_stake v.stakes) weight ≡ sum_by weight (least_log v.stakes)
 own_log weight views i v at_i has once =

@@ -8,10 +8,10 @@ use Rattle.std.proofs.lemmas.List.Sums.{sum_by-cons}
 use Rattle.std.proofs.lemmas.Bool.Decides.{eqb_tells}
 use mathlib.Core.Option.{some}
 use lib.ListN.{get_elem?}
-use Rattle.pa_machine.specs.declared.title.Title.{Title}
-use Rattle.pa_machine.specs.Count.{number_of}
-use Rattle.pa_machine.specs.Titles.{count_word}
-use Rattle.pa_machine.specs.Holdings.{one, IsTitleHeld}
+use Rattle.pa_slot.specs.declared.title.Title.{Title}
+use Rattle.pa_slot.specs.Count.{number_of}
+use Rattle.pa_slot.specs.Titles.{count_word}
+use Rattle.pa_slot.specs.Holdings.{one, IsTitleHeld}
 use Rattle.pa_machine.specs.Events.{total_of}
 use Rattle.pa_region.specs.declared.view.Entry.{Entry}
 use Rattle.pa_region.specs.declared.view.Made.{Made}
@@ -144,14 +144,14 @@ found_now words views t k held =
     let w = order_weighs (counted_on t) k.all k.list views k.ordered k.logs.each_stake in
     omega arith
 
--- so a step on it, or a look, finds that
+-- a step on a held title, or a look at it, finds how many steps on it the order has
 pub touched_now : (words : List ℕ) (views : List View) (t : Title) (k : IsKept words views) → IsTitleHeld (total_of (shown words views)) t → (u : Title) (word : ℕ) →
     (t ≡ u) × (count_word (byte_words words) t ≡ word) → number_of word ≡ steps_on u k.all
 touched_now words views t k held u word same =
     subst (λ (x : Title). number_of word ≡ steps_on x k.all) same.0
     (subst (λ (n : ℕ). number_of n ≡ steps_on t k.all) same.1 (found_now words views t k held))
 
--- of a list whose makers had stakes, what stakes made of it is all
+-- if the makers of a list had stakes, and no stake made anything of it, it is empty
 nothing_made : (ms : List Made) → Each (λ m. m.stake < 16) ms → ((k : ℕ) → k < 16 → made_with k ms ≡ []) → ms ≡ []
 nothing_made [] small none = refl
 nothing_made (m ∷ ms) small none =

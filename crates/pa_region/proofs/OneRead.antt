@@ -2,14 +2,14 @@
 use Rattle.std.proofs.Common.{◌≡◌, ℕ, ◌<◌, Bool, true, false, not, ◌&&◌, List, Some, None, Option, refl, sym, ◌∙◌, ap, subst, arith, ◌⊎◌, inl, inr, eqb}
 use Rattle.std.specs.Prelude.{if◌then◌else◌}
 use Rattle.std.specs.List.{sum_by}
-use Rattle.std.proofs.lemmas.Bool.{cases_lt, cases_Bool, and_parts, eqb-true, eq-eqb, not-true, true≢false}
+use Rattle.std.proofs.lemmas.Bool.{cases_lt, cases_Bool, and_parts, eqb-true, eq-eqb, not-true}
 use Rattle.std.proofs.lemmas.Bool.Decides.{eqb_tells}
-use Rattle.pa_machine.specs.declared.title.Title.{Title}
-use Rattle.pa_machine.specs.Count.{number_of, held_of}
-use Rattle.pa_machine.specs.Titles.{same_title, count_word, poison}
-use Rattle.pa_machine.specs.Holdings.{one}
-use Rattle.pa_machine.proofs.Same.{title_tells}
-use Rattle.pa_machine.proofs.Arith.{held_small}
+use Rattle.pa_slot.specs.declared.title.Title.{Title}
+use Rattle.pa_slot.specs.Count.{number_of, held_of}
+use Rattle.pa_slot.specs.Titles.{same_title, count_word, poison}
+use Rattle.pa_slot.specs.Holdings.{one}
+use Rattle.pa_slot.proofs.Same.{title_tells}
+use Rattle.pa_slot.proofs.Arith.{held_small}
 use Rattle.pa_region.specs.declared.view.Deeds.{Deeds}
 use Rattle.pa_region.specs.declared.view.Entry.{Entry}
 use Rattle.pa_region.specs.declared.view.Entry.TheVariants.{Counted, Looked, Read, Added, Entered, Uncut}
@@ -22,6 +22,7 @@ use Rattle.pa_region.specs.Pairs.{weight_after, least_log}
 use Rattle.pa_region.specs.Waiting.{is_quiet, gave_no_poison, quiet_read, IsFreeing, AreRight, Waits}
 use Rattle.pa_region.proofs.AtNumber.{word_found}
 use Rattle.pa_region.proofs.FirstFrees.{has_first, bit_unfreed}
+use Rattle.pa_region.proofs.Pieces.{found_title}
 
 -- a test that counts is passed
 pub one_true : (b : Bool) → 0 < one b → b ≡ true
@@ -41,9 +42,6 @@ owner_is : (own owned : Bool) → (if own then owned else not owned) ≡ true �
 owner_is true owned e = e
 owner_is false owned e = not-true owned e
 
-title_is : (u t : Title) → same_title u t ≡ true → u ≡ t
-title_is u t e = elim (title_tells u t) [ inl y ↦ y.1 | inr n ↦ absurd (true≢false (sym e ∙ n.0)) ]
-
 pub quiet_tells : (own : Bool) (t : Title) (found value : ℕ) (a : Entry) (u : Title) (place given : ℕ) (since : Deeds) (owned unclean : Bool) →
     0 < quiet_read own t found value a (Read u place given since owned unclean) → IsQuietRead own t found value a u given since owned unclean
 quiet_tells own t found value (Looked x word) u place given since owned unclean h =
@@ -55,8 +53,8 @@ quiet_tells own t found value (Looked x word) u place given since owned unclean 
     let r = and_parts (is_quiet since && not unclean) (if own then owned else not owned) q.1 in
     let s = and_parts (is_quiet since) (not unclean) r.0 in
     record {
-      looked = ap (λ y. Looked y word) (title_is x t titles.0) ∙ ap (Looked t) (eqb-true word found numbers.0);
-      title = title_is u t titles.1;
+      looked = ap (λ y. Looked y word) (found_title t x titles.0) ∙ ap (Looked t) (eqb-true word found numbers.0);
+      title = found_title t u titles.1;
       gave = eqb-true given value numbers.1;
       quiet = s.0;
       clean = not-true unclean s.1;
@@ -72,16 +70,16 @@ quiet_tells own t found value (Uncut again) u place given since owned unclean h 
 pub quiet_handed : (d : Deeds) → is_quiet d ≡ true → d.handed ≡ false
 quiet_handed d q = not-true d.handed (and_parts (not d.handed) (not d.stored && not d.poisoned) q).0
 
--- What a read's word is, by the title's word and history. If the bit is 0, it is poison. Through a clean Own it is
--- the content. Through a Ref alone, if the bit is set, it is the content; or it is poison, and an Own is poisoned in a
--- view apart from the reader's stake.
+-- What a read's word is, by the title's word and history. If the bit is 0, it is poison. Through a clean Own it is the content.
+-- Through a Ref alone, if the bit is set, it is the content, or it is poison and an Own is poisoned in a view apart from the
+-- reader's stake.
 pub record IsWordRead (history : List Done) (word value : ℕ) (owned unclean : Bool) (poisoned : ℕ) : Type 0 where
   pub freed : held_of word ≡ 0 → value ≡ poison
   pub own : owned ≡ true → unclean ≡ false → value ≡ content_of history
   pub ref : owned ≡ false → held_of word ≡ 1 → (value ≡ content_of history) ⊎ ((value ≡ poison) × (0 < poisoned))
 
--- What a read of this title knows of its log's last entry: a look at the title found a word of the history, and with
--- nothing handed over since it has waited; and all counted steps with the reader's stake are in its log.
+-- What a read of this title knows of its log's last entry. A look at the title found a word of the history, and with nothing
+-- handed over since it has waited. All counted steps with the reader's stake are in its log.
 pub record HasLast (history : Title → List Done) (words : List ℕ) (v : View) (t : Title) (last : Option Entry) (logs : (Entry → ℕ) → ℕ) : Type 0 where
   pub legal : IsLegal (history t)
   pub at_end : count_word words t ≡ reached (history t)

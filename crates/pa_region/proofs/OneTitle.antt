@@ -1,15 +1,15 @@
 -- What the rule says of one title.
 use Rattle.std.specs.List.{sum_by}
-use Rattle.pa_machine.specs.Holdings.{OwnOf}
-use Rattle.pa_machine.specs.Titles.{count_word}
-use Rattle.pa_machine.proofs.Arith.{held_small}
+use Rattle.pa_slot.specs.Holdings.{OwnOf}
+use Rattle.pa_slot.specs.Titles.{count_word}
+use Rattle.pa_slot.proofs.Arith.{held_small}
 use Rattle.pa_region.specs.Views.{byte_words, held_of_view, own_of}
 use Rattle.pa_region.proofs.Adding.{sum_same}
 use Rattle.pa_region.proofs.Pieces.{total_sum, owns_have}
 use Rattle.std.proofs.Common.{◌≡◌, ℕ, ◌<◌, ◌≤◌, List, [], ◌∷◌, length, refl, sym, ◌∙◌, ap, arith, inl, inr}
-use Rattle.pa_machine.specs.declared.title.Title.{Title}
-use Rattle.pa_machine.specs.Count.{number_of}
-use Rattle.pa_machine.specs.Holdings.{IsTitleHeld}
+use Rattle.pa_slot.specs.declared.title.Title.{Title}
+use Rattle.pa_slot.specs.Count.{number_of}
+use Rattle.pa_slot.specs.Holdings.{IsTitleHeld}
 use Rattle.pa_machine.specs.Events.{total_of}
 use Rattle.pa_region.specs.declared.view.Entry.{Entry}
 use Rattle.pa_region.specs.declared.view.View.{View}
@@ -53,7 +53,7 @@ pub unnamed_new : (words : List ℕ) (views : List View) (t : Title) (k : IsKept
     logged_in views (counted_on t) ≡ 0 → word_shown words t ≡ 0
 unnamed_new words views t k held none = k.logs.last t held ∙ unstepped (logged_in views) t (k.history t) (k.logs.chain t) none
 
--- it has at most one Own
+-- a held title has at most one Own
 pub few_owns : (words : List ℕ) (views : List View) (t : Title) → IsKept words views → IsTitleHeld (total_of (shown words views)) t → sum_by (λ u. own_of u t) views ≤ 1
 few_owns words views t k held =
     let a = total_sum words views (OwnOf t) in

@@ -8,9 +8,9 @@ use mathlib.Core.Option.{some, some-injective, some-ne-none}
 use lib.ListN.{get_elem?}
 use Rattle.atomic_table.specs.Seated.{TableId}
 use Rattle.atomic_table.specs.Table.{Me}
-use Rattle.pa_machine.specs.declared.title.Title.{Title}
-use Rattle.pa_machine.specs.declared.title.OwnState.TheVariants.{Clean}
-use Rattle.pa_machine.specs.Holdings.{Thing, RawByte, FreeTitle, OwnOf, RefOf, IsTitleHeld}
+use Rattle.pa_slot.specs.declared.title.Title.{Title}
+use Rattle.pa_slot.specs.declared.title.OwnState.TheVariants.{Clean}
+use Rattle.pa_slot.specs.Holdings.{Thing, RawByte, FreeTitle, OwnOf, RefOf, IsTitleHeld}
 use Rattle.pa_machine.specs.Events.{total_of}
 use Rattle.pa_machine.proofs.Totals.{tally_of}
 use Rattle.pa_machine.proofs.Cutting.{covered_raw, uncovered_raw}
@@ -35,7 +35,7 @@ use Rattle.pa_region.proofs.FirstLists.{blank_at, stake_count, first_lists, firs
 first_raw : (words budget b : ℕ) → b < 8 * words → held_of_view (first_view words budget) (RawByte b) ≡ 1
 first_raw words budget b below = covered_raw 0 (8 * words) b (omega arith) (omega arith)
 
--- and no other
+-- the first view has no byte raw past the region's
 first_none : (words budget b : ℕ) → 8 * words ≤ b → held_of_view (first_view words budget) (RawByte b) ≡ 0
 first_none words budget b past = uncovered_raw 0 (8 * words) b (inr (omega arith))
 
@@ -50,7 +50,7 @@ zero_at (suc n) zero i = refl
 zero_at (suc n) (suc m) zero = refl
 zero_at (suc n) (suc m) (suc i) = zero_at n m i
 
--- so of all of them
+-- each of the zeros is 0
 zero_of : (m i : ℕ) → slice_index (zeros m) i ≡ 0
 zero_of zero i = refl
 zero_of (suc m) zero = refl
@@ -184,7 +184,7 @@ first_sound region words budget e small = record {
   long = blank_long words ∙ sym e;
 }
 
--- the same, with the words as the code makes them
+-- a new region keeps the rule, with the words as the code makes them
 pub opens_with : (supers budget : ℕ) (words : List ℕ) → supers ≤ 16 → budget ≤ 65536 → words ≡ replicate (supers * 262144 + 16) 0 →
     IsKept words (first_view (supers * 262144) budget ∷ [])
 opens_with supers budget words few enough z = rw z (opens (supers * 262144) budget (omega arith) enough)

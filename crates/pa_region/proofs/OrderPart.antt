@@ -5,9 +5,9 @@ use Rattle.core.specs.List.{AllByRecursion as Each}
 use Rattle.std.proofs.lemmas.List.{map-append}
 use mathlib.Core.Option.{some, some-injective, some-ne-none}
 use lib.ListN.{get_elem?}
-use Rattle.pa_machine.specs.declared.title.Title.{Title}
-use Rattle.pa_machine.specs.Count.{number_of}
-use Rattle.pa_machine.specs.Holdings.{one}
+use Rattle.pa_slot.specs.declared.title.Title.{Title}
+use Rattle.pa_slot.specs.Count.{number_of}
+use Rattle.pa_slot.specs.Holdings.{one}
 use Rattle.pa_region.specs.declared.view.Entry.{Entry}
 use Rattle.pa_region.specs.declared.view.Made.{Made}
 use Rattle.pa_region.specs.declared.view.Stake.{Stake}
@@ -100,7 +100,7 @@ order_more all list after views i v w e at_i stakes has every more finds o =
     once : stakes_in views (least_stake v.stakes) ≤ 1
     once = let e = every (least_stake v.stakes) in elim (one_lt (least_stake v.stakes) 16) [ inl y ↦ let z = y.0 in omega arith | inr n ↦ let z = n.0 in omega arith ]
 
--- the same, of an entry that is in no keeper's list
+-- one order goes on with an entry that is in no keeper's list
 pub order_plain : (all : List Stamped) (list : ℕ → List Made) (views : List View) (i : ℕ) (v w : View) (e : Entry) → get_elem? views i ≡ some v →
     w.stakes ≡ noted e v.stakes → HasStake v → ((n : ℕ) → stakes_in views n ≡ one (nat_lt n 16)) → ((k : ℕ) → entry_in k e ≡ []) →
     ((t : Title) (word : ℕ) → Touches e t word → number_of word ≡ steps_on t all) → InOneOrder all list views →

@@ -7,7 +7,7 @@ use Rattle.std.proofs.lemmas.Bool.Decides.{eqb_tells}
 use Rattle.std.proofs.lemmas.Bool.{ne_eqb}
 use mathlib.Core.Option.{some}
 use lib.ListN.{get_elem?}
-use Rattle.pa_machine.specs.Holdings.{one}
+use Rattle.pa_slot.specs.Holdings.{one}
 use Rattle.pa_region.specs.declared.view.Entry.{Entry}
 use Rattle.pa_region.specs.declared.view.Stake.{Stake}
 use Rattle.pa_region.specs.declared.view.View.{View}
@@ -23,7 +23,7 @@ pairs_more weight [] e = refl
 pairs_more weight (a ∷ []) e = omega arith
 pairs_more weight (a ∷ b ∷ log) e = let again = pairs_more weight (b ∷ log) e in omega arith
 
--- and is the last one then
+-- an entry that is put at the end of a log is its last one
 pub last_more : (log : List Entry) (e : Entry) → last_entry (log ++ e ∷ []) ≡ Some e
 last_more [] e = refl
 last_more (a ∷ []) e = refl
@@ -92,7 +92,7 @@ paired_by_set views i v w e at_i stakes has r weight =
     rw stakes (noted_by (pairs weight) r (weight_after weight (last_entry (least_log v.stakes)) e) e v.stakes has (pairs_more weight (least_log v.stakes) e)) in
     omega arith
 
--- and the entries by number
+-- what one more entry adds to the entries of a stake number
 pub logged_by_set : (views : List View) (i : ℕ) (v w : View) (e : Entry) → get_elem? views i ≡ some v → w.stakes ≡ noted e v.stakes → least_stake v.stakes < 16 →
     (r : ℕ) (weight : Entry → ℕ) → logged_by (set views i w) r weight ≡ logged_by views r weight + (if eqb (least_stake v.stakes) r then weight e else 0)
 logged_by_set views i v w e at_i stakes has r weight =
@@ -122,7 +122,7 @@ logged_by_within views r weight =
     sum_by-le-sum_by (λ v. logged_of_by v r weight) (λ v. logged_of v weight) views
     (λ v. sum_by-le-sum_by (amount_by r (sum_by weight)) (λ (s : Stake). sum_by weight s.log) v.stakes (by_within r (sum_by weight)))
 
--- so are the pairs
+-- the pairs of one stake number are within those of all
 pub paired_by_within : (views : List View) (r : ℕ) (weight : Entry → Entry → ℕ) → paired_by views r weight ≤ paired_in views weight
 paired_by_within views r weight =
     sum_by-le-sum_by (λ v. paired_of_by v r weight) (λ v. paired_of v weight) views

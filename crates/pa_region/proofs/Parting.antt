@@ -3,14 +3,14 @@ use Rattle.std.proofs.Common.{◌≡◌, ℕ, ◌+◌, ◌-◌, ◌<◌, ◌≤�
 use Rattle.std.specs.List.{sum_by}
 use Rattle.std.proofs.lemmas.List.Sums.{sum_by-cons, sum_by-append}
 use Rattle.std.proofs.lemmas.Bool.{cases_lt, lt-ltb, le-ltb, le-leb, lt-leb, true≢false}
-use Rattle.pa_machine.specs.declared.title.Title.{Title}
-use Rattle.pa_machine.specs.declared.title.OwnState.{OwnState}
-use Rattle.pa_machine.specs.declared.title.OwnState.TheVariants.{Clean}
+use Rattle.pa_slot.specs.declared.title.Title.{Title}
+use Rattle.pa_slot.specs.declared.title.OwnState.{OwnState}
+use Rattle.pa_slot.specs.declared.title.OwnState.TheVariants.{Clean}
 use Rattle.pa_machine.specs.declared.event.Item.{Item}
 use Rattle.pa_machine.specs.declared.event.Item.TheVariants.{Raw, Free, Own, Ref}
-use Rattle.pa_machine.specs.Titles.{same_title}
-use Rattle.pa_machine.specs.Holdings.{FreePiece, OwnPiece, RefPiece, Thing, RawByte, FreeTitle, OwnOf, OwnAs, RefOf, one, amount}
-use Rattle.pa_machine.proofs.Same.{title_tells, state_tells}
+use Rattle.pa_slot.specs.Titles.{same_title}
+use Rattle.pa_slot.specs.Holdings.{FreePiece, OwnPiece, RefPiece, Thing, RawByte, FreeTitle, OwnOf, OwnAs, RefOf, one, amount}
+use Rattle.pa_slot.proofs.Same.{title_tells, state_tells}
 use Rattle.pa_region.specs.declared.view.RawRange.{RawRange}
 use Rattle.pa_region.specs.declared.view.OwnTitle.{OwnTitle}
 use Rattle.pa_region.specs.declared.view.View.{View}
@@ -73,7 +73,7 @@ three_parts a e r b order floor =
       | inr n ↦ elim (cases_lt b e) [ inl y ↦ h (omega arith, omega arith) | inr m ↦ g (omega arith, omega arith) ]
     ]
 
--- so it is for any amount that goes by bytes
+-- an amount that goes by bytes is parted as the bytes of the ranges are
 pub ranges_part : (a e b : ℕ) (floor : RawRange → Bool) → a ≤ e → ((r : RawRange) → floor (below_part a r) ≡ floor r) → ((r : RawRange) → floor (above_part e r) ≡ floor r) → ((r : RawRange) → floor (inner_part a e r) ≡ floor r) →
     (rs : List RawRange) →
     sum_by (λ r. one (has_byte r b && floor r)) (outside a e rs) + sum_by (λ r. one (has_byte r b && floor r)) (inside a e rs) ≡ sum_by (λ r. one (has_byte r b && floor r)) rs

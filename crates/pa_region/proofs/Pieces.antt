@@ -6,16 +6,16 @@ use Rattle.std.proofs.lemmas.List.Sums.{sum_by-cons, sum_by-append, sum_by-le-su
 use Rattle.std.proofs.lemmas.Bool.{true≢false}
 use mathlib.Core.Option.{some}
 use lib.ListN.{get_elem?}
-use Rattle.pa_machine.specs.declared.title.Title.{Title}
-use Rattle.pa_machine.specs.declared.title.OwnState.{OwnState}
-use Rattle.pa_machine.specs.declared.title.OwnState.TheVariants.{Clean, Poisoned}
-use Rattle.pa_machine.specs.declared.word.Step.{Step}
-use Rattle.pa_machine.specs.declared.word.Step.TheVariants.{Issue, Copy, Reset, Free, Write}
-use Rattle.pa_machine.specs.Count.{stepped}
-use Rattle.pa_machine.specs.Titles.{same_title, same_state, content_count}
-use Rattle.pa_machine.specs.Holdings.{Piece, FreePiece, OwnPiece, RefPiece, Thing, FreeTitle, OwnOf, OwnAs, RefOf, one, amount, held_in, IsTitleHeld}
+use Rattle.pa_slot.specs.declared.title.Title.{Title}
+use Rattle.pa_slot.specs.declared.title.OwnState.{OwnState}
+use Rattle.pa_slot.specs.declared.title.OwnState.TheVariants.{Clean, Poisoned}
+use Rattle.pa_slot.specs.declared.word.Step.{Step}
+use Rattle.pa_slot.specs.declared.word.Step.TheVariants.{Issue, Copy, Reset, Free, Write}
+use Rattle.pa_slot.specs.Count.{stepped}
+use Rattle.pa_slot.specs.Titles.{same_title, same_state, content_count}
+use Rattle.pa_slot.specs.Holdings.{Piece, FreePiece, OwnPiece, RefPiece, Thing, FreeTitle, OwnOf, OwnAs, RefOf, one, amount, held_in, IsTitleHeld}
 use Rattle.pa_machine.specs.Events.{returned_at, total_of}
-use Rattle.pa_machine.proofs.Same.{title_tells, state_self}
+use Rattle.pa_slot.proofs.Same.{title_tells, state_self}
 use Rattle.pa_machine.proofs.Parts.{Changes}
 use Rattle.pa_region.specs.declared.view.RawRange.{RawRange}
 use Rattle.pa_region.specs.declared.view.OwnTitle.{OwnTitle}
@@ -72,7 +72,7 @@ owns_have v t =
     let c = sum_none (λ (u : Title). amount (OwnOf t) (RefPiece u)) v.refs (λ u. refl) in
     omega arith
 
--- and the Refs
+-- the Refs of a view are those of its pieces
 pub refs_have : (v : View) (t : Title) → held_of_view v (RefOf t) ≡ ref_of v t
 refs_have v t =
     let s = held_split v (RefOf t) in
@@ -87,7 +87,7 @@ title_held v t h =
     let f = frees_have v t in let o = owns_have v t in let r = refs_have v t in
     omega arith
 
--- and the other way round
+-- a title that a view's pieces hold is one that the view has
 pub held_title : (v : View) (t : Title) → IsTitleHeld (held_of_view v) t → HasTitle v t
 held_title v t h =
     let f = frees_have v t in let o = owns_have v t in let r = refs_have v t in

@@ -6,14 +6,14 @@ use Rattle.std.proofs.lemmas.Bool.{true≢false}
 use Rattle.std.proofs.lemmas.Bool.Decides.{eqb_tells}
 use mathlib.Core.Option.{some}
 use lib.ListN.{get_elem?}
-use Rattle.pa_machine.specs.declared.title.Title.{Title}
-use Rattle.pa_machine.specs.declared.title.OwnState.{OwnState}
-use Rattle.pa_machine.specs.declared.title.OwnState.TheVariants.{Poisoned}
+use Rattle.pa_slot.specs.declared.title.Title.{Title}
+use Rattle.pa_slot.specs.declared.title.OwnState.{OwnState}
+use Rattle.pa_slot.specs.declared.title.OwnState.TheVariants.{Poisoned}
 use Rattle.pa_machine.specs.declared.event.Event.TheVariants.{Poison}
-use Rattle.pa_machine.specs.Titles.{same_title, content_place, poison, progress}
-use Rattle.pa_machine.specs.Holdings.{Thing, OwnPiece, RawByte, FreeTitle, OwnOf, OwnAs, RefOf, one, amount, IsTitleHeld}
+use Rattle.pa_slot.specs.Titles.{same_title, content_place, poison, progress}
+use Rattle.pa_slot.specs.Holdings.{Thing, OwnPiece, RawByte, FreeTitle, OwnOf, OwnAs, RefOf, one, amount, IsTitleHeld}
 use Rattle.pa_machine.specs.Events.{Holds, IsEnabled, Happens, IsAfter, total_of}
-use Rattle.pa_machine.proofs.Same.{state_self}
+use Rattle.pa_slot.proofs.Same.{state_self}
 use Rattle.pa_machine.proofs.Parts.{Changes}
 use Rattle.pa_machine.proofs.Totals.{tally_of}
 use Rattle.pa_machine.proofs.Keeps.{own_of_state}

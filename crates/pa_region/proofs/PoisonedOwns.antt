@@ -6,15 +6,15 @@ use Rattle.std.proofs.lemmas.List.Sums.{sum_by-cons, sum_by-le-sum_by}
 use Rattle.std.proofs.lemmas.Bool.{cases_Bool, true≢false, lt-ltb}
 use mathlib.Core.Option.{some, some-injective, some-ne-none}
 use lib.ListN.{get_elem?}
-use Rattle.pa_machine.specs.declared.title.Title.{Title}
-use Rattle.pa_machine.specs.declared.title.OwnState.{OwnState}
-use Rattle.pa_machine.specs.declared.title.OwnState.TheVariants.{Clean, Dirty, Poisoned}
-use Rattle.pa_machine.specs.declared.word.Step.{Step}
-use Rattle.pa_machine.specs.declared.word.Step.TheVariants.{Issue, Copy, Reset, Free, Write}
-use Rattle.pa_machine.specs.Count.{refs_of}
-use Rattle.pa_machine.specs.Titles.{same_title, same_state}
-use Rattle.pa_machine.specs.Holdings.{one}
-use Rattle.pa_machine.proofs.Same.{title_tells}
+use Rattle.pa_slot.specs.declared.title.Title.{Title}
+use Rattle.pa_slot.specs.declared.title.OwnState.{OwnState}
+use Rattle.pa_slot.specs.declared.title.OwnState.TheVariants.{Clean, Dirty, Poisoned}
+use Rattle.pa_slot.specs.declared.word.Step.{Step}
+use Rattle.pa_slot.specs.declared.word.Step.TheVariants.{Issue, Copy, Reset, Free, Write}
+use Rattle.pa_slot.specs.Count.{refs_of}
+use Rattle.pa_slot.specs.Titles.{same_title, same_state}
+use Rattle.pa_slot.specs.Holdings.{one}
+use Rattle.pa_slot.proofs.Same.{title_tells}
 use Rattle.pa_region.specs.declared.view.OwnTitle.{OwnTitle}
 use Rattle.pa_region.specs.declared.view.View.{View}
 use Rattle.pa_region.specs.Views.{own_of, own_as, stake_of}
@@ -35,7 +35,7 @@ module _ {A : Type 0} where
     | inr n ↦ let again = sum_changed f test change xs same in rw n (omega (arith, sum_by-cons f x xs, sum_by-cons f x (changed test change xs)))
   ]
 
-  -- and one in which it weighs no less
+  -- a change after which each changed member weighs no less leaves the sum no less
   pub sum_grows : (f : A → ℕ) (test : A → Bool) (change : A → A) (xs : List A) → ((j : ℕ) (x : A) → get_elem? xs j ≡ some x → test x ≡ true → f x ≤ f (change x)) →
       sum_by f xs ≤ sum_by f (changed test change xs)
   sum_grows f test change [] more = omega arith
@@ -44,7 +44,7 @@ module _ {A : Type 0} where
     | inr n ↦ let again = sum_grows f test change xs (λ j y at_j. more (suc j) y at_j) in rw n (omega (arith, sum_by-cons f x xs, sum_by-cons f x (changed test change xs)))
   ]
 
-  -- and one in which a member that passes it, and weighs nothing, is left out
+  -- leaving out a member that weighs nothing leaves the sum
   pub sum_without : (f : A → ℕ) (test : A → Bool) (xs : List A) → ((x : A) → test x ≡ true → f x ≡ 0) → sum_by f (without test xs) ≡ sum_by f xs
   sum_without f test [] none = refl
   sum_without f test (x ∷ xs) none = elim (cases_Bool (test x)) [
@@ -93,7 +93,7 @@ unpoisoned t (o ∷ os) =
     go true (Poisoned j) = omega arith
     go false a = omega arith
 
--- so the one Own of a title, if it is clean or dirty, isn't poisoned
+-- the one Own of a title, if it is clean or dirty, isn't poisoned
 pub none_poisoned : (v : View) (t : Title) → 0 < own_as v t Clean + own_as v t Dirty → own_of v t ≤ 1 → poisoned_of v t ≡ 0
 none_poisoned v t unfrozen few = let all = unpoisoned t v.owns in omega arith
 

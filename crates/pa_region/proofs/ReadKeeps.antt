@@ -3,10 +3,10 @@ use Rattle.std.proofs.Common.{◌≡◌, ℕ, ◌+◌, ◌%◌, ◌<◌, List, �
 use Rattle.std.specs.Prelude.{if◌then◌else◌}
 use mathlib.Core.Option.{some}
 use lib.ListN.{get_elem?}
-use Rattle.pa_machine.specs.declared.title.Title.{Title}
+use Rattle.pa_slot.specs.declared.title.Title.{Title}
 use Rattle.pa_machine.specs.declared.event.Event.TheVariants.{Load}
-use Rattle.pa_machine.specs.Titles.{content_count, content_at}
-use Rattle.pa_machine.specs.Holdings.{Piece, Thing, FreeTitle, OwnOf, RefOf, IsTitleHeld}
+use Rattle.pa_slot.specs.Titles.{content_count, content_at}
+use Rattle.pa_slot.specs.Holdings.{Piece, Thing, FreeTitle, OwnOf, RefOf, IsTitleHeld}
 use Rattle.pa_machine.specs.Events.{IsEnabled, Happens, total_of}
 use Rattle.pa_region.specs.declared.view.Entry.{Entry}
 use Rattle.pa_region.specs.declared.view.Entry.TheVariants.{Looked, Read}
@@ -115,7 +115,7 @@ read_shown : (words : List ℕ) (views : List View) (i : ℕ) (v : View) (t : Ti
 read_shown words views i v t place value at_i =
     ap (λ (hs : List (List Piece)). record { words = byte_words words; holdings = hs }) (map_same pieces_of views i v (after_read t place value v) at_i refl)
 
--- so a read is a load
+-- a read is a load of the core
 pub read_event : (words : List ℕ) (views : List View) (i : ℕ) (v : View) (t : Title) (place : ℕ) → IsKept words views → get_elem? views i ≡ some v → IsUser t v →
     place < content_count t →
     IsEnabled (Load i (content_offset t place)) (shown words views) ×

@@ -6,11 +6,11 @@ use Rattle.std.proofs.lemmas.List.Sums.{sum_by-le-sum_by, sum_by-cons}
 use Rattle.std.proofs.lemmas.Bool.{cases_lt, lt-ltb, le-ltb, true≢false}
 use mathlib.Core.Option.{some, some-injective}
 use lib.ListN.{get_elem?}
-use Rattle.pa_machine.specs.declared.title.Title.{Title}
-use Rattle.pa_machine.specs.declared.title.OwnState.{OwnState}
-use Rattle.pa_machine.specs.declared.title.OwnState.TheVariants.{Clean, Dirty, Poisoned}
-use Rattle.pa_machine.specs.Titles.{same_title, same_state, content_count, content_at, count_word, poison}
-use Rattle.pa_machine.specs.Holdings.{OwnOf, OwnAs, RefOf, one, IsTitleHeld}
+use Rattle.pa_slot.specs.declared.title.Title.{Title}
+use Rattle.pa_slot.specs.declared.title.OwnState.{OwnState}
+use Rattle.pa_slot.specs.declared.title.OwnState.TheVariants.{Clean, Dirty, Poisoned}
+use Rattle.pa_slot.specs.Titles.{same_title, same_state, content_count, content_at, count_word, poison}
+use Rattle.pa_slot.specs.Holdings.{OwnOf, OwnAs, RefOf, one, IsTitleHeld}
 use Rattle.pa_machine.specs.Good.{IsCounted}
 use Rattle.pa_machine.specs.Events.{total_of}
 use Rattle.pa_region.specs.declared.view.OwnTitle.{OwnTitle}
@@ -88,8 +88,8 @@ live_own words views t some_own =
     let first = first_of (is_own_of t) m.1.owns has in
     (m.0, m.1, m.2, has, (first.0.state, first_own t m.1 first.0 first.1))
 
--- what a content word is to a view that uses its title: quarantined it is poison; through a clean Own it is the content;
--- through a Ref it is the content, or poison while the Own is poisoned elsewhere
+-- What a content word is to a view that uses its title. If the title is quarantined it is poison. Through a clean Own it is the
+-- content. Through a Ref it is the content, or poison while the Own is poisoned elsewhere.
 pub word_read : (words : List ℕ) (views : List View) (i : ℕ) (v : View) (t : Title) (place : ℕ) (k : IsKept words views) → get_elem? views i ≡ some v → IsUser t v →
     HasStake v → place < content_count t →
     IsWordRead (k.history t) (count_word (byte_words words) t) (content_at (byte_words words) t place) (has_own v t) (has_unclean v t) (poisoned_apart views t (least_stake v.stakes))

@@ -4,16 +4,16 @@ use Rattle.std.proofs.lemmas.Bool.{cases_Bool, eq-eqb, true≢false}
 use Rattle.std.proofs.lemmas.List.{get_or-set_other, get_or-set_same}
 use mathlib.Core.Option.{some}
 use lib.ListN.{get_elem?}
-use Rattle.pa_machine.specs.declared.title.Title.{Title}
-use Rattle.pa_machine.specs.declared.word.Step.{Step}
-use Rattle.pa_machine.specs.declared.word.Step.TheVariants.{Issue, Copy, Reset, Free, Write}
-use Rattle.pa_machine.specs.Count.{stepped}
-use Rattle.pa_machine.specs.declared.title.OwnState.TheVariants.{Poisoned}
-use Rattle.pa_machine.specs.Titles.{content_count, count_place, count_word}
-use Rattle.pa_machine.specs.Holdings.{FreeTitle, OwnOf, RefOf, IsTitleHeld}
+use Rattle.pa_slot.specs.declared.title.Title.{Title}
+use Rattle.pa_slot.specs.declared.word.Step.{Step}
+use Rattle.pa_slot.specs.declared.word.Step.TheVariants.{Issue, Copy, Reset, Free, Write}
+use Rattle.pa_slot.specs.Count.{stepped}
+use Rattle.pa_slot.specs.declared.title.OwnState.TheVariants.{Poisoned}
+use Rattle.pa_slot.specs.Titles.{content_count, count_place, count_word}
+use Rattle.pa_slot.specs.Holdings.{FreeTitle, OwnOf, RefOf, IsTitleHeld}
 use Rattle.pa_machine.specs.Events.{total_of}
 use Rattle.pa_machine.proofs.Parts.{free_or, apart_words}
-use Rattle.pa_machine.proofs.Same.{title_tells, title_self}
+use Rattle.pa_slot.proofs.Same.{title_tells, title_self}
 use Rattle.pa_region.specs.declared.view.Entry.TheVariants.{Looked}
 use Rattle.pa_region.specs.declared.view.View.{View}
 use Rattle.pa_region.specs.Views.{byte_words, shown, held_of_view, own_of, stake_of, least_stake, looked_at, logged_of, logged_in, HasTitle}

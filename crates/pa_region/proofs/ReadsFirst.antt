@@ -38,7 +38,7 @@ first_all amount words budget none =
 pub no_amount : (r n : ℕ) (amount : List Entry → ℕ) → amount [] ≡ 0 → amount_by r amount (record { number = n; log = [] }) ≡ 0
 no_amount r n amount none = elim (cases_Bool (eqb n r)) [ inl y ↦ rw y none | inr m ↦ rw m refl ]
 
--- so there is no read
+-- in a new region there is no read, so reads are right
 pub reads_first : (words budget : ℕ) (bytes : List ℕ) → Reads (λ t. []) bytes (first_view words budget ∷ [])
 reads_first words budget bytes = record {
   right = right_none (λ t. []) (paired_in views) (paired_by views) (logged_by views) (poisoned_apart views)

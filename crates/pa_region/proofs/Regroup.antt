@@ -6,10 +6,10 @@ use Rattle.std.proofs.lemmas.Bool.{cases_lt, lt-ltb, le-ltb}
 use Rattle.std.proofs.lemmas.List.Sums.{sum_by_push, sum_by-append, sum_by-le-sum_by}
 use mathlib.Core.Option.{some}
 use lib.ListN.{get_elem?}
-use Rattle.pa_machine.specs.declared.title.Title.{Title}
-use Rattle.pa_machine.specs.declared.title.OwnState.TheVariants.{Clean, Poisoned}
-use Rattle.pa_machine.specs.Titles.{same_title}
-use Rattle.pa_machine.specs.Holdings.{Thing, FreeTitle, OwnOf, OwnAs, RefOf, one}
+use Rattle.pa_slot.specs.declared.title.Title.{Title}
+use Rattle.pa_slot.specs.declared.title.OwnState.TheVariants.{Clean, Poisoned}
+use Rattle.pa_slot.specs.Titles.{same_title}
+use Rattle.pa_slot.specs.Holdings.{Thing, FreeTitle, OwnOf, OwnAs, RefOf, one}
 use Rattle.pa_machine.specs.Events.{total_of}
 use Rattle.pa_machine.specs.Trail.{KeepsContent}
 use Rattle.pa_region.specs.declared.view.Entry.{Entry}
@@ -36,7 +36,7 @@ use Rattle.pa_region.proofs.OrderPart.{order_over}
 use Rattle.pa_region.proofs.PoisonedOwns.{poisoned_unclean}
 use Rattle.pa_region.proofs.StepsPart.{eased_same, filled_over}
 
--- the same is had, by all views together; that no Ref is left may be forgotten
+-- All views together have the same before and after, but may forget that no Ref is left.
 pub record IsRegrouped (before after : List View) : Type 0 where
   pub things : (x : Thing) → sum_by (λ v. held_of_view v x) after ≡ sum_by (λ v. held_of_view v x) before
   pub floors : (b n : ℕ) → low_in after b n ≡ low_in before b n

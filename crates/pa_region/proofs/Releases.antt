@@ -1,20 +1,20 @@
 -- What a counted step leaves its seat with.
 use Rattle.std.proofs.Common.{◌≡◌, ℕ, ◌+◌, refl, sym, subst, arith, ◌⊎◌, inl, inr}
-use Rattle.pa_machine.specs.declared.title.Title.{Title}
-use Rattle.pa_machine.specs.declared.title.OwnState.{OwnState}
-use Rattle.pa_machine.specs.declared.word.Step.{Step}
-use Rattle.pa_machine.specs.declared.word.Step.TheVariants.{Issue, Copy, Reset, Free, Write}
-use Rattle.pa_machine.specs.Count.{CanStep, stepped}
-use Rattle.pa_machine.specs.Run.{IsFree}
-use Rattle.pa_machine.specs.Holdings.{FreeTitle, held_in}
+use Rattle.pa_slot.specs.declared.title.Title.{Title}
+use Rattle.pa_slot.specs.declared.title.OwnState.{OwnState}
+use Rattle.pa_slot.specs.declared.word.Step.{Step}
+use Rattle.pa_slot.specs.declared.word.Step.TheVariants.{Issue, Copy, Reset, Free, Write}
+use Rattle.pa_slot.specs.Count.{CanStep, stepped}
+use Rattle.pa_slot.specs.Run.{IsFree}
+use Rattle.pa_slot.specs.Holdings.{FreeTitle, held_in}
 use Rattle.pa_machine.specs.Events.{returned_at}
-use Rattle.pa_machine.proofs.Arith.{stepped_is}
+use Rattle.pa_slot.proofs.Arith.{stepped_is}
 use Rattle.pa_machine.proofs.Amounts.{returned_cases}
 use Rattle.pa_region.specs.declared.view.View.{View}
 use Rattle.pa_region.specs.Views.{held_of_view, free_of}
 use Rattle.pa_region.specs.Moves.{moved, after_count}
 use Rattle.pa_region.proofs.Pieces.{HasPiece, lost_by, gained_by, moved_changes, frees_have}
-use Rattle.pa_machine.specs.Run.{IsReturning}
+use Rattle.pa_slot.specs.Run.{IsReturning}
 use Rattle.pa_machine.proofs.Amounts.{free_self}
 use Rattle.pa_region.specs.Shares.{Share, IsStepMade}
 
@@ -35,7 +35,7 @@ returns_free step word (inr e) can r = go (subst (λ (s : Step). CanStep s word)
     go can r = let s = stepped_is Free word can in let a = s.0 in let b = s.1 in let p = r.0 in let q = r.1 in
         subst (λ (k : Step). IsFree (stepped k word)) (sym e) (omega arith, omega arith)
 
--- and the other way round
+-- a release that leaves a free word returned the title
 free_returns : (step : Step) (word : ℕ) → IsRelease step → CanStep step word → IsFree (stepped step word) → IsReturning step word
 free_returns step word (inl e) can f = subst (λ (s : Step). IsReturning s word) (sym e) (go (subst (λ (s : Step). CanStep s word) e can) (subst (λ (s : Step). IsFree (stepped s word)) e f))
   where

@@ -1,10 +1,10 @@
 -- The second part after a step: reservations.
 use Rattle.std.proofs.Common.{◌≡◌, ℕ, ◌+◌, ◌*◌, ◌≤◌, List, length, sym, ◌∙◌, subst, arith, inl, inr}
 use Rattle.std.proofs.lemmas.Bool.{cases_lt}
-use Rattle.pa_machine.specs.declared.title.Title.{Title}
-use Rattle.pa_machine.specs.Titles.{same_title, Covers}
-use Rattle.pa_machine.specs.Holdings.{Thing, RawByte, one, IsTitleHeld}
-use Rattle.pa_machine.proofs.Same.{title_one}
+use Rattle.pa_slot.specs.declared.title.Title.{Title}
+use Rattle.pa_slot.specs.Titles.{same_title, Covers}
+use Rattle.pa_slot.specs.Holdings.{Thing, RawByte, one, IsTitleHeld}
+use Rattle.pa_slot.proofs.Same.{title_one}
 use Rattle.pa_region.specs.Rule.{Holders, Reservations}
 
 -- A step on a held title keeps the part: floors and uncut titles stay, the same titles are held, and one log names this

@@ -5,7 +5,7 @@ use Rattle.std.specs.List.{sum_by, filter}
 use Rattle.std.proofs.lemmas.List.{get_or-replicate}
 use Rattle.std.proofs.lemmas.List.Sums.{sum_by-cons, sum_by-append}
 use Rattle.std.proofs.lemmas.Bool.{cases_lt, lt-ltb, le-ltb, true≢false}
-use Rattle.pa_machine.specs.Holdings.{one}
+use Rattle.pa_slot.specs.Holdings.{one}
 use Rattle.pa_region.specs.declared.view.Stake.{Stake}
 use Rattle.pa_region.specs.declared.view.View.{View}
 use Rattle.pa_region.specs.Views.{stake_of, least_stake, HasStake}
@@ -20,7 +20,7 @@ use Rattle.pa_region.proofs.FirstLists.{stake_count}
 abbrev pub SameStakes : View → View → Type 0
 SameStakes v w = (k : ℕ) → stake_of w k ≡ stake_of v k
 
--- then the seat has the same
+-- a seat with the same stakes has the same of the 16 numbers
 pub stakes_kept : (has : List Bool) (v w : View) → SameStakes v w → AreStakes has v → AreStakes has w
 stakes_kept has v w same s k below = s k below ∙ ap (ltb 0) (sym (same k))
 

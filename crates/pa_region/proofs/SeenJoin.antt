@@ -1,8 +1,8 @@
 -- What was seen, of two views together.
 use Rattle.std.proofs.Common.{◌≡◌, ◌+◌, ◌≤◌, List, [], ◌∷◌, ◌++◌, arith, inl, inr, max}
-use Rattle.pa_machine.specs.declared.title.Title.{Title}
-use Rattle.pa_machine.specs.Count.{number_of}
-use Rattle.pa_machine.proofs.Same.{title_tells}
+use Rattle.pa_slot.specs.declared.title.Title.{Title}
+use Rattle.pa_slot.specs.Count.{number_of}
+use Rattle.pa_slot.proofs.Same.{title_tells}
 use Rattle.pa_region.specs.declared.view.Entry.{Entry}
 use Rattle.pa_region.specs.declared.view.Entry.TheVariants.{Counted, Looked, Read, Added, Entered, Uncut}
 use Rattle.pa_region.specs.declared.view.SeenNumber.{SeenNumber}
@@ -16,7 +16,7 @@ seen_append t (s ∷ ss) b =
     let again = seen_append t ss b in
     elim (title_tells s.title t) [ inl y ↦ rw y.0 omega arith | inr n ↦ rw n.0 again ]
 
--- so each of them says no more
+-- the first of two lists of notes says no more than both together
 pub seen_left : (t : Title) (a b : List SeenNumber) → seen_among t a ≤ seen_among t (a ++ b)
 seen_left t a b = let e = seen_append t a b in omega arith
 

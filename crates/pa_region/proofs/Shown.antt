@@ -3,7 +3,7 @@ use Rattle.std.proofs.Common.{◌≡◌, ℕ, zero, suc, ◌+◌, ◌<◌, List,
 use Rattle.std.proofs.lemmas.Bool.Decides.{eqb_tells}
 use mathlib.Core.Option.{some, some-injective, some-ne-none}
 use lib.ListN.{get_elem?}
-use Rattle.pa_machine.specs.Holdings.{Piece, Thing, held_in}
+use Rattle.pa_slot.specs.Holdings.{Piece, Thing, held_in}
 use Rattle.pa_machine.specs.Events.{HasActor, held_by, IsAfter, of_actor}
 use Rattle.pa_machine.proofs.Parts.{Changes}
 use Rattle.pa_machine.proofs.Totals.{of_actor_here, of_actor_apart}

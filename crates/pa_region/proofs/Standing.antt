@@ -5,12 +5,12 @@ use Rattle.std.specs.List.{sum_by}
 use Rattle.std.proofs.lemmas.List.Sums.{sum_by-cons}
 use Rattle.std.proofs.lemmas.Bool.{cases_lt, and_parts, eqb-true, lt-ltb}
 use Rattle.std.proofs.lemmas.Bool.Decides.{eqb_tells}
-use Rattle.pa_machine.specs.declared.title.Title.{Title}
-use Rattle.pa_machine.specs.declared.word.Step.{Step}
-use Rattle.pa_machine.specs.declared.word.Step.TheVariants.{Issue, Copy, Reset, Free, Write}
-use Rattle.pa_machine.specs.Count.{number_of}
-use Rattle.pa_machine.specs.Titles.{same_title}
-use Rattle.pa_machine.specs.Holdings.{one}
+use Rattle.pa_slot.specs.declared.title.Title.{Title}
+use Rattle.pa_slot.specs.declared.word.Step.{Step}
+use Rattle.pa_slot.specs.declared.word.Step.TheVariants.{Issue, Copy, Reset, Free, Write}
+use Rattle.pa_slot.specs.Count.{number_of}
+use Rattle.pa_slot.specs.Titles.{same_title}
+use Rattle.pa_slot.specs.Holdings.{one}
 use Rattle.pa_region.specs.declared.view.Entry.{Entry}
 use Rattle.pa_region.specs.declared.view.Entry.TheVariants.{Counted, Looked, Read, Added, Entered, Uncut}
 use Rattle.pa_region.specs.declared.view.Stake.{Stake}
@@ -97,7 +97,7 @@ sum_two f g h (x ∷ xs) each =
     let here = each x in
     omega (arith, sum_by-cons f x xs, sum_by-cons g x xs, sum_by-cons h x xs)
 
--- so the logs of a view add up
+-- the logs of a view add up
 pub logged_two : (v : View) → AddsUp (logged_of v)
 logged_two v f g h each =
     sum_two (λ (s : Stake). sum_by f s.log) (λ (s : Stake). sum_by g s.log) (λ (s : Stake). sum_by h s.log) v.stakes (λ s. sum_two f g h s.log each)
@@ -129,7 +129,7 @@ at_number logs t (d ∷ older) k logged below = elim (cases_lt k (length older))
       )
 ]
 
--- they have no more of less
+-- logs that add up have no more of a weight that is less
 adds_less : (logs : (Entry → ℕ) → ℕ) → AddsUp logs → (f g : Entry → ℕ) → ((e : Entry) → f e ≤ g e) → logs f ≤ logs g
 adds_less logs adds f g less = let two = adds f (λ e. 0) g (λ e. let l = less e in omega arith) in omega arith
 
@@ -212,7 +212,7 @@ split_at_number k (d ∷ older) within = elim (cases_lt (length older) k) [
       (d ∷ again.0, ap (λ hs. d ∷ hs) again.1 ∙ ap (λ hs. d ∷ (again.0 ++ hs)) (sym (up_to_more k d older n)))
 ]
 
--- so a history of logs that grew goes on from what it was
+-- the history of logs that grew goes on from what it was
 pub history_grows : (logs after : (Entry → ℕ) → ℕ) (t : Title) (older newer : List Done) → AddsUp after → ((weight : Entry → ℕ) → logs weight ≤ after weight) →
     IsChained logs t older → IsChained after t newer → (later : List Done) × (newer ≡ later ++ older)
 history_grows logs after t older newer adds grows old new =

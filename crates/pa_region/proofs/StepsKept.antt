@@ -7,11 +7,11 @@ use Rattle.std.proofs.lemmas.Bool.{cases_lt}
 use Rattle.std.proofs.lemmas.Bool.Decides.{eqb_tells}
 use mathlib.Core.Option.{some, some-injective}
 use lib.ListN.{get_elem?}
-use Rattle.pa_machine.specs.declared.title.Title.{Title}
-use Rattle.pa_machine.specs.declared.title.OwnState.{OwnState}
-use Rattle.pa_machine.specs.declared.title.OwnState.TheVariants.{Clean, Dirty, Poisoned}
-use Rattle.pa_machine.specs.Titles.{same_title, content_count, content_at, count_word, progress}
-use Rattle.pa_machine.specs.Holdings.{OwnOf, OwnAs, RefOf, one, IsTitleHeld}
+use Rattle.pa_slot.specs.declared.title.Title.{Title}
+use Rattle.pa_slot.specs.declared.title.OwnState.{OwnState}
+use Rattle.pa_slot.specs.declared.title.OwnState.TheVariants.{Clean, Dirty, Poisoned}
+use Rattle.pa_slot.specs.Titles.{same_title, content_count, content_at, count_word, progress}
+use Rattle.pa_slot.specs.Holdings.{OwnOf, OwnAs, RefOf, one, IsTitleHeld}
 use Rattle.pa_machine.specs.Good.{IsCounted}
 use Rattle.pa_machine.specs.Events.{total_of}
 use Rattle.pa_region.specs.declared.view.OwnTitle.{OwnTitle}
@@ -40,7 +40,7 @@ once_there words views k n small = k.logs.each_stake n ∙ elim (one_lt n 16) [ 
 pub poisoned_stake : (words : List ℕ) (views : List View) (j : ℕ) (u : View) (t : Title) → IsKept words views → get_elem? views j ≡ some u → 0 < poisoned_of u t → HasStake u
 poisoned_stake words views j u t k at_j some_own = (k.reads.each_view j u at_j).stake (let l = poisoned_unclean u t in omega arith)
 
--- so its least stake isn't that of another view
+-- the least stake of a view isn't that of another view
 pub others_apart : (words : List ℕ) (views : List View) (i : ℕ) (v : View) → IsKept words views → get_elem? views i ≡ some v → HasStake v →
     (j : ℕ) (u : View) → (j ≡ i → ⊥) → get_elem? views j ≡ some u → (t : Title) → 0 < poisoned_of u t → least_stake v.stakes ≡ least_stake u.stakes → ⊥
 others_apart words views i v k at_i has j u ne at_j t some_own same =
@@ -118,7 +118,7 @@ word_left words views i v t place k at_i has below clean = elim (cases_lt 0 (own
           (k.holders.good.poison_kept t held).quarantine (omega arith, omega arith) place below ∙ sym ((k.filled.left t (omega arith)).poisoned refs place below)
     ]
 
--- so the read is in place
+-- a read is in place after the steps
 pub read_in_place : (words : List ℕ) (views : List View) (i : ℕ) (v : View) (t : Title) (place : ℕ) (k : IsKept words views) → get_elem? views i ≡ some v → IsUser t v →
     HasStake v → place < content_count t → IsReadInPlace (least_stake v.stakes) t place (content_at (byte_words words) t place) v.since (has_unclean v t) k.steps
 read_in_place words views i v t place k at_i has stake below = record {

@@ -3,11 +3,11 @@ use Rattle.std.proofs.Common.{◌≡◌, ℕ, ◌<◌, true, false, List, [], �
 use Rattle.std.proofs.lemmas.Bool.{true≢false}
 use mathlib.Core.Option.{some}
 use lib.ListN.{get_elem?}
-use Rattle.pa_machine.specs.declared.title.Title.{Title}
-use Rattle.pa_machine.specs.declared.title.OwnState.{OwnState}
-use Rattle.pa_machine.specs.Titles.{progress}
-use Rattle.pa_machine.specs.Holdings.{Thing, OwnPiece, OwnOf, OwnAs, RefOf, held_in}
-use Rattle.pa_machine.proofs.Same.{title_tells, state_tells}
+use Rattle.pa_slot.specs.declared.title.Title.{Title}
+use Rattle.pa_slot.specs.declared.title.OwnState.{OwnState}
+use Rattle.pa_slot.specs.Titles.{progress}
+use Rattle.pa_slot.specs.Holdings.{Thing, OwnPiece, OwnOf, OwnAs, RefOf, held_in}
+use Rattle.pa_slot.proofs.Same.{title_tells, state_tells}
 use Rattle.pa_machine.proofs.Parts.{Changes, own_none}
 use Rattle.pa_machine.proofs.Amounts.{own_self, state_apart}
 use Rattle.pa_region.specs.declared.view.Entry.{Entry}
@@ -135,7 +135,7 @@ pub record IsNoCount (e : Entry) : Type 0 where
   pub keeps : (t : Title) (x : ℕ) → left_by t e x ≡ x
   pub fills : (t : Title) → DoesNotFill t e
 
--- such an entry after the steps
+-- the eighth part goes on with such an entry after the steps
 pub filled_entry : (steps : List OneStep) (all : List Stamped) (history : Title → List Done) (total later : Thing → ℕ) (views : List View) (i : ℕ) (v w : View) (e : Entry) →
     get_elem? views i ≡ some v → w.stakes ≡ noted e v.stakes → w.since.poisoned ≡ false → IsNoCount e → IsEntryInPlace (least_stake v.stakes) e steps →
     ((j : ℕ) (u : View) → (j ≡ i → ⊥) → get_elem? views j ≡ some u → (t : Title) → 0 < poisoned_of u t → least_stake v.stakes ≡ least_stake u.stakes → ⊥) →

@@ -5,15 +5,15 @@ use Rattle.std.proofs.lemmas.List.Sums.{sum_by-le-sum_by}
 use Rattle.std.proofs.lemmas.Bool.{cases_lt, lt-ltb, le-ltb, le-leb, lt-leb, true≢false}
 use mathlib.Core.Option.{some}
 use lib.ListN.{get_elem?}
-use Rattle.pa_machine.specs.declared.title.Title.{Title}
-use Rattle.pa_machine.specs.declared.title.OwnState.{OwnState}
-use Rattle.pa_machine.specs.declared.title.OwnState.TheVariants.{Dirty}
+use Rattle.pa_slot.specs.declared.title.Title.{Title}
+use Rattle.pa_slot.specs.declared.title.OwnState.{OwnState}
+use Rattle.pa_slot.specs.declared.title.OwnState.TheVariants.{Dirty}
 use Rattle.pa_machine.specs.declared.event.Event.TheVariants.{Store}
-use Rattle.pa_machine.specs.Count.{refs_of}
-use Rattle.pa_machine.specs.Titles.{same_title, Covers, IsContentOf, count_place, count_word, progress}
-use Rattle.pa_machine.specs.Holdings.{Thing, OwnPiece, RawByte, FreeTitle, OwnOf, OwnAs, RefOf, one, amount, IsTitleHeld}
+use Rattle.pa_slot.specs.Count.{refs_of}
+use Rattle.pa_slot.specs.Titles.{same_title, Covers, IsContentOf, count_place, count_word, progress}
+use Rattle.pa_slot.specs.Holdings.{Thing, OwnPiece, RawByte, FreeTitle, OwnOf, OwnAs, RefOf, one, amount, IsTitleHeld}
 use Rattle.pa_machine.specs.Events.{HasActor, IsEnabled, Happens, IsAfter, IsRawWord, IsFreeWord, IsOwnWord, total_of}
-use Rattle.pa_machine.proofs.Same.{title_tells, title_self, state_self}
+use Rattle.pa_slot.proofs.Same.{title_tells, title_self, state_self}
 use Rattle.pa_machine.proofs.Parts.{Changes, free_or, word_covered}
 use Rattle.pa_machine.proofs.Happening.{after_changes, in_total, own_state_is, happens_good}
 use Rattle.pa_machine.proofs.Noting.{keeps_content}
@@ -57,7 +57,7 @@ own_member v j o at_j =
 own_in_all : (words : List ℕ) (views : List View) (i : ℕ) (v : View) (t : Title) → get_elem? views i ≡ some v → 0 < own_of v t → IsTitleHeld (total_of (shown words views)) t
 own_in_all words views i v t at_i has = let o = owns_have v t in held_in_all words views i v t at_i (omega arith)
 
--- so is a free title
+-- a title that a view holds free is held
 free_in_all : (words : List ℕ) (views : List View) (i : ℕ) (v : View) (t : Title) → get_elem? views i ≡ some v → 0 < free_of v t → IsTitleHeld (total_of (shown words views)) t
 free_in_all words views i v t at_i has = let o = frees_have v t in held_in_all words views i v t at_i (omega arith)
 
@@ -99,7 +99,7 @@ raw_below words views i v at_byte k at_i raw = elim (cases_lt at_byte (8 * lengt
       absurd (omega arith)
 ]
 
--- so does a word of a held title
+-- a word of a held title is one of the bytes' words
 pub title_below : (words : List ℕ) (views : List View) (t : Title) (at_byte : ℕ) → IsKept words views → IsTitleHeld (total_of (shown words views)) t →
     Covers t at_byte → at_byte / 8 < length words - 16
 title_below words views t at_byte k held covers =

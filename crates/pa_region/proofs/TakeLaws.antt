@@ -6,10 +6,10 @@ use Rattle.core.specs.List.{AllByRecursion as Each}
 use Rattle.std.proofs.lemmas.List.Sums.{sum_by-cons, sum_by-append}
 use Rattle.std.proofs.lemmas.Bool.{cases_lt, lt-ltb, le-ltb}
 use Rattle.std.proofs.lemmas.Bool.Decides.{eqb_tells}
-use Rattle.pa_machine.specs.declared.title.Title.{Title}
-use Rattle.pa_machine.specs.Count.{number_of}
-use Rattle.pa_machine.specs.Titles.{same_title, Covers, IsWellFormed, count_place, count_word}
-use Rattle.pa_machine.specs.Holdings.{RawByte, one}
+use Rattle.pa_slot.specs.declared.title.Title.{Title}
+use Rattle.pa_slot.specs.Count.{number_of}
+use Rattle.pa_slot.specs.Titles.{same_title, Covers, IsWellFormed, count_place, count_word}
+use Rattle.pa_slot.specs.Holdings.{RawByte, one}
 use Rattle.pa_machine.proofs.Parts.{word_covered}
 use Rattle.pa_region.specs.declared.view.OwnTitle.{OwnTitle}
 use Rattle.pa_region.specs.declared.view.Made.{Made}
@@ -46,7 +46,7 @@ same_entries a b (q ∷ qs) k has e f =
       | inr n ↦ let z = n.0 in same_entries a b qs k (omega arith) e.1 f.1
     ]
 
--- so a view that has a keeper sees no more of its list after a take
+-- a view that has a keeper sees no more of its list after a take
 pub left_whole : (v w : View) (k : ℕ) → IsAware v → IsAware (united v w) → 0 < keeper_of v k → list_of k (united v w) ≡ list_of k v
 left_whole v w k a both has =
     same_entries (λ q. list_of q v) (λ q. list_of q (united v w)) v.keepers k has a.own_lists
@@ -83,7 +83,7 @@ raw_or_title v w t b a raw has covers =
     let z = a.raw_apart t b (omega arith) covers in
     absurd (omega arith)
 
--- so they know no common word
+-- two views that are joined know no common word
 known_twice : (v w : View) (q : ℕ) → IsAware (united v w) → Knows v q → Knows w q → ⊥
 known_twice v w q a (inl raw) (inl other) = let e = (united_parts v w).things (RawByte (8 * q)) in let o = a.raw_once (8 * q) in absurd (omega arith)
 known_twice v w q a (inl raw) (inr (inl free)) = let h = free.1 in raw_or_title v w free.0 (8 * q) a (omega arith) (omega arith) free.2
@@ -126,7 +126,7 @@ right_known v w q a long knows = elim (cases_lt 0 (knowing v q)) [
 pub knows_count : (n : ℕ) (t : Title) (v : View) → IsWellFormed n t → 0 < free_of v t → Knows v (count_place t)
 knows_count n t v well free = inr (inl (t, free, word_covered n t (count_place t) well (omega arith, omega arith)))
 
--- so a take brings no greater number
+-- a take brings no greater number of a title that the view holds free
 pub left_number : (v w : View) (n : ℕ) (t : Title) → IsAware v → IsAware (united v w) → length v.words ≡ length w.words → IsWellFormed n t → 0 < free_of v t →
     seen_of (united v w) t ≡ seen_of v t
 left_number v w n t a both long well free =

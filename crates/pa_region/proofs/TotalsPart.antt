@@ -6,9 +6,9 @@ use Rattle.std.proofs.lemmas.List.{length-set, get_or-set_other}
 use Rattle.std.proofs.lemmas.Bool.Decides.{eqb_tells}
 use mathlib.Core.Option.{some}
 use lib.ListN.{get_elem?}
-use Rattle.pa_machine.specs.declared.title.Title.{Title}
-use Rattle.pa_machine.specs.declared.word.Step.{Step}
-use Rattle.pa_machine.specs.Titles.{IsWellFormed}
+use Rattle.pa_slot.specs.declared.title.Title.{Title}
+use Rattle.pa_slot.specs.declared.word.Step.{Step}
+use Rattle.pa_slot.specs.Titles.{IsWellFormed}
 use Rattle.pa_region.specs.declared.view.Entry.{Entry}
 use Rattle.pa_region.specs.declared.view.Entry.TheVariants.{Counted}
 use Rattle.pa_region.specs.declared.view.Stake.{Stake}
@@ -28,7 +28,7 @@ pub record TotalsStay (words after : List ℕ) : Type 0 where
 pub words_stay : (words : List ℕ) → TotalsStay words words
 words_stay words = record { long = refl; same = λ k. refl }
 
--- where a word of the bytes is written, they are
+-- a store to a word of the bytes leaves the totals words
 pub bytes_stay : (words : List ℕ) (p x : ℕ) → p < length words - 16 → TotalsStay words (set words p x)
 bytes_stay words p x below = record {
   long = length-set words p x;

@@ -6,12 +6,12 @@ use Rattle.std.proofs.lemmas.List.Sums.{sum_by-cons}
 use Rattle.std.proofs.lemmas.Bool.{lt-leb}
 use mathlib.Core.Option.{some}
 use lib.ListN.{get_elem?}
-use Rattle.pa_machine.specs.declared.title.Title.{Title}
+use Rattle.pa_slot.specs.declared.title.Title.{Title}
 use Rattle.pa_machine.specs.declared.event.Event.TheVariants.{Uncut as UncutEvent}
-use Rattle.pa_machine.specs.Titles.{same_title, Covers}
-use Rattle.pa_machine.specs.Holdings.{RawPiece, FreePiece, RawByte, FreeTitle, OwnOf, OwnAs, RefOf, one, amount, IsTitleHeld}
+use Rattle.pa_slot.specs.Titles.{same_title, Covers}
+use Rattle.pa_slot.specs.Holdings.{RawPiece, FreePiece, RawByte, FreeTitle, OwnOf, OwnAs, RefOf, one, amount, IsTitleHeld}
 use Rattle.pa_machine.specs.Events.{IsEnabled, Happens, total_of}
-use Rattle.pa_machine.proofs.Same.{title_one}
+use Rattle.pa_slot.proofs.Same.{title_one}
 use Rattle.pa_machine.proofs.Amounts.{free_self}
 use Rattle.pa_machine.proofs.Parts.{Changes, raw_none, free_none}
 use Rattle.pa_machine.proofs.Cutting.{covers_or, uncovered_raw, free_alone}

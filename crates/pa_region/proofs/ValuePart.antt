@@ -5,14 +5,14 @@ use Rattle.std.proofs.lemmas.Bool.{cases_lt}
 use Rattle.std.proofs.lemmas.Bool.Decides.{eqb_tells}
 use mathlib.Core.Option.{some, some-injective}
 use lib.ListN.{get_elem?}
-use Rattle.pa_machine.specs.declared.title.Title.{Title}
-use Rattle.pa_machine.specs.Titles.{Covers, count_place, IsContentOf}
-use Rattle.pa_machine.specs.Holdings.{Thing, RawByte, FreeTitle, OwnOf, RefOf, IsTitleHeld}
+use Rattle.pa_slot.specs.declared.title.Title.{Title}
+use Rattle.pa_slot.specs.Titles.{Covers, count_place, IsContentOf}
+use Rattle.pa_slot.specs.Holdings.{Thing, RawByte, FreeTitle, OwnOf, RefOf, IsTitleHeld}
 use Rattle.pa_machine.specs.Good.{IsGood}
 use Rattle.pa_machine.specs.Events.{total_of}
-use Rattle.pa_machine.proofs.Arith.{held_small}
+use Rattle.pa_slot.proofs.Arith.{held_small}
 use Rattle.pa_machine.proofs.Parts.{free_or, word_covered}
-use Rattle.pa_machine.specs.Titles.{count_word}
+use Rattle.pa_slot.specs.Titles.{count_word}
 use Rattle.pa_region.specs.declared.view.View.{View}
 use Rattle.pa_region.specs.Views.{held_of_view, byte_words, shown, Knows}
 use Rattle.pa_region.specs.Rule.{Values}

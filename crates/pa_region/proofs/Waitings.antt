@@ -3,14 +3,14 @@ use Rattle.std.proofs.Common.{◌≡◌, ℕ, ◌<◌, ◌≤◌, List, [], ◌�
 use Rattle.std.specs.List.{sum_by}
 use Rattle.std.proofs.lemmas.List.Sums.{sum_by-cons, sum_by_push}
 use Rattle.std.proofs.lemmas.Bool.Decides.{eqb_tells}
-use Rattle.pa_machine.specs.declared.title.Title.{Title}
-use Rattle.pa_machine.specs.declared.word.Step.{Step}
-use Rattle.pa_machine.specs.declared.word.Step.TheVariants.{Issue, Copy, Reset, Free, Write}
-use Rattle.pa_machine.specs.Count.{CanStep, stepped, number_of, held_of}
-use Rattle.pa_machine.specs.Titles.{count_word}
-use Rattle.pa_machine.specs.Holdings.{one}
-use Rattle.pa_machine.proofs.Arith.{stepped_is}
-use Rattle.pa_machine.proofs.Same.{title_tells, title_self}
+use Rattle.pa_slot.specs.declared.title.Title.{Title}
+use Rattle.pa_slot.specs.declared.word.Step.{Step}
+use Rattle.pa_slot.specs.declared.word.Step.TheVariants.{Issue, Copy, Reset, Free, Write}
+use Rattle.pa_slot.specs.Count.{CanStep, stepped, number_of, held_of}
+use Rattle.pa_slot.specs.Titles.{count_word}
+use Rattle.pa_slot.specs.Holdings.{one}
+use Rattle.pa_slot.proofs.Arith.{stepped_is}
+use Rattle.pa_slot.proofs.Same.{title_tells, title_self}
 use Rattle.pa_region.specs.declared.view.Entry.{Entry}
 use Rattle.pa_region.specs.declared.view.Entry.TheVariants.{Looked}
 use Rattle.pa_region.specs.declared.view.Stake.{Stake}
@@ -43,7 +43,7 @@ pub least_log_noted : (e : Entry) (ss : List Stake) → least_stake ss < 16 → 
 least_log_noted e ss has =
     ap (λ k. log_among k (noted e ss)) (least_noted e ss) ∙ log_changed (least_stake ss) e ss (least_there ss has)
 
--- and it is the last one there
+-- an entry that is noted is the last one of the least log
 pub last_noted : (e : Entry) (ss : List Stake) → least_stake ss < 16 → last_entry (least_log (noted e ss)) ≡ Some e
 last_noted e ss has = ap last_entry (least_log_noted e ss has) ∙ last_more (least_log ss) e
 
@@ -55,7 +55,7 @@ log_within k weight (s ∷ ss) =
     let again = log_within k weight ss in
     elim (eqb_tells s.number k) [ inl y ↦ rw y.0 (omega arith) | inr n ↦ rw n.0 (omega arith) ]
 
--- so is the least one
+-- what is weighed over the least log is within all logs of the view
 pub least_log_within : (v : View) (weight : Entry → ℕ) → sum_by weight (least_log v.stakes) ≤ logged_of v weight
 least_log_within v weight = log_within (least_stake v.stakes) weight v.stakes
 
@@ -88,7 +88,7 @@ content_other Reset value before no_issue no_write = refl
 content_other Free value before no_issue no_write = refl
 content_other Write value before no_issue no_write = absurd (no_write refl)
 
--- and one that is no Issue leaves the bit 0
+-- a step that is no Issue leaves the bit 0
 pub bit_other : (step : Step) (word : ℕ) → CanStep step word → (step ≡ Issue → ⊥) → held_of word ≡ 0 → held_of (stepped step word) ≡ 0
 bit_other Issue word can no_issue low = absurd (no_issue refl)
 bit_other Copy word can no_issue low = let s = stepped_is Copy word can in s.1 ∙ low

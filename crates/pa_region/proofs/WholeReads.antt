@@ -7,13 +7,13 @@ use Rattle.std.proofs.lemmas.Bool.{cases_lt, cases_Bool, eq-eqb, lt-ltb}
 use Rattle.std.proofs.lemmas.Bool.Decides.{eqb_tells}
 use mathlib.Core.Option.{some}
 use lib.ListN.{get_elem?}
-use Rattle.pa_machine.specs.declared.title.Title.{Title}
-use Rattle.pa_machine.specs.declared.title.OwnState.{OwnState}
-use Rattle.pa_machine.specs.declared.title.OwnState.TheVariants.{Clean, Dirty, Poisoned}
-use Rattle.pa_machine.specs.Count.{held_of}
-use Rattle.pa_machine.specs.Titles.{same_title, poison}
-use Rattle.pa_machine.specs.Holdings.{one}
-use Rattle.pa_machine.proofs.Same.{title_self}
+use Rattle.pa_slot.specs.declared.title.Title.{Title}
+use Rattle.pa_slot.specs.declared.title.OwnState.{OwnState}
+use Rattle.pa_slot.specs.declared.title.OwnState.TheVariants.{Clean, Dirty, Poisoned}
+use Rattle.pa_slot.specs.Count.{held_of}
+use Rattle.pa_slot.specs.Titles.{same_title, poison}
+use Rattle.pa_slot.specs.Holdings.{one}
+use Rattle.pa_slot.proofs.Same.{title_self}
 use Rattle.pa_region.specs.declared.view.Deeds.{Deeds}
 use Rattle.pa_region.specs.declared.view.OwnTitle.{OwnTitle}
 use Rattle.pa_region.specs.declared.view.Entry.{Entry}
@@ -48,7 +48,7 @@ others_none views i v at_i every each j u at_j ne k =
       | inr n ↦ let a = n.0 in omega arith
     ]
 
--- so what all logs have, its own have
+-- what all views' stakes have, those of a view with every stake have
 pub all_of : (amount : Stake → ℕ) (views : List View) (i : ℕ) (v : View) → get_elem? views i ≡ some v → HasEveryStake v → ((k : ℕ) → stakes_in views k ≡ one (nat_lt k 16)) →
     ((u : View) → ((k : ℕ) → stake_of u k ≡ 0) → sum_by amount u.stakes ≡ 0) →
     sum_by (λ (u : View). sum_by amount u.stakes) views ≡ sum_by amount v.stakes
@@ -71,7 +71,7 @@ poisoned_unclean v t =
 pub no_least : (u : View) → ((k : ℕ) → stake_of u k ≡ 0) → least_stake u.stakes < 16 → ⊥
 no_least u none has = let there = least_there u.stakes has in let z = none (least_stake u.stakes) in absurd (omega arith)
 
--- so no view has an Own poisoned apart from a stake that it has
+-- no view has an Own poisoned apart from a stake that the view with every stake has
 none_apart : (history : Title → List Done) (words : List ℕ) (views : List View) (i : ℕ) (v : View) → Reads history words views → get_elem? views i ≡ some v →
     HasEveryStake v → ((k : ℕ) → stakes_in views k ≡ one (nat_lt k 16)) → (t : Title) (r : ℕ) → 0 < stake_of v r → poisoned_apart views t r ≡ 0
 none_apart history words views i v reads at_i every each t r mine =
@@ -133,7 +133,7 @@ quiet_pair true t found place value since owned unclean quiet clean owner =
 quiet_pair false t found place value since owned unclean quiet clean owner =
     rw (title_self t, eq-eqb found found refl, eq-eqb value value refl, quiet, clean, owner) refl
 
--- and the pair of a look that found the bit 0 and a read that gave another value than poison
+-- a look that found the bit 0 and a read after it that gave another value than poison weigh 1
 freed_pair : (t : Title) (found place value : ℕ) (since : Deeds) (owned unclean : Bool) → held_of found ≡ 0 → since.handed ≡ false → eqb value poison ≡ false →
     gave_no_poison (Looked t found) (Read t place value since owned unclean) ≡ 1
 freed_pair t found place value since owned unclean low kept other = rw (title_self t, eq-eqb (held_of found) 0 low, kept, other) refl

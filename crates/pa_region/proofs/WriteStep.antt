@@ -6,10 +6,10 @@ use Rattle.std.proofs.lemmas.List.{length-set, get_or-set_same, get_or-set_other
 use Rattle.std.proofs.lemmas.Bool.{cases_eq}
 use mathlib.Core.Option.{some}
 use lib.ListN.{get_elem?}
-use Rattle.pa_machine.specs.declared.title.Title.{Title}
-use Rattle.pa_machine.specs.Count.{number_of}
-use Rattle.pa_machine.specs.Titles.{count_place, count_word}
-use Rattle.pa_machine.specs.Holdings.{RawByte, FreeTitle, OwnOf, RefOf, one, IsTitleHeld}
+use Rattle.pa_slot.specs.declared.title.Title.{Title}
+use Rattle.pa_slot.specs.Count.{number_of}
+use Rattle.pa_slot.specs.Titles.{count_place, count_word}
+use Rattle.pa_slot.specs.Holdings.{RawByte, FreeTitle, OwnOf, RefOf, one, IsTitleHeld}
 use Rattle.pa_machine.specs.Events.{total_of}
 use Rattle.pa_machine.specs.Trail.{KeepsContent}
 use Rattle.pa_region.specs.declared.view.Entry.{Entry}

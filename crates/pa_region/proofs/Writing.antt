@@ -4,9 +4,9 @@ use Rattle.std.proofs.lemmas.List.{length-set}
 use Rattle.atomic_table.specs.Table.{Me, Allows, keeps}
 use Rattle.atomic_table.specs.Table.{State as TableState}
 use Rattle.atomic_table.specs.Seated.{TableId}
-use Rattle.pa_machine.specs.declared.title.Title.{Title}
-use Rattle.pa_machine.specs.Titles.{content_place, IsWellFormed, IsContentOf, poison}
-use Rattle.pa_machine.specs.Holdings.{RawByte, FreeTitle, OwnOf, RefOf}
+use Rattle.pa_slot.specs.declared.title.Title.{Title}
+use Rattle.pa_slot.specs.Titles.{content_place, IsWellFormed, IsContentOf, poison}
+use Rattle.pa_slot.specs.Holdings.{RawByte, FreeTitle, OwnOf, RefOf}
 use Rattle.pa_region.specs.declared.view.View.{View}
 use Rattle.pa_region.specs.Views.{held_of_view}
 use Rattle.pa_region.specs.Rule.{IsKept}
@@ -37,7 +37,7 @@ store_allowed at_byte value slots id place me at_place can s k homes at_id small
   ),
 )
 
--- and one that may poison may poison
+-- a seat that can poison the next content word may do so
 pub poison_allowed : (t : Title) (j slots id place : ℕ) (me : Me (Unit {0}) View) → place ≡ content_place t j → CanPoison t j me.0 →
     Allows (λ (s : TableState (Unit {0}) View). IsKept s.words s.views) slots id me place (λ _. poison) (λ _ after. Leaves (after_poison t j me.0) me after)
 poison_allowed t j slots id place me at_place can s k homes at_id small = (
@@ -62,14 +62,14 @@ same_sound region v w sound long raw free own ref = record {
   long = long ∙ sound.long;
 }
 
--- so it is after a store
+-- what the type of a seat keeps holds after a store
 pub store_sound : (region : TableId) (at_byte value : ℕ) (v : View) → IsSeatSound region v → IsSeatSound region (after_store at_byte value v)
 store_sound region at_byte value v sound =
     same_sound region v (after_store at_byte value v) sound (length-set v.words (at_byte / 8) value)
     (λ b. store_holds at_byte value v (RawByte b) (λ o. refl)) (λ t. store_holds at_byte value v (FreeTitle t) (λ o. refl))
     (λ t. store_holds at_byte value v (OwnOf t) (λ o. refl)) (λ t. store_holds at_byte value v (RefOf t) (λ o. refl))
 
--- and after a poisoning
+-- what the type of a seat keeps holds after a poisoning
 pub poison_sound : (region : TableId) (t : Title) (j : ℕ) (v : View) → IsSeatSound region v → IsSeatSound region (after_poison t j v)
 poison_sound region t j v sound =
     same_sound region v (after_poison t j v) sound (length-set v.words (content_place t j) poison)
@@ -94,7 +94,7 @@ store_inside region table at_byte place v same sound can e = go can.1
         let o = owns_have v own.0 in
         of_title own.0 own.3 (sound.well own.0 (omega arith))
 
--- so is the word that is poisoned
+-- the word that is poisoned is in the region
 pub poison_inside : (region table : TableId) (t : Title) (j place : ℕ) (v : View) → region ≡ table → IsSeatSound region v → CanPoison t j v → place ≡ content_place t j → place < table.words
 poison_inside region table t j place v same sound can e =
     let w = ap (λ (z : TableId). z.words) same in

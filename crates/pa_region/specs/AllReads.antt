@@ -2,9 +2,9 @@
 use Rattle.std.specs.Prelude.{◌≡◌, ℕ, ◌<◌, ◌⊎◌, List, ◌∷◌, ◌++◌, Bool, true, false, length}
 use mathlib.Core.Option.{some}
 use lib.ListN.{get_elem?}
-use Rattle.pa_machine.specs.declared.title.Title.{Title}
-use Rattle.pa_machine.specs.Count.{number_of, held_of}
-use Rattle.pa_machine.specs.Titles.{IsWellFormed, poison}
+use Rattle.pa_slot.specs.declared.title.Title.{Title}
+use Rattle.pa_slot.specs.Count.{number_of, held_of}
+use Rattle.pa_slot.specs.Titles.{IsWellFormed, poison}
 use Rattle.pa_region.specs.declared.view.Deeds.{Deeds}
 use Rattle.pa_region.specs.declared.view.Entry.{Entry}
 use Rattle.pa_region.specs.declared.view.Entry.TheVariants.{Looked, Read}
@@ -16,9 +16,9 @@ use Rattle.pa_region.specs.Contents.{content_at_number}
 use Rattle.pa_region.specs.Pairs.{paired_of, paired_of_by, logged_of_by}
 use Rattle.pa_region.specs.Waiting.{is_quiet, gave_no_poison, quiet_read, IsFreedElsewhere}
 
--- Each read right after a look in the view's logs gave what it should: if the look found the bit 0, poison; if it found the
--- bit set, a quiet read through a clean Own gave the content at the look's number, and one through a Ref gave that content,
--- or poison if another log has the title's next Free.
+-- Each read right after a look in the view's logs gave what it should. If the look found the bit 0, that is poison. If it found the
+-- bit set, a quiet read through a clean Own gave the content at the look's number, and one through a Ref gave that content, or poison
+-- if another log has the title's next Free.
 pub record HasReads (history : Title → List Done) (v : View) : Type 0 where
   pub freed : paired_of v gave_no_poison ≡ 0
   pub own : (t : Title) (found value : ℕ) → held_of found ≡ 1 → 0 < paired_of v (quiet_read true t found value) →
@@ -27,8 +27,8 @@ pub record HasReads (history : Title → List Done) (v : View) : Type 0 where
       (value ≡ content_at_number (number_of found) (history t))
       ⊎ ((value ≡ poison) × IsFreedElsewhere (logged_of_by v) (history t) t r (number_of found))
 
--- What a view with every stake knows of all logs: each title has a history that its logs chain, and each read in them gave
--- it should. Titles that they name are well formed, and two titles with one start and one `born` are the same.
+-- What a view with every stake knows of all logs: each title has a history that its logs chain, and each read in them gave what it
+-- should. Titles that they name are well formed, and two titles with one start and one `born` are the same.
 pub record HasAllLogs (v : View) : Type 0 where
   pub history : Title → List Done
   pub chain : (t : Title) → IsChained (logged_of v) t (history t)

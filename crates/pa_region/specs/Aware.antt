@@ -1,10 +1,10 @@
 -- What the rule says of one view.
 use Rattle.std.specs.Prelude.{◌≡◌, ℕ, ◌+◌, ◌<◌, ◌≤◌}
 use Rattle.core.specs.List.{AllByRecursion as Each}
-use Rattle.pa_machine.specs.declared.title.Title.{Title}
-use Rattle.pa_machine.specs.Count.{number_of}
-use Rattle.pa_machine.specs.Titles.{Covers, count_word}
-use Rattle.pa_machine.specs.Holdings.{RawByte}
+use Rattle.pa_slot.specs.declared.title.Title.{Title}
+use Rattle.pa_slot.specs.Count.{number_of}
+use Rattle.pa_slot.specs.Titles.{Covers, count_word}
+use Rattle.pa_slot.specs.Holdings.{RawByte}
 use Rattle.pa_region.specs.declared.view.View.{View}
 use Rattle.pa_region.specs.Views.{held_of_view, free_of, own_of, ref_of, uncut_of, undone_of, stake_of, seen_of, unseen_of, logged_of, counted_on, HasTitle, HasEveryStake}
 use Rattle.pa_region.specs.Lists.{keeper_of, lease_of, list_of, made_with, entered_in, IsBeginning, IsKnownTo, Rises, HasSeenHandles}
@@ -13,14 +13,13 @@ use Rattle.pa_region.specs.AllReads.{HasAllLogs}
 use Rattle.pa_region.specs.Totals.{added_as, owes_as}
 use Rattle.pa_region.specs.Order.{HasOneOrder}
 
--- The view has each thing, stake, keeper and lease at most once. A free title isn't used besides, its titles share no byte, and
--- none is raw or was uncut, by its logs or its own list. It has seen what its own logs say, the number of each title it holds
--- free, and the issue of each title that it has a handle of.
--- Each note of a keeper's list is a beginning of what it has seen of the list, and its own keepers' lists are all of it. What
--- its stakes made there is what their logs entered; makers had stakes; what they had seen rises, and the view has seen it too.
--- By its logs no stake added more bytes to the totals words of a kind than its steps of that kind weigh.
--- And if it has every stake, its logs are all logs, all that they and the lists say is of one order, and it has seen no more
--- than they say.
+-- The view has each thing, stake, keeper and lease at most once. A free title isn't used besides, its titles share no byte, and none
+-- is raw or was uncut, by its logs or its own list. It has seen what its own logs say, the number of each title it holds free, and
+-- the issue of each title that it has a handle of. Each note of a keeper's list is a beginning of what it has seen of the list, and
+-- its own keepers' lists are all of it. What its stakes made there is what their logs entered. Each entry there was made with a
+-- stake. What the makers had seen rises along the list, and the view has seen it too. By its logs no stake added more bytes to the
+-- totals words of a kind than its steps of that kind weigh. If it has every stake, its logs are all logs, all that they and the lists
+-- say is of one order, and it has seen no more than they say.
 pub record IsAware (v : View) : Type 0 where
   pub raw_once : (b : ℕ) → held_of_view v (RawByte b) ≤ 1
   pub free_once : (t : Title) → free_of v t ≤ 1

@@ -1,7 +1,7 @@
 -- What callers may cut, as laws: in a new region, beside what was cut before, and from the bytes of a title that was uncut.
 use Rattle.std.specs.Prelude.{List, slice_index, slice_set, ◌⊎◌, ◌≡◌, ℕ, ◌+◌, ◌*◌, ◌%◌, ◌<◌, ◌≤◌}
-use Rattle.pa_machine.specs.declared.title.Title.{Title}
-use Rattle.pa_machine.specs.Titles.{Covers}
+use Rattle.pa_slot.specs.declared.title.Title.{Title}
+use Rattle.pa_slot.specs.Titles.{Covers}
 use Rattle.pa_region.specs.declared.view.View.{View}
 use Rattle.pa_region.specs.Views.{low_of}
 use Rattle.pa_region.specs.Cuts.{CanCut, after_cut, after_uncut}

@@ -1,7 +1,7 @@
 -- Cutting a title out of raw bytes, and its reverse, the uncut: what they need of the stepping seat's view, and do to it.
 use Rattle.std.specs.Prelude.{◌≡◌, ℕ, ◌+◌, ◌%◌, ◌<◌, ◌≤◌, ◌∷◌, true, slice_set}
-use Rattle.pa_machine.specs.declared.title.Title.{Title}
-use Rattle.pa_machine.specs.Titles.{Covers, count_place}
+use Rattle.pa_slot.specs.declared.title.Title.{Title}
+use Rattle.pa_slot.specs.Titles.{Covers, count_place}
 use Rattle.pa_region.specs.declared.view.RawRange.{RawRange}
 use Rattle.pa_region.specs.declared.view.Entry.TheVariants.{Uncut}
 use Rattle.pa_region.specs.declared.view.View.{View}

@@ -1,9 +1,9 @@
 -- What the words say at the end, to a view that has every stake.
 use Rattle.std.specs.Prelude.{◌≡◌, ℕ, ◌<◌, List, false, slice_index}
-use Rattle.pa_machine.specs.declared.title.Title.{Title}
-use Rattle.pa_machine.specs.Count.{held_of}
-use Rattle.pa_machine.specs.Run.{IsQuarantined}
-use Rattle.pa_machine.specs.Titles.{count_word, content_count, HasContentFrom, IsPoisonedTo}
+use Rattle.pa_slot.specs.declared.title.Title.{Title}
+use Rattle.pa_slot.specs.Count.{held_of}
+use Rattle.pa_slot.specs.Run.{IsQuarantined}
+use Rattle.pa_slot.specs.Titles.{count_word, content_count, HasContentFrom, IsPoisonedTo}
 use Rattle.pa_region.specs.declared.view.View.{View}
 use Rattle.pa_region.specs.Views.{HasTitle, Knows, logged_of, names, uncut_of}
 use Rattle.pa_region.specs.History.{Done, reached, content_of}
@@ -11,8 +11,8 @@ use Rattle.pa_region.specs.AllReads.{HasAllLogs}
 use Rattle.pa_region.specs.Aware.{IsAware}
 use Rattle.pa_region.specs.Loads.{has_unclean}
 
--- What the words say of a title with this history: its count word is the last word of the history; while it is quarantined
--- its content is poison; and while it is owned, but not by an unclean Own of the view, its content is the history's.
+-- What the words say of a title with this history. Its count word is the last word of the history. While it is quarantined its
+-- content is poison. While it is owned, but not by an unclean Own of the view, its content is the history's.
 pub record EndsWith (words : List ℕ) (v : View) (t : Title) (history : List Done) : Type 0 where
   pub last : count_word words t ≡ reached history
   pub poison : IsQuarantined (count_word words t) → IsPoisonedTo words t (content_count t)

@@ -2,10 +2,10 @@
 use Rattle.std.specs.Prelude.{◌≡◌, ℕ, ◌<◌, ◌≤◌, List, true, false, Some}
 use mathlib.Core.Option.{some}
 use lib.ListN.{get_elem?}
-use Rattle.pa_machine.specs.declared.title.Title.{Title}
-use Rattle.pa_machine.specs.declared.title.OwnState.{OwnState}
-use Rattle.pa_machine.specs.Titles.{content_count, poison, progress}
-use Rattle.pa_machine.specs.Holdings.{Thing, OwnOf, OwnAs, RefOf}
+use Rattle.pa_slot.specs.declared.title.Title.{Title}
+use Rattle.pa_slot.specs.declared.title.OwnState.{OwnState}
+use Rattle.pa_slot.specs.Titles.{content_count, poison, progress}
+use Rattle.pa_slot.specs.Holdings.{Thing, OwnOf, OwnAs, RefOf}
 use Rattle.pa_region.specs.declared.view.Entry.TheVariants.{Looked}
 use Rattle.pa_region.specs.declared.view.View.{View}
 use Rattle.pa_region.specs.Views.{least_stake}
@@ -20,7 +20,7 @@ pub record IsFilled (steps : List OneStep) (t : Title) (value n : ℕ) : Type 0 
   pub poisoned : (place : ℕ) → place < n → content_in t place steps ≡ poison
   pub beyond : (place : ℕ) → n ≤ place → content_in t place steps ≡ value
 
--- By the steps each poisoning of the title has a free after it; and while there are Refs, its content is poison.
+-- By the steps each poisoning of the title has a free after it, and while the title has Refs its content is poison.
 pub record IsLeft (steps : List OneStep) (t : Title) (refs : ℕ) : Type 0 where
   pub none : spoiled t steps ≡ 0
   pub poisoned : 0 < refs → (place : ℕ) → place < content_count t → content_in t place steps ≡ poison
@@ -32,9 +32,9 @@ pub record IsSteady (steps : List OneStep) (v : View) : Type 0 where
       IsCalm (least_stake v.stakes) t steps
   pub near : (t : Title) → v.since.poisoned ≡ true → 0 < poisoned_of v t → IsAlone (least_stake v.stakes) t steps
 
--- The eighth part: one order of all that logs say and of all poisonings. Each step is in place after those before it. By the
--- steps an Own has as many poisoned words as its state says, and in the others what its title's history says; a title without
--- an Own has no poisoning without a free, and its content is poison while there are Refs; and each view finds them steady.
+-- The eighth part: one order of all that logs say and of all poisonings. Each step is in place after those before it. By the steps an
+-- Own has as many poisoned words as its state says, and in the others what its title's history says. A title without an Own has no
+-- poisoning without a free after it, and its content is poison while there are Refs. Each view finds the steps steady.
 pub record Filled (steps : List OneStep) (all : List Stamped) (history : Title → List Done) (total : Thing → ℕ) (views : List View) : Type 0 where
   pub logged : logged_among steps ≡ all
   pub placed : AreInPlace steps

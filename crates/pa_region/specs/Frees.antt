@@ -1,8 +1,8 @@
 -- The Frees of a title's history that found a number not below some number, and the first of them.
 use Rattle.std.specs.Prelude.{◌≡◌, ℕ, ◌+◌, ◌≤◌, List, [], ◌∷◌, Bool, true, false, ◌&&◌, nat_le, length}
-use Rattle.pa_machine.specs.declared.word.Step.{Step}
-use Rattle.pa_machine.specs.declared.word.Step.TheVariants.{Issue, Copy, Reset, Free, Write}
-use Rattle.pa_machine.specs.Holdings.{one}
+use Rattle.pa_slot.specs.declared.word.Step.{Step}
+use Rattle.pa_slot.specs.declared.word.Step.TheVariants.{Issue, Copy, Reset, Free, Write}
+use Rattle.pa_slot.specs.Holdings.{one}
 use Rattle.pa_region.specs.History.{Done}
 
 -- the step is a Free
@@ -13,7 +13,7 @@ is_free Reset = false
 is_free Free = true
 is_free Write = false
 
--- how many Frees of the history found a number of at least k; a step found as many steps as are older than it
+-- How many Frees of the history found a number of at least k. The number that a step found is how many steps are older than it.
 abbrev pub frees_from : ℕ → List Done → ℕ
 frees_from k [] = 0
 frees_from k (d ∷ older) = one (is_free d.step && nat_le k (length older)) + frees_from k older

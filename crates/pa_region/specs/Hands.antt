@@ -1,12 +1,12 @@
 -- Handing over: what a view gives and keeps, and the view of two together.
 use Rattle.std.specs.Prelude.{◌≡◌, ℕ, zero, suc, ◌+◌, ◌-◌, ◌*◌, ◌%◌, ◌<◌, ◌≤◌, List, [], ◌∷◌, ◌++◌, Bool, true, false, not, ◌==◌, ◌&&◌, ◌||◌, nat_lt, nat_le, min, max, if◌then◌else◌}
 use Rattle.std.specs.List.{sum_by, filter}
-use Rattle.pa_machine.specs.declared.title.Title.{Title}
-use Rattle.pa_machine.specs.declared.title.OwnState.TheVariants.{Clean}
+use Rattle.pa_slot.specs.declared.title.Title.{Title}
+use Rattle.pa_slot.specs.declared.title.OwnState.TheVariants.{Clean}
 use Rattle.pa_machine.specs.declared.event.Item.{Item}
 use Rattle.pa_machine.specs.declared.event.Item.TheVariants.{Raw, Free, Own, Ref}
-use Rattle.pa_machine.specs.Titles.{same_title, same_state}
-use Rattle.pa_machine.specs.Holdings.{Thing, RawByte, one}
+use Rattle.pa_slot.specs.Titles.{same_title, same_state}
+use Rattle.pa_slot.specs.Holdings.{Thing, RawByte, one}
 use Rattle.pa_region.specs.declared.view.RawRange.{RawRange}
 use Rattle.pa_region.specs.declared.view.OwnTitle.{OwnTitle}
 use Rattle.pa_region.specs.declared.view.Deeds.{Deeds}
@@ -21,19 +21,19 @@ use Rattle.pa_region.specs.Lists.{keeper_of, lease_of}
 use Rattle.pa_region.specs.Pairs.{paired_of, paired_of_by, logged_of_by}
 use Rattle.pa_region.specs.Waiting.{poisoned_of, unclean_of}
 
--- the parts of a raw range below byte a, from byte e on, and between the two
+-- the part of a raw range below byte a, with the same floor
 abbrev pub below_part : ℕ → RawRange → RawRange
 below_part a r = record { start = r.start; len = min r.len (a - r.start); floor = r.floor }
 
--- the part of a raw range from byte e on, with the same floor; its length is 0 if the range ends by then
+-- The part of a raw range from byte e on, with the same floor. Its length is 0 if the range ends by then.
 abbrev pub above_part : ℕ → RawRange → RawRange
 above_part e r = record { start = max r.start e; len = (r.start + r.len) - max r.start e; floor = r.floor }
 
--- the part of a raw range from byte a up to byte e, with the same floor; its length is 0 if none of its bytes is between
+-- The part of a raw range from byte a up to byte e, with the same floor. Its length is 0 if none of its bytes is between.
 abbrev pub inner_part : ℕ → ℕ → RawRange → RawRange
 inner_part a e r = record { start = max r.start a; len = min (r.start + r.len) e - max r.start a; floor = r.floor }
 
--- what these ranges have outside of the bytes from a to e, and inside
+-- what these ranges have outside of the bytes from a up to e: two parts of each range, in order
 abbrev pub outside : ℕ → ℕ → List RawRange → List RawRange
 outside a e [] = []
 outside a e (r ∷ rs) = below_part a r ∷ above_part e r ∷ outside a e rs
@@ -61,7 +61,7 @@ with_item (Free t) v w = record w { frees = t ∷ w.frees }
 with_item (Own t) v w = record w { owns = record { title = t; state = Clean; idle = false } ∷ w.owns }
 with_item (Ref t) v w = record w { refs = t ∷ w.refs }
 
--- the view holds the item; an Own is given clean
+-- The view holds the item: a range of whole words as raw, a title as free, the title's Own, which is clean, or a Ref of the title.
 abbrev pub HoldsGiven : Item → View → Type 0
 HoldsGiven (Raw start len) v =
     (start % 8 ≡ 0) × (len % 8 ≡ 0) × ((b : ℕ) → start ≤ b → b < start + len → 0 < held_of_view v (RawByte b))
@@ -69,12 +69,12 @@ HoldsGiven (Free t) v = 0 < free_of v t
 HoldsGiven (Own t) v = 0 < own_as v t Clean
 HoldsGiven (Ref t) v = 0 < ref_of v t
 
--- it holds all these items at once
+-- the view holds all these items at once
 abbrev pub CanGive : List Item → View → Type 0
 CanGive [] v = Unit {0}
 CanGive (x ∷ xs) v = HoldsGiven x v × CanGive xs (without_item x v)
 
--- the view without these items, and the view w with them
+-- the view without these items
 abbrev pub left_of : List Item → View → View
 left_of [] v = v
 left_of (x ∷ xs) v = left_of xs (without_item x v)
@@ -97,7 +97,7 @@ out_of n single (f ∷ fs) =
     then record { single = numbers_from f (n - f) ++ single; from = suc n ∷ fs }
     else record { single = (out_of n single fs).single; from = f ∷ (out_of n single fs).from }
 
--- how often lease n is there
+-- how often lease n is among these: among the single ones, and among those from some number on
 abbrev pub lease_in : Leases → ℕ → ℕ
 lease_in l n = sum_by (λ x. one (x == n)) l.single + sum_by (λ f. one (nat_le f n)) l.from
 
@@ -214,7 +214,8 @@ merged v q [] others = others
 merged v q (x ∷ xs) [] = x ∷ xs
 merged v q (x ∷ xs) (y ∷ ys) = (if nat_lt 0 (knowing v q) then x else y) ∷ merged v (suc q) xs ys
 
--- what two views together did since the last entry; that the other poisoned is forgotten, since its Owns are clean
+-- What two views together did since the last entry, which counts as a hand. That the second poisoned is forgotten, since its Owns are
+-- clean.
 abbrev pub done_by_both : Deeds → Deeds → Deeds
 done_by_both d e = record { handed = true; stored = d.stored || e.stored; poisoned = d.poisoned }
 

@@ -1,10 +1,10 @@
 -- The history of a title: the steps on its count word, the latest first, and how logs chain it.
 use Rattle.std.specs.Prelude.{◌≡◌, ℕ, ◌<◌, ◌⊎◌, List, [], ◌∷◌, nat_lt, length}
-use Rattle.pa_machine.specs.declared.title.Title.{Title}
-use Rattle.pa_machine.specs.declared.word.Step.{Step}
-use Rattle.pa_machine.specs.declared.word.Step.TheVariants.{Issue, Copy, Reset, Free, Write}
-use Rattle.pa_machine.specs.Count.{CanStep, stepped}
-use Rattle.pa_machine.specs.Holdings.{one}
+use Rattle.pa_slot.specs.declared.title.Title.{Title}
+use Rattle.pa_slot.specs.declared.word.Step.{Step}
+use Rattle.pa_slot.specs.declared.word.Step.TheVariants.{Issue, Copy, Reset, Free, Write}
+use Rattle.pa_slot.specs.Count.{CanStep, stepped}
+use Rattle.pa_slot.specs.Holdings.{one}
 use Rattle.pa_region.specs.declared.view.Entry.{Entry}
 use Rattle.pa_region.specs.Views.{counted_on, counted_at, counted_as, looked_at}
 
@@ -46,9 +46,8 @@ abbrev pub IsLogged : ((Entry → ℕ) → ℕ) → Title → List Done → Type
 IsLogged logs t [] = Unit {0}
 IsLogged logs t (d ∷ older) = (logs (counted_as t d.step (reached older) d.value) ≡ 1) × IsLogged logs t older
 
--- The logs chain the title's history. Each number below its length was found by exactly one counted step of all logs,
--- and no other number was found by any; these are the steps of the history with its words; and each look found a word
--- of the history.
+-- The logs chain the title's history. Each number below its length was found by exactly one counted step of all logs, and no other
+-- number was found by any. These are the steps of the history with its words. Each look found a word of the history.
 pub record IsChained (logs : (Entry → ℕ) → ℕ) (t : Title) (history : List Done) : Type 0 where
   pub legal : IsLegal history
   pub steps : IsLogged logs t history

@@ -1,14 +1,14 @@
 -- How each step changes its view, for callers: laws over any view.
 use Rattle.std.specs.Prelude.{◌≡◌, ℕ, ◌+◌, ◌-◌, ◌/◌, ◌<◌, ◌≤◌, ◌⊎◌, List, [], ◌∷◌, ◌++◌, Bool, true, false, ◌&&◌, length, max, Some, slice_index, if◌then◌else◌}
 use Rattle.std.specs.List.{sum_by}
-use Rattle.pa_machine.specs.declared.title.Title.{Title}
-use Rattle.pa_machine.specs.declared.title.OwnState.{OwnState}
-use Rattle.pa_machine.specs.declared.word.Step.{Step}
-use Rattle.pa_machine.specs.declared.word.Step.TheVariants.{Issue, Copy, Reset, Free, Write}
-use Rattle.pa_machine.specs.Count.{stepped, number_of}
-use Rattle.pa_machine.specs.Run.{IsReturning}
-use Rattle.pa_machine.specs.Titles.{same_title, content_place, count_word, count_place}
-use Rattle.pa_machine.specs.Holdings.{one}
+use Rattle.pa_slot.specs.declared.title.Title.{Title}
+use Rattle.pa_slot.specs.declared.title.OwnState.{OwnState}
+use Rattle.pa_slot.specs.declared.word.Step.{Step}
+use Rattle.pa_slot.specs.declared.word.Step.TheVariants.{Issue, Copy, Reset, Free, Write}
+use Rattle.pa_slot.specs.Count.{stepped, number_of}
+use Rattle.pa_slot.specs.Run.{IsReturning}
+use Rattle.pa_slot.specs.Titles.{same_title, content_place, count_word, count_place}
+use Rattle.pa_slot.specs.Holdings.{one}
 use Rattle.pa_region.specs.declared.view.OwnTitle.{OwnTitle}
 use Rattle.pa_region.specs.declared.view.Entry.{Entry}
 use Rattle.pa_region.specs.declared.view.Entry.TheVariants.{Counted, Looked, Added, Entered}
@@ -33,11 +33,11 @@ pub record LeavesEntry (e : Entry) (v w : View) : Type 0 where
   pub last : last_entry (least_log w.stakes) ≡ Some e
   pub stakes : (k : ℕ) → stake_of w k ≡ stake_of v k
 
--- this holds for a view that has a stake, and its stakes then are those with the entry
+-- an entry leaves this of logs, from a view that has a stake to one that has the same stakes with the entry noted
 abbrev pub EntryLeaves : Type 0
 EntryLeaves = (e : Entry) (v w : View) → HasStake v → w.stakes ≡ noted e v.stakes → LeavesEntry e v w
 
--- whether a step takes its title from the free ones and makes it an Own; takes an Own; takes a Ref; makes one
+-- whether a step takes its title from the free ones: only an issue does
 abbrev pub takes_free : Step → Bool
 takes_free Issue = true
 takes_free Copy = false
@@ -77,9 +77,9 @@ gives_back Reset left = is_back left
 gives_back Free left = is_back left
 gives_back Write left = false
 
--- How a counted step that found this word changes the view: how many times each title is held free, as Own and as Ref; one
--- more entry in logs; one step less in the budget; the number that it leaves is seen; no known word outside the title changes,
--- and none at all if the title isn't given back; if it is, its count word is then known.
+-- How a counted step that found this word changes the view. It changes how many times each title is held free, as Own and as Ref.
+-- There is one more entry in logs, one step less in the budget, and the number that the step leaves is seen. No known word outside
+-- the title changes, and none at all if the title isn't given back. If it is, its count word is then known.
 pub record LeavesCount (step : Step) (t : Title) (word : ℕ) (v w : View) : Type 0 where
   pub raws : w.raws ≡ v.raws
   pub frees : (u : Title) →
@@ -128,8 +128,8 @@ StoreLeaves =
     ((at_byte value : ℕ) (v : View) (u : Title) → idle_of (after_store at_byte value v) u ≡ idle_of v u) ×
     ((t : Title) (j : ℕ) (v : View) (u : Title) → own_of (after_poison t j v) u ≡ own_of v u)
 
--- After an entry in a keeper's list, the list and the log of the least stake have it at their end; other lists and
--- logs, and the keepers, are as before.
+-- After an entry in a keeper's list, the list and the log of the least stake have it at their end. Other lists and logs, and the
+-- keepers, are as before.
 pub record LeavesEnter (k : ℕ) (numbers : List ℕ) (v w : View) : Type 0 where
   pub list : list_of k w ≡ list_of k v ++ new_entry numbers v ∷ []
   pub other_lists : (q : ℕ) → (q ≡ k → ⊥) → list_of q w ≡ list_of q v
@@ -154,8 +154,8 @@ pub record OneOwnChanged (t : Title) (change : OwnTitle → OwnTitle) (os : List
   pub within : (f : OwnTitle → ℕ) → f o ≤ sum_by f os
   pub replaced : (f : OwnTitle → ℕ) → sum_by f (changed (is_own_of t) change os) + f o ≡ sum_by f os + f (change o)
 
--- if Owns of the title are in a list, one of them is changed so; and a change that leaves an amount of every Own as it is leaves
--- the sum of that amount too
+-- If a list has Owns of a title, one of them is changed by a change of the first. A change that leaves an amount of every Own as it
+-- is leaves the sum of that amount too.
 abbrev pub OwnsChange : Type 0
 OwnsChange =
     ((t : Title) (change : OwnTitle → OwnTitle) (os : List OwnTitle) → 0 < sum_by (λ (o : OwnTitle). one (same_title o.title t)) os →

@@ -1,8 +1,8 @@
 -- Lending a stake: what a seat that lends its stake and gets it back keeps, and what the seat that borrowed it keeps.
 use Rattle.std.specs.Prelude.{◌≡◌, ℕ, ◌<◌, ◌≤◌, List, [], ◌∷◌, ◌++◌, ◌==◌, length, map, slice_index, if◌then◌else◌}
-use Rattle.pa_machine.specs.declared.title.Title.{Title}
-use Rattle.pa_machine.specs.Titles.{IsWellFormed}
-use Rattle.pa_machine.specs.Holdings.{Thing}
+use Rattle.pa_slot.specs.declared.title.Title.{Title}
+use Rattle.pa_slot.specs.Titles.{IsWellFormed}
+use Rattle.pa_slot.specs.Holdings.{Thing}
 use Rattle.pa_region.specs.declared.marks.Mark.TheVariants.{Stake}
 use Rattle.pa_region.specs.declared.view.Entry.{Entry}
 use Rattle.pa_region.specs.declared.view.Entry.TheVariants.{Entered}
@@ -26,7 +26,7 @@ stake_parcel r = parcel_of [] 0 (Stake r ∷ [])
 abbrev pub CanLend : View → Type 0
 CanLend v = HasStake v × (unclean_of v ≡ 0)
 
--- and a view that may borrow one has none, and only clean Owns
+-- a view that may borrow a stake has none, and only clean Owns
 abbrev pub CanHost : View → Type 0
 CanHost v = ((k : ℕ) → stake_of v k ≡ 0) × (unclean_of v ≡ 0)
 
@@ -34,8 +34,8 @@ CanHost v = ((k : ℕ) → stake_of v k ≡ 0) × (unclean_of v ≡ 0)
 abbrev pub HostsKeeper : ℕ → View → Type 0
 HostsKeeper k v = CanHost v × (0 < keeper_of v k)
 
--- The view `after` has what v has: each thing, floors, what it knows of Refs that are left, the budget, stakes, keepers
--- and leases; it knows the words that v knows; it has seen all that v has seen; and what v uncut is in its list.
+-- The view `after` has what v has: each thing, floors, what it knows of Refs that are left, the budget, stakes, keepers and leases.
+-- It knows the words that v knows, and has seen all that v has seen. What v uncut is in its list.
 pub record Keeps (v after : View) : Type 0 where
   pub things : (x : Thing) → held_of_view after x ≡ held_of_view v x
   pub floors : (b n : ℕ) → low_of after b n ≡ low_of v b n
@@ -51,7 +51,7 @@ pub record Keeps (v after : View) : Type 0 where
   pub lists : (k : ℕ) → IsBeginning (list_of k v) (list_of k after)
   pub undone : (t : Title) → undone_of v t ≤ undone_of after t
 
--- The lender of stake r that got it back keeps what it has. The stake's log has these entries more, other logs none; and the
+-- The lender of stake r that got it back keeps what it has. The stake's log has these entries more, and no other log has more. The
 -- lists of its own keepers are as they were, since no other seat can make an entry there.
 pub record Lends (r : ℕ) (more : List Entry) (v after : View) : Type 0 where
   pub keeps : Keeps v after
@@ -74,7 +74,7 @@ HostsKeep =
     Keeps (united host (given_after (stake_parcel r) lender)) done →
     Keeps host (left_after (stake_parcel r) done)
 
--- a seat that makes an entry in a keeper's list keeps what it has; and keeping is transitive
+-- a seat that makes an entry in a keeper's list keeps what it has
 abbrev pub EnteringKeeps : Type 0
 EnteringKeeps = (k : ℕ) (numbers : List ℕ) (v : View) → CanEnter k v → Keeps v (after_enter k numbers v)
 
@@ -82,18 +82,18 @@ EnteringKeeps = (k : ℕ) (numbers : List ℕ) (v : View) → CanEnter k v → K
 abbrev pub KeepingGoesOn : Type 0
 KeepingGoesOn = (u v w : View) → Keeps u v → Keeps v w → Keeps u w
 
--- a view that keeps what a lender has can lend the same stake again; and one that keeps what a borrower has can borrow again
+-- A view that keeps what a lender has can lend the same stake again. One that keeps what a borrower has can borrow again.
 abbrev pub LendsAgain : Type 0
 LendsAgain =
     (v w : View) → Keeps v w → (CanLend v → CanLend w × (least_stake w.stakes ≡ least_stake v.stakes)) × (CanHost v → CanHost w)
 
--- it has seen the same number of a title that it holds free
+-- if a seat keeps what it has, it has seen the same number as before of each title that it holds free
 abbrev pub KeptNumbersStay : Type 0
 KeptNumbersStay =
     (v w : View) (n : ℕ) (t : Title) → IsAware v → IsAware w → Keeps v w → IsWellFormed n t → 0 < free_of v t → seen_of w t ≡ seen_of v t
 
--- The entry m was made with the lent stake r in the list of keeper k, which the host has: it has these numbers and is
--- at the end of the list, which both have seen then; the lender's log has it; and it carries all that the lender had seen.
+-- The entry m was made with the lent stake r in the list of keeper k, which the host has. It has these numbers and is at the end of
+-- the list, which both seats have seen then. The lender's log has it, and it carries all that the lender had seen.
 pub record IsNoted (r k : ℕ) (numbers : List ℕ) (lender lender_now host host_now : View) (m : Made) : Type 0 where
   pub stake : m.stake ≡ r
   pub says : m.numbers ≡ numbers
@@ -104,9 +104,9 @@ pub record IsNoted (r k : ℕ) (numbers : List ℕ) (lender lender_now host host
   pub before : (t : Title) → seen_of lender t ≤ seen_among t m.seen
   pub known : (t : Title) → seen_among t m.seen ≤ seen_of lender_now t
 
--- Two entries were made with the lender's stake r, one after the other. It was lent to `middle`, which lent it to
--- `host`: there m was made in the list of keeper `inner`, and then `middle` made n in that of keeper `outer`. The middle one
--- has seen the inner list with its entry, and n carries that.
+-- Two entries were made with the lender's stake r, one after the other. The stake was lent to `middle`, which lent it to `host`.
+-- There m was made in the list of keeper `inner`, and then `middle` made n in that of keeper `outer`. The middle seat has seen the
+-- inner list with its entry, and n carries that.
 pub record AreNoted (r inner outer : ℕ) (first second : List ℕ)
     (lender lender_now middle middle_now host host_now : View) (m n : Made) : Type 0 where
   pub stakes : (m.stake ≡ r) × (n.stake ≡ r)
@@ -121,7 +121,7 @@ pub record AreNoted (r inner outer : ℕ) (first second : List ℕ)
   pub known : (t : Title) → seen_among t n.seen ≤ seen_of lender_now t
   pub seen_list : IsBeginning (list_of inner host_now) (list_of inner middle_now)
 
--- the same for seats before and after: one entry was made so with the lender's least stake, or two
+-- one entry with these numbers was made with the lender's least stake in the list of keeper k, which the host has
 abbrev pub MakesEntry : ℕ → List ℕ → (lender lender_now host host_now : Share) → Type 0
 MakesEntry k numbers a b h i = (m : Made) × IsNoted (least_stake a.view.stakes) k numbers a.view b.view h.view i.view m
 

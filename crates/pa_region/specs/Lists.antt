@@ -4,10 +4,10 @@ use Rattle.std.specs.List.{sum_by}
 use Rattle.core.specs.List.{AllByRecursion as Each}
 use mathlib.Core.Option.{some}
 use lib.ListN.{get_elem?}
-use Rattle.pa_machine.specs.declared.title.Title.{Title}
-use Rattle.pa_machine.specs.Count.{number_of}
-use Rattle.pa_machine.specs.Titles.{count_word}
-use Rattle.pa_machine.specs.Holdings.{one}
+use Rattle.pa_slot.specs.declared.title.Title.{Title}
+use Rattle.pa_slot.specs.Count.{number_of}
+use Rattle.pa_slot.specs.Titles.{count_word}
+use Rattle.pa_slot.specs.Holdings.{one}
 use Rattle.pa_region.specs.declared.view.Entry.{Entry}
 use Rattle.pa_region.specs.declared.view.Entry.TheVariants.{Entered}
 use Rattle.pa_region.specs.declared.view.Made.{Made}
@@ -21,7 +21,7 @@ use Rattle.pa_region.specs.Views.{seen_among, seen_of, free_of, own_of, ref_of}
 abbrev pub keeper_of : View → ℕ → ℕ
 keeper_of v k = sum_by (λ (q : Keeper). one (q.number == k)) v.keepers
 
--- how many times all views together have it
+-- how many times all views together have keeper k
 abbrev pub keepers_in : List View → ℕ → ℕ
 keepers_in views k = sum_by (λ v. keeper_of v k) views
 
@@ -29,7 +29,7 @@ keepers_in views k = sum_by (λ v. keeper_of v k) views
 abbrev pub lease_of : View → ℕ → ℕ
 lease_of v n = sum_by (λ l. one (l == n)) v.leases.single + sum_by (λ f. one (nat_le f n)) v.leases.from
 
--- how many times all views together have it
+-- how many times all views together have lease n
 abbrev pub leases_in : List View → ℕ → ℕ
 leases_in views n = sum_by (λ v. lease_of v n) views
 
@@ -56,7 +56,7 @@ abbrev pub entry_in : ℕ → Entry → List Made
 entry_in k (Entered keeper made) = if keeper == k then made ∷ [] else []
 entry_in k other = []
 
--- what a log entered there, in order
+-- what a log entered in the list of keeper k, in order
 abbrev pub entered_in : ℕ → List Entry → List Made
 entered_in k [] = []
 entered_in k (e ∷ log) = entry_in k e ++ entered_in k log
@@ -78,10 +78,10 @@ Rises (m ∷ ms) = Each (λ later. IsKnownTo later.seen m) ms × Rises ms
 abbrev pub HasSeenHandles : View → Type 0
 HasSeenHandles v = (t : Title) → 0 < own_of v t + ref_of v t → 1 ≤ seen_of v t
 
--- Of one view and the lists of the keepers. What it has seen of a list is a beginning of it, and the whole list if
--- it has the keeper, since the list goes with the keeper. What a stake of the view made is, in order, what its log entered: in
--- the whole list, and in what the view has seen of it. The view has seen all that the makers of what it has seen had seen,
--- and the issue of each title that it has a handle of.
+-- What one view knows of the keepers' lists. What it has seen of a list is a beginning of it, and the whole list if it has the
+-- keeper, since the list goes with the keeper. What a stake of the view made is, in order, what its log entered, in the whole list
+-- and in what the view has seen of it. The view has seen all that the makers of what it has seen had seen, and the issue of each
+-- title that it has a handle of.
 pub record IsListed (list : ℕ → List Made) (v : View) : Type 0 where
   pub beginnings : Each (λ n. IsBeginning n.entries (list n.keeper)) v.seen_lists
   pub whole : (k : ℕ) → 0 < keeper_of v k → list_of k v ≡ list k
@@ -95,9 +95,8 @@ pub record IsListed (list : ℕ → List Made) (v : View) : Type 0 where
 abbrev pub HasSeenFree : View → Type 0
 HasSeenFree v = (t : Title) → 0 < free_of v t → number_of (count_word v.words t) ≤ seen_of v t
 
--- The fifth part: each of the 6 keepers is in exactly one view, and so is each lease. What makers had seen grows along
--- each list, and each entry was made with a stake. Each view is as above, and has seen the number of each title that
--- it holds free.
+-- The fifth part: each of the 6 keepers is in exactly one view, and so is each lease. What makers had seen grows along each list, and
+-- each entry was made with a stake. Each view knows the lists as it should, and has seen the number of each title that it holds free.
 pub record Lists (list : ℕ → List Made) (views : List View) : Type 0 where
   pub each_keeper : (k : ℕ) → keepers_in views k ≡ one (nat_lt k 6)
   pub each_lease : (n : ℕ) → leases_in views n ≡ 1

@@ -1,11 +1,11 @@
 -- How a load changes the stepping seat's view, what it requires of it, and what its value is.
 use Rattle.std.specs.Prelude.{◌≡◌, ℕ, ◌*◌, ◌/◌, ◌%◌, ◌<◌, ◌⊎◌, Bool, false, ◌&&◌, nat_lt, Some, slice_index}
 use Rattle.std.specs.List.{sum_by}
-use Rattle.pa_machine.specs.declared.title.Title.{Title}
-use Rattle.pa_machine.specs.Count.{held_of}
-use Rattle.pa_machine.specs.Run.{IsFree}
-use Rattle.pa_machine.specs.Titles.{same_title, Covers, content_count, content_place, content_at, poison}
-use Rattle.pa_machine.specs.Holdings.{one}
+use Rattle.pa_slot.specs.declared.title.Title.{Title}
+use Rattle.pa_slot.specs.Count.{held_of}
+use Rattle.pa_slot.specs.Run.{IsFree}
+use Rattle.pa_slot.specs.Titles.{same_title, Covers, content_count, content_place, content_at, poison}
+use Rattle.pa_slot.specs.Holdings.{one}
 use Rattle.pa_region.specs.declared.view.OwnTitle.{OwnTitle}
 use Rattle.pa_region.specs.declared.view.Entry.TheVariants.{Looked, Read}
 use Rattle.pa_region.specs.declared.view.View.{View}
@@ -16,7 +16,7 @@ use Rattle.pa_region.specs.Pairs.{last_entry, least_log}
 use Rattle.pa_region.specs.Waiting.{is_unclean}
 use Rattle.pa_region.specs.Shares.{IsUser, count_offset}
 
--- whether a view has the title's Own, and whether it has it in another state than clean
+-- whether a view has the title's Own
 abbrev pub has_own : View → Title → Bool
 has_own v t = nat_lt 0 (own_of v t)
 
@@ -39,8 +39,7 @@ content_offset t place = 8 * content_place t place
 abbrev pub IsPlain : View → ℕ → Type 0
 IsPlain v at_byte = HasRawWord v at_byte ⊎ ((t : Title) × (0 < free_of v t) × Covers t at_byte)
 
--- a seat with this view may load the word at the offset: a plain word, or with a stake a word of a title that it has a
--- handle
+-- a seat with this view may load the word at the offset: a plain word, or with a stake a word of a title that it has a handle of
 abbrev pub CanLoad : ℕ → View → Type 0
 CanLoad at_byte v = (at_byte % 8 ≡ 0) × (IsPlain v at_byte ⊎ ((t : Title) × Covers t at_byte × IsUser t v × HasStake v))
 
@@ -51,7 +50,7 @@ ReadTells t place v value =
     (0 < own_of v t → value ≡ content_at v.words t place) ×
     ((found : ℕ) → last_entry (least_log v.stakes) ≡ Some (Looked t found) → held_of found ≡ 0 → v.since.handed ≡ false → value ≡ poison)
 
--- What a load returns. A plain word is the one that the view knows, and the view stays; the count word of a title that it
+-- What a load returns. A plain word is the one that the view knows, and the view stays as it is. The count word of a title that it
 -- holds free is a free one. The load of a count word of a handle is a look, and of a content word a read.
 pub record LoadTells (at_byte : ℕ) (v : View) (word : ℕ) (after : View) : Type 0 where
   pub plain : IsPlain v at_byte → (after ≡ v) × (word ≡ slice_index v.words (at_byte / 8))

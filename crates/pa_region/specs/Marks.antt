@@ -8,7 +8,7 @@ use Rattle.pa_region.specs.declared.view.View.{View}
 use Rattle.pa_region.specs.Views.{stake_of}
 use Rattle.pa_region.specs.Hands.{Parcel}
 
--- the mark is the stake with this number; the keeper
+-- the mark is the stake with this number
 abbrev pub names_stake : ℕ → Mark → Bool
 names_stake k (Stake number) = number == k
 names_stake k (Keeper number) = false
@@ -20,7 +20,7 @@ names_keeper k (Stake number) = false
 names_keeper k (Keeper number) = number == k
 names_keeper k (Lease number) = false
 
--- it is among the marks
+-- the stake with this number is among the marks
 abbrev pub marked_stake : List Mark → ℕ → Bool
 marked_stake marks k = list_any (names_stake k) marks
 
@@ -28,7 +28,7 @@ marked_stake marks k = list_any (names_stake k) marks
 abbrev pub marked_keeper : List Mark → ℕ → Bool
 marked_keeper marks k = list_any (names_keeper k) marks
 
--- the leases among the marks
+-- the number of the lease, if the mark is one
 abbrev pub lease_of_mark : Mark → List ℕ
 lease_of_mark (Stake number) = []
 lease_of_mark (Keeper number) = []

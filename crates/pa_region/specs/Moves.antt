@@ -1,12 +1,12 @@
 -- How each kind of step changes the stepping seat's view.
 use Rattle.std.specs.Prelude.{◌≡◌, ℕ, zero, suc, ◌+◌, ◌-◌, ◌<◌, ◌≤◌, List, [], ◌∷◌, ◌++◌, Bool, true, false, ◌==◌, ◌&&◌, slice_set, if◌then◌else◌}
-use Rattle.pa_machine.specs.declared.title.Title.{Title}
-use Rattle.pa_machine.specs.declared.title.OwnState.TheVariants.{Clean, Dirty, Poisoned}
-use Rattle.pa_machine.specs.declared.word.Step.{Step}
-use Rattle.pa_machine.specs.declared.word.Step.TheVariants.{Issue, Copy, Reset, Free, Write}
-use Rattle.pa_machine.specs.Count.{stepped, number_of, refs_of, held_of}
-use Rattle.pa_machine.specs.Run.{IsFree}
-use Rattle.pa_machine.specs.Titles.{same_title, content_count, content_place, content_at, count_place, count_word, HasContentFrom, IsUniform, poison}
+use Rattle.pa_slot.specs.declared.title.Title.{Title}
+use Rattle.pa_slot.specs.declared.title.OwnState.TheVariants.{Clean, Dirty, Poisoned}
+use Rattle.pa_slot.specs.declared.word.Step.{Step}
+use Rattle.pa_slot.specs.declared.word.Step.TheVariants.{Issue, Copy, Reset, Free, Write}
+use Rattle.pa_slot.specs.Count.{stepped, number_of, refs_of, held_of}
+use Rattle.pa_slot.specs.Run.{IsFree}
+use Rattle.pa_slot.specs.Titles.{same_title, content_count, content_place, content_at, count_place, count_word, HasContentFrom, IsUniform, poison}
 use Rattle.pa_region.specs.declared.view.OwnTitle.{OwnTitle}
 use Rattle.pa_region.specs.declared.view.Deeds.{Deeds}
 use Rattle.pa_region.specs.declared.view.Entry.{Entry}
@@ -55,8 +55,8 @@ filled_with value t (suc n) words = slice_set (filled_with value t n words) (con
 abbrev pub is_back : ℕ → Bool
 is_back left = (held_of left == 0) && (refs_of left == 0)
 
--- What the view holds and knows after a counted step on the title that found this word. If the step gave the title back, the
--- view knows its count word; and after a reset its content, which is poison, since the slot was quarantined.
+-- What the view holds and knows after a counted step on the title that found this word. If the step gave the title back, the view
+-- knows its count word. If it was a reset, the view also knows the content, which is poison, since the slot was quarantined.
 abbrev pub moved : Step → Title → ℕ → View → View
 moved Issue t word v = record v {
   frees = without (is_title_of t) v.frees;
@@ -103,8 +103,8 @@ entered e t number v = record v {
   seen = record { title = t; number = number } ∷ v.seen;
 }
 
--- the view after a counted step on the title that found this word: the holdings, one step less in the budget, the
--- entry in the log, and the number that the step leaves
+-- The view after a counted step on the title that found this word. It has moved what it holds, has one step less in the budget and
+-- the entry in its log, and has seen the number that the step leaves.
 abbrev pub after_count : Step → Title → ℕ → View → View
 after_count step t word v =
     entered (Counted t step word (value_of step t v)) t (number_of word + 1)
@@ -124,8 +124,8 @@ HasHandle Reset t v = 0 < ref_of v t
 HasHandle Free t v = 0 < own_as v t (Poisoned (content_count t))
 HasHandle Write t v = (0 < idle_of v t) × (0 < own_as v t Clean + own_as v t Dirty)
 
--- the view knows the content that the step needs: for an issue 0, for a write one value in all words; and for a free nothing was
--- logged since the view poisoned it
+-- The view knows the content that the step needs: for an issue 0, and for a write one value in all words. For a free nothing was
+-- logged since the view poisoned the title.
 abbrev pub HasContent : Step → Title → View → Type 0
 HasContent Issue t v = HasContentFrom v.words t 0 0
 HasContent Copy t v = Unit {0}
@@ -137,9 +137,9 @@ HasContent Write t v = IsUniform v.words t
 abbrev pub CanCount : Step → Title → View → Type 0
 CanCount step t v = HasHandle step t v × HasStake v × (0 < v.budget) × HasContent step t v
 
--- What a word found on a title implies: its number isn't below one that was seen before; the view's handles are
--- among those that it counts; a title that isn't free is free in no view; of a free title it is the word that the
--- view knows; and its number and count are small.
+-- What a word found on a title implies. Its number isn't below one that the view has seen. The view's handles are among those that
+-- the word counts. If it isn't a free word, the view doesn't hold the title free. If the view holds the title free, it is the word
+-- that the view knows. Its number and count are small.
 pub record IsFound (t : Title) (word : ℕ) (v : View) : Type 0 where
   pub not_older : seen_of v t ≤ number_of word
   pub owns : own_of v t ≤ held_of word

@@ -1,15 +1,15 @@
--- One order of all that logs say, the seventh part of the rule; and of the poisonings of content words with it.
+-- One order of all that logs say, the seventh part of the rule, and one of the poisonings of content words with it.
 use Rattle.std.specs.Prelude.{◌≡◌, ℕ, ◌+◌, ◌<◌, ◌⊎◌, List, [], ◌∷◌, ◌++◌, Bool, false, ◌&&◌, map, ◌==◌, Some, if◌then◌else◌}
 use Rattle.std.specs.List.{sum_by}
 use Rattle.core.specs.List.{AllByRecursion as Each}
 use mathlib.Core.Option.{some}
 use lib.ListN.{get_elem?}
-use Rattle.pa_machine.specs.declared.title.Title.{Title}
-use Rattle.pa_machine.specs.declared.word.Step.{Step}
-use Rattle.pa_machine.specs.declared.word.Step.TheVariants.{Issue, Copy, Reset, Free, Write}
-use Rattle.pa_machine.specs.Count.{number_of}
-use Rattle.pa_machine.specs.Titles.{same_title, content_count, poison}
-use Rattle.pa_machine.specs.Holdings.{one}
+use Rattle.pa_slot.specs.declared.title.Title.{Title}
+use Rattle.pa_slot.specs.declared.word.Step.{Step}
+use Rattle.pa_slot.specs.declared.word.Step.TheVariants.{Issue, Copy, Reset, Free, Write}
+use Rattle.pa_slot.specs.Count.{number_of}
+use Rattle.pa_slot.specs.Titles.{same_title, content_count, poison}
+use Rattle.pa_slot.specs.Holdings.{one}
 use Rattle.pa_region.specs.declared.view.Deeds.{Deeds}
 use Rattle.pa_region.specs.declared.view.Entry.{Entry}
 use Rattle.pa_region.specs.declared.view.Entry.TheVariants.{Counted, Looked, Read}
@@ -47,9 +47,9 @@ Touches other t word = ⊥
 abbrev pub IsLoggedIn : List Stamped → View → Type 0
 IsLoggedIn all v = Each (λ (s : Stake). s.log ≡ by_stake s.number all) v.stakes
 
--- The seventh part: one order of all that logs say. Each entry was made with one of the 16 stakes, each log is what its stake
--- did there, and each keeper's list what was entered; and a counted step or a look found the number of counted steps of its
--- title before it.
+-- The seventh part: one order of all that logs say. Each entry was made with one of the 16 stakes, each log is what its stake did
+-- there, and each keeper's list is what was entered there. A counted step or a look found the number of counted steps of its title
+-- before it.
 pub record InOneOrder (all : List Stamped) (list : ℕ → List Made) (views : List View) : Type 0 where
   pub stakes : Each (λ (m : Stamped). m.stake < 16) all
   pub logs : (i : ℕ) (v : View) → get_elem? views i ≡ some v → IsLoggedIn all v
@@ -64,7 +64,7 @@ pub data OneStep : Type 0 where
   Logged : Stamped → OneStep
   Spoiled : Title → ℕ → OneStep
 
--- Steps are listed the latest first. What was logged among them, the first first
+-- what was logged among these steps, in the order in which it happened, though the steps are listed the latest first
 abbrev pub logged_among : List OneStep → List Stamped
 logged_among [] = []
 logged_among (Logged m ∷ older) = logged_among older ++ m ∷ []
@@ -86,7 +86,7 @@ abbrev pub left_by : Title → Entry → ℕ → ℕ
 left_by t (Counted u step found value) before = if same_title u t then content_by step value before else before
 left_by t other before = before
 
--- the title's content word `place` after the steps; 0 at first
+-- the title's content word `place` after the steps, 0 at first
 abbrev pub content_in : Title → ℕ → List OneStep → ℕ
 content_in t place [] = 0
 content_in t place (Logged m ∷ older) = left_by t m.entry (content_in t place older)
@@ -110,8 +110,8 @@ IsAlone r t [] = Unit {0}
 IsAlone r t (Logged m ∷ older) = (spoiled t (Logged m ∷ older) ≡ 0) ⊎ ((m.stake ≡ r → ⊥) × IsAlone r t older)
 IsAlone r t (Spoiled u place ∷ older) = IsAlone r t older
 
--- What the steps before a counted step with stake r are. An issue and a write have no poisoning before them that no free
--- followed; and a free has those of all content words, and with its stake nothing was logged since the first of them.
+-- What the steps before a counted step with stake r are. An issue or a write has no poisoning before it that no free followed. A free
+-- has those of all content words before it, and its stake logged nothing since the first of them.
 abbrev pub IsCountInPlace : Step → ℕ → Title → List OneStep → Type 0
 IsCountInPlace Issue r t older = spoiled t older ≡ 0
 IsCountInPlace Copy r t older = Unit {0}
@@ -141,8 +141,8 @@ abbrev pub AreInPlace : List OneStep → Type 0
 AreInPlace [] = Unit {0}
 AreInPlace (m ∷ older) = IsInPlace m older × AreInPlace older
 
--- What a view with every stake knows: all its logs, and the lists as it has seen them, are of one order. With the poisonings
--- each step is in place after those before it; and each poisoning has a free after it, but of an Own that the view has poisoned.
+-- What a view with every stake knows: all its logs, and the lists as it has seen them, are of one order. With the poisonings each
+-- step is in place after those before it. Each poisoning has a free after it, but of an Own that the view has poisoned.
 pub record HasOneOrder (v : View) : Type 0 where
   pub all : List Stamped
   pub ordered : InOneOrder all (λ k. list_of k v) (v ∷ [])

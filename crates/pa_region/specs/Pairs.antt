@@ -23,7 +23,7 @@ abbrev pub weight_after : (Entry → Entry → ℕ) → Option Entry → Entry �
 weight_after weight None e = 0
 weight_after weight (Some a) e = weight a e
 
--- the sum over the pairs in the logs of a view's stakes, and of all views
+-- the sum over the pairs of consecutive entries in the logs of a view's stakes
 abbrev pub paired_of : View → (Entry → Entry → ℕ) → ℕ
 paired_of v weight = sum_by (λ (s : Stake). pairs weight s.log) v.stakes
 
@@ -35,7 +35,7 @@ paired_in views weight = sum_by (λ v. paired_of v weight) views
 abbrev pub amount_by : ℕ → (List Entry → ℕ) → Stake → ℕ
 amount_by r amount s = if s.number == r then amount s.log else 0
 
--- the pairs in the logs of a view's stakes of number r, and of all views
+-- the sum over the pairs of consecutive entries in the logs of a view's stakes of number r
 abbrev pub paired_of_by : View → ℕ → (Entry → Entry → ℕ) → ℕ
 paired_of_by v r weight = sum_by (amount_by r (pairs weight)) v.stakes
 
@@ -43,7 +43,7 @@ paired_of_by v r weight = sum_by (amount_by r (pairs weight)) v.stakes
 abbrev pub paired_by : List View → ℕ → (Entry → Entry → ℕ) → ℕ
 paired_by views r weight = sum_by (λ v. paired_of_by v r weight) views
 
--- the entries in the logs of a view's stakes of number r, and of all views
+-- the sum over the entries in the logs of a view's stakes of number r
 abbrev pub logged_of_by : View → ℕ → (Entry → ℕ) → ℕ
 logged_of_by v r weight = sum_by (amount_by r (sum_by weight)) v.stakes
 

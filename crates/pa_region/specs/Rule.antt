@@ -2,10 +2,10 @@
 use Rattle.std.specs.Prelude.{◌≡◌, ℕ, ◌+◌, ◌<◌, ◌≤◌, List, length, nat_lt, slice_index}
 use mathlib.Core.Option.{some}
 use lib.ListN.{get_elem?}
-use Rattle.pa_machine.specs.declared.title.Title.{Title}
-use Rattle.pa_machine.specs.Count.{number_of, refs_of}
-use Rattle.pa_machine.specs.Titles.{Covers, IsWellFormed, count_word}
-use Rattle.pa_machine.specs.Holdings.{Thing, one, IsTitleHeld}
+use Rattle.pa_slot.specs.declared.title.Title.{Title}
+use Rattle.pa_slot.specs.Count.{number_of, refs_of}
+use Rattle.pa_slot.specs.Titles.{Covers, IsWellFormed, count_word}
+use Rattle.pa_slot.specs.Holdings.{Thing, one, IsTitleHeld}
 use Rattle.pa_machine.specs.Good.{IsGood}
 use Rattle.pa_machine.specs.Events.{total_of}
 use Rattle.pa_machine.specs.Trail.{KeepsContent}
@@ -22,9 +22,9 @@ use Rattle.pa_region.specs.Totals.{Totals}
 use Rattle.pa_region.specs.Order.{Stamped, OneStep, InOneOrder}
 use Rattle.pa_region.specs.Filled.{Filled}
 
--- The first part: the core that is shown is good. If a view knows that a title has no Ref
--- left, its count is 0. The steps that may still be made and those that were made are at most 65,536, also with
--- the number of any one held title; and a count isn't above its number.
+-- The first part: the core that is shown is good. If a view knows that a title has no Ref left, its count is 0. The steps that may
+-- still be made are at most 65,536 together with those that were made, and also together with the number of any one held title. The
+-- count of a held title isn't above its number.
 pub record Holders (words : List ℕ) (total : Thing → ℕ) (idle : Title → ℕ) (budget steps : ℕ) : Type 0 where
   pub good : IsGood words total
   pub known : (t : Title) → 0 < idle t → refs_of (count_word words t) ≡ 0
@@ -45,8 +45,8 @@ pub record Reservations (total : Thing → ℕ) (low : ℕ → ℕ → ℕ) (nam
   pub later : (t u : Title) (b : ℕ) → 0 < named t → IsTitleHeld total u → (t ≡ u → ⊥) → Covers t b → Covers u b → t.born < u.born
   pub gone : (t : Title) → 0 < uncut t → IsTitleHeld total t → ⊥
 
--- The second part also says that titles which logs name are well formed, in a region of this many words; that two of them
--- with one start and one `born` are the same; and that such a title is held unless a log says that it was uncut.
+-- The second part also says that titles which logs name are well formed, in a region of this many words. Two of them with one start
+-- and one `born` are the same. Such a title is held unless a log says that it was uncut.
 pub record Named (words : ℕ) (total : Thing → ℕ) (named uncut : Title → ℕ) : Type 0 where
   pub well : (t : Title) → 0 < named t → IsWellFormed words t
   pub one_name : (t u : Title) → 0 < named t → 0 < named u → t.start ≡ u.start → t.born ≡ u.born → t ≡ u
@@ -65,10 +65,9 @@ pub record Seen (logs : (Entry → ℕ) → ℕ) (ahead : Title → ℕ → ℕ)
   pub numbers : (t : Title) → ahead t (logs (counted_on t)) ≡ 0
   pub own_logs : unseen ≡ 0
 
--- The rule, in eight parts, each over what it reads. Each title has a history, each keeper a list, and all that was logged
--- an order. The third part also says that the content of each clean Own is that of its title's history, and the rest of an
--- Own that is being poisoned while there are Refs; and what reads gave. And what a view's own list says was uncut, some log
--- says too.
+-- The rule, in eight parts, each over what it reads. Each title has a history, each keeper a list, and all that was logged an order.
+-- The third part also says what reads gave, and that the content of each clean Own is that of its title's history, and the rest of an
+-- Own that is being poisoned too while there are Refs. What a view's own list says was uncut, some log says too.
 pub record IsKept (words : List ℕ) (views : List View) : Type 0 where
   pub history : Title → List Done
   pub list : ℕ → List Made

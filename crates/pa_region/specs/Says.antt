@@ -2,11 +2,11 @@
 use Rattle.std.specs.Prelude.{◌≡◌, ℕ, ◌+◌, ◌/◌, ◌%◌, ◌<◌, ◌≤◌, List, [], ◌∷◌, ◌++◌, slice_index, slice_set, length, replicate}
 use mathlib.Core.Option.{some}
 use lib.ListN.{get_elem?}
-use Rattle.pa_machine.specs.declared.title.Title.{Title}
-use Rattle.pa_machine.specs.declared.word.Step.{Step}
-use Rattle.pa_machine.specs.Count.{CanStep, stepped, number_of}
-use Rattle.pa_machine.specs.Titles.{IsWellFormed, count_place, count_word, content_count, content_place, content_at, poison}
-use Rattle.pa_machine.specs.Holdings.{IsTitleHeld}
+use Rattle.pa_slot.specs.declared.title.Title.{Title}
+use Rattle.pa_slot.specs.declared.word.Step.{Step}
+use Rattle.pa_slot.specs.Count.{CanStep, stepped, number_of}
+use Rattle.pa_slot.specs.Titles.{IsWellFormed, count_place, count_word, content_count, content_place, content_at, poison}
+use Rattle.pa_slot.specs.Holdings.{IsTitleHeld}
 use Rattle.pa_machine.specs.declared.event.Event.{Event}
 use Rattle.pa_machine.specs.declared.event.Event.TheVariants.{Count, Store, Poison, Load, Cut, Uncut}
 use Rattle.pa_machine.specs.Events.{total_of, IsEnabled, Happens}
@@ -28,8 +28,8 @@ use Rattle.pa_region.specs.Totals.{owes_as, added_as, total_place, after_add, Ca
 abbrev pub word_shown : List ℕ → Title → ℕ
 word_shown words t = count_word (byte_words words) t
 
--- A counted step by any one seat keeps the rule: it is enabled at the word that it finds, which is one that its view
--- could find; it changes this word and this view alone.
+-- A counted step by any one seat keeps the rule. It is enabled at the word that it finds, which is one that its view could find, and
+-- it changes this word and this view alone.
 abbrev pub CountKeeps : Type 0
 CountKeeps =
     (step : Step) (t : Title) (words : List ℕ) (views : List View) (i : ℕ) (v : View) →
@@ -51,7 +51,7 @@ CountIsEvent =
     IsEventOf (Count i t step) words views
     (slice_set words (count_place t) (stepped step (word_shown words t))) (slice_set views i (after_count step t (word_shown words t) v))
 
--- a look keeps the rule too, and changes this view alone
+-- a look by any one seat keeps the rule, and changes the view of this seat alone
 abbrev pub LookKeeps : Type 0
 LookKeeps =
     (t : Title) (words : List ℕ) (views : List View) (i : ℕ) (v : View) →
@@ -73,7 +73,7 @@ StoreKeeps =
     IsEventOf (Store i at_byte value) words views (slice_set words (at_byte / 8) value) (slice_set views i (after_store at_byte value v)) ×
     IsKept (slice_set words (at_byte / 8) value) (slice_set views i (after_store at_byte value v))
 
--- the poisoning of the next content word does so too
+-- the poisoning of the next content word by view number i is a poisoning by the core's actor i, and keeps the rule
 abbrev pub PoisonKeeps : Type 0
 PoisonKeeps =
     (t : Title) (j : ℕ) (words : List ℕ) (views : List View) (i : ℕ) (v : View) →
@@ -126,22 +126,22 @@ HandKeeps =
     (p : Parcel) (words : List ℕ) (views : List View) (i : ℕ) (v : View) → IsKept words views → get_elem? views i ≡ some v → CanHand p v →
     IsParted v (left_after p v) (given_after p v) × IsKept words (slice_set views i (left_after p v) ++ given_after p v ∷ [])
 
--- a join of any two seats keeps it: one has all that both had, and the other is left with nothing
+-- a join of any two seats keeps the rule: one has all that both had, and the other is left with nothing
 abbrev pub JoinKeeps : Type 0
 JoinKeeps =
     (words : List ℕ) (views : List View) (i j : ℕ) (v w : View) →
     IsKept words views → get_elem? views i ≡ some v → get_elem? views j ≡ some w → (j ≡ i → ⊥) → CanTake v w →
     IsParted (united v w) v w × IsKept words (slice_set (slice_set views i (united v w)) j (spent_of w))
 
--- an entry in a keeper's list by any one seat that has the keeper and a stake keeps it
+-- an entry in a keeper's list by any one seat that has the keeper and a stake keeps the rule
 abbrev pub EnterKeeps : Type 0
 EnterKeeps =
     (k : ℕ) (numbers : List ℕ) (words : List ℕ) (views : List View) (i : ℕ) (v : View) → IsKept words views → get_elem? views i ≡ some v →
     CanEnter k v →
     IsKept words (slice_set views i (after_enter k numbers v))
 
--- An addition to a totals word by any one seat whose stake owes as much keeps it. The word is then the sum, which fits 64
--- bits, and no other word changes.
+-- An addition to a totals word by any one seat that has a stake which owes as much keeps the rule. The word is then the sum, which
+-- fits 64 bits, and no other word changes.
 abbrev pub AddKeeps : Type 0
 AddKeeps =
     (k bytes : ℕ) (words : List ℕ) (views : List View) (i : ℕ) (v : View) → IsKept words views → get_elem? views i ≡ some v →
@@ -158,8 +158,8 @@ KindsAreOwed =
     + slice_index words (total_place words (8 + q)) + slice_index words (total_place words (12 + q)) ≡ logged_in views (added_as q)) ×
     (logged_in views (added_as q) ≤ logged_in views (owes_as q))
 
--- a cut by view number i, of a title with a count word that it knows to be 0, is a cut by the core's actor i, and keeps the
--- rule; no view has seen a step on the title
+-- A cut by view number i, of a title with a count word that it knows to be 0, is a cut by the core's actor i, and keeps the rule. The
+-- view has seen no step on the title.
 abbrev pub CutKeeps : Type 0
 CutKeeps =
     (t : Title) (words : List ℕ) (views : List View) (i : ℕ) (v : View) →
@@ -173,8 +173,8 @@ UncutKeeps =
     (t : Title) (words : List ℕ) (views : List View) (i : ℕ) (v : View) → IsKept words views → get_elem? views i ≡ some v → CanUncut t v →
     IsEventOf (Uncut i t) words views words (slice_set views i (after_uncut t v)) × IsKept words (slice_set views i (after_uncut t v))
 
--- Under the rule each title that some log names is well formed; two of them with one start and one `born` are the same; and one
--- that no log says was uncut is held.
+-- Under the rule each title that some log names is well formed. Two of them with one start and one `born` are the same, and one that
+-- no log says was uncut is held.
 abbrev pub NamedAreOne : Type 0
 NamedAreOne =
     (words : List ℕ) (views : List View) (t : Title) → IsKept words views → 0 < logged_in views (names t) →

@@ -2,12 +2,12 @@
 use Rattle.std.specs.Prelude.{◌≡◌, ℕ, ◌+◌, ◌-◌, ◌*◌, ◌<◌, ◌≤◌, length}
 use Rattle.atomic_table.specs.Table.{Me}
 use Rattle.atomic_table.specs.Seated.{TableId}
-use Rattle.pa_machine.specs.declared.title.Title.{Title}
-use Rattle.pa_machine.specs.declared.word.Step.{Step}
-use Rattle.pa_machine.specs.declared.word.Step.TheVariants.{Issue, Copy, Reset, Free, Write}
-use Rattle.pa_machine.specs.Count.{CanStep}
-use Rattle.pa_machine.specs.Titles.{IsWellFormed, count_place}
-use Rattle.pa_machine.specs.Holdings.{RawByte}
+use Rattle.pa_slot.specs.declared.title.Title.{Title}
+use Rattle.pa_slot.specs.declared.word.Step.{Step}
+use Rattle.pa_slot.specs.declared.word.Step.TheVariants.{Issue, Copy, Reset, Free, Write}
+use Rattle.pa_slot.specs.Count.{CanStep}
+use Rattle.pa_slot.specs.Titles.{IsWellFormed, count_place}
+use Rattle.pa_slot.specs.Holdings.{RawByte}
 use Rattle.pa_layout.specs.Limits.{most_words}
 use Rattle.pa_region.specs.declared.view.View.{View}
 use Rattle.pa_region.specs.Views.{held_of_view, own_of, ref_of, HasTitle}
@@ -22,8 +22,8 @@ pub record Share : Type 0 where
 abbrev pub byte_word_count : TableId → ℕ
 byte_word_count region = region.words - 16
 
--- What a seat's type keeps: the region has at most 16 super pages; each title and each raw byte that the view holds lies
--- in it; and the view's list of words is as long as the region's.
+-- What a seat's type keeps. The region has at most 16 super pages. Each title and each raw byte that the view holds lies in it. The
+-- view's list of words is as long as the region's.
 pub record IsSeatSound (region : TableId) (v : View) : Type 0 where
   pub small : byte_word_count region ≤ most_words
   pub well : (t : Title) → HasTitle v t → IsWellFormed (byte_word_count region) t
@@ -51,8 +51,8 @@ IsUser t v = 0 < own_of v t + ref_of v t
 abbrev pub count_offset : Title → ℕ
 count_offset t = 8 * count_place t
 
--- A counted step was made and found this word: the seat is of the same region, its view is the one after the step,
--- the step was enabled at the word, and the word is one that the view could find.
+-- A counted step was made and found this word. The seat is of the same region, and its view is the one after the step. The step was
+-- enabled at the word, which is one that the view could find.
 pub record IsStepMade (step : Step) (t : Title) (word : ℕ) (before after : Share) : Type 0 where
   pub region : after.region ≡ before.region
   pub view : after.view ≡ after_count step t word before.view

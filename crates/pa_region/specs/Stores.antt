@@ -1,10 +1,10 @@
 -- How a store and a poisoning change the stepping seat's view, and what they require of it.
 use Rattle.std.specs.Prelude.{◌≡◌, ℕ, zero, suc, ◌+◌, ◌/◌, ◌%◌, ◌<◌, ◌≤◌, ◌⊎◌, Bool, ◌==◌, ◌&&◌, nat_lt, nat_le, true, slice_set}
 use Rattle.std.specs.List.{sum_by}
-use Rattle.pa_machine.specs.declared.title.Title.{Title}
-use Rattle.pa_machine.specs.declared.title.OwnState.TheVariants.{Clean, Dirty, Poisoned}
-use Rattle.pa_machine.specs.Titles.{same_title, content_count, content_place, IsContentOf, poison, progress}
-use Rattle.pa_machine.specs.Holdings.{RawByte, one}
+use Rattle.pa_slot.specs.declared.title.Title.{Title}
+use Rattle.pa_slot.specs.declared.title.OwnState.TheVariants.{Clean, Dirty, Poisoned}
+use Rattle.pa_slot.specs.Titles.{same_title, content_count, content_place, IsContentOf, poison, progress}
+use Rattle.pa_slot.specs.Holdings.{RawByte, one}
 use Rattle.pa_region.specs.declared.view.OwnTitle.{OwnTitle}
 use Rattle.pa_region.specs.declared.view.View.{View}
 use Rattle.pa_region.specs.Views.{held_of_view, free_of, own_of, own_as, idle_of, HasStake}
@@ -19,7 +19,7 @@ has_content_at at_byte o = nat_le o.title.start at_byte && nat_lt (at_byte + 8) 
 abbrev pub dirty : OwnTitle → OwnTitle
 dirty o = record o { state = Dirty }
 
--- the view after a store of the value at the byte offset: it knows the word, and the Own with this content, if any, is dirty
+-- The view after a store of the value at the byte offset. It has the value there, and the Own with this content, if any, is dirty.
 abbrev pub after_store : ℕ → ℕ → View → View
 after_store at_byte value v = record v {
   words = slice_set v.words (at_byte / 8) value;
@@ -27,8 +27,7 @@ after_store at_byte value v = record v {
   since = record v.since { stored = true };
 }
 
--- the view holds the eight bytes as raw; the word is a content word of a title that it holds free; it is a content word of its
--- clean or dirty Own, it is known that no Ref of that title is left, and the view has a stake
+-- the view holds the eight bytes from the offset on as raw
 abbrev pub HasRawWord : View → ℕ → Type 0
 HasRawWord v at_byte = (b : ℕ) → at_byte ≤ b → b < at_byte + 8 → 0 < held_of_view v (RawByte b)
 
@@ -44,8 +43,8 @@ HasIdleContent v at_byte = (t : Title) × (0 < idle_of v t) × (0 < own_as v t C
 abbrev pub CanStore : ℕ → View → Type 0
 CanStore at_byte v = (at_byte % 8 ≡ 0) × (HasRawWord v at_byte ⊎ (HasFreeContent v at_byte ⊎ HasIdleContent v at_byte))
 
--- How a store changes the view's Owns. A raw word, and the content of a free title, are no Own's content; if the word
--- is a content word of an Own, this Own is dirty then, and no other changes.
+-- How a store changes the view's Owns. A store to a raw word or to the content of a free title changes none. A store to a content
+-- word of an Own makes this Own dirty, and changes no other.
 pub record StoreTells (at_byte : ℕ) (v after : View) : Type 0 where
   pub plain : HasRawWord v at_byte ⊎ HasFreeContent v at_byte → after.owns ≡ v.owns
   pub own : (t : Title) → 0 < own_of v t → IsContentOf t at_byte → after.owns ≡ changed (is_own_of t) dirty v.owns
@@ -62,7 +61,7 @@ after_poison t j v = record v {
   since = record v.since { poisoned = true };
 }
 
--- how many times a view has the title's Own with this many words poisoned; a clean or a dirty one has 0
+-- How many times a view has the title's Own with this many words poisoned. A clean or a dirty Own has 0 words poisoned.
 abbrev pub own_to : View → Title → ℕ → ℕ
 own_to v t j = sum_by (λ (o : OwnTitle). one (same_title o.title t && (progress o.state == j))) v.owns
 

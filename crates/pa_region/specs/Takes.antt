@@ -1,7 +1,7 @@
 -- How a take changes a view: laws of two views that are put together.
 use Rattle.std.specs.Prelude.{◌≡◌, ℕ, ◌<◌, ◌≤◌, ◌⊎◌, List, length, max, slice_index}
-use Rattle.pa_machine.specs.declared.title.Title.{Title}
-use Rattle.pa_machine.specs.Titles.{IsWellFormed}
+use Rattle.pa_slot.specs.declared.title.Title.{Title}
+use Rattle.pa_slot.specs.Titles.{IsWellFormed}
 use Rattle.pa_region.specs.declared.view.Entry.{Entry}
 use Rattle.pa_region.specs.declared.view.Made.{Made}
 use Rattle.pa_region.specs.declared.view.View.{View}
@@ -25,17 +25,17 @@ pub record IsLongest (whole a b : List Made) : Type 0 where
 abbrev pub SeenJoins : Type 0
 SeenJoins = (v w : View) (t : Title) → seen_of (united v w) t ≡ max (seen_of v t) (seen_of w t)
 
--- and the longer beginning of each keeper's list
+-- two views together have seen the longer beginning of each keeper's list
 abbrev pub ListsJoin : Type 0
 ListsJoin = (v w : View) (k : ℕ) → IsLongest (list_of k (united v w)) (list_of k v) (list_of k w)
 
--- what each has seen of a list is a beginning of what both have
+-- what each of two views has seen of a list is a beginning of what both together have
 abbrev pub BeginningsJoin : Type 0
 BeginningsJoin =
     (v w : View) (k : ℕ) → IsAware (united v w) →
     IsBeginning (list_of k v) (list_of k (united v w)) × IsBeginning (list_of k w) (list_of k (united v w))
 
--- of two beginnings of one list the shorter is a beginning of the longer; and one that is as long as the list is the list
+-- Of two beginnings of one list the shorter is a beginning of the longer. A beginning that is as long as the list is the list.
 abbrev pub BeginningsAreOrdered : Type 0
 BeginningsAreOrdered =
     ((a b l : List Made) → IsBeginning a l → IsBeginning b l → length a ≤ length b → IsBeginning a b) ×
@@ -47,7 +47,7 @@ KeepersHaveAll =
     (v w : View) (k : ℕ) → IsAware v → IsAware w → IsAware (united v w) →
     (0 < keeper_of v k → list_of k (united v w) ≡ list_of k v) × (0 < keeper_of w k → list_of k (united v w) ≡ list_of k w)
 
--- each word that one of two views knows, both together know; their lists of words are equally long
+-- if the lists of words of two views are equally long, both together have each word that one of them knows
 abbrev pub KnownWordsJoin : Type 0
 KnownWordsJoin =
     (v w : View) (q : ℕ) → IsAware (united v w) → length v.words ≡ length w.words →

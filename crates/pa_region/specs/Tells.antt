@@ -4,10 +4,10 @@ use Rattle.std.specs.Prelude.{◌≡◌, ℕ, ◌+◌, ◌<◌, ◌≤◌, List,
 use Rattle.std.specs.List.{sum_by}
 use mathlib.Core.Option.{some}
 use lib.ListN.{get_elem?}
-use Rattle.pa_machine.specs.declared.title.Title.{Title}
-use Rattle.pa_machine.specs.declared.word.Step.{Step}
-use Rattle.pa_machine.specs.declared.word.Step.TheVariants.{Free}
-use Rattle.pa_machine.specs.Count.{number_of}
+use Rattle.pa_slot.specs.declared.title.Title.{Title}
+use Rattle.pa_slot.specs.declared.word.Step.{Step}
+use Rattle.pa_slot.specs.declared.word.Step.TheVariants.{Free}
+use Rattle.pa_slot.specs.Count.{number_of}
 use Rattle.pa_region.specs.declared.view.Entry.{Entry}
 use Rattle.pa_region.specs.declared.view.Stake.{Stake}
 use Rattle.pa_region.specs.declared.view.View.{View}
@@ -27,11 +27,11 @@ LookFindsItsWord =
     (logs : (Entry → ℕ) → ℕ) (t : Title) (history : List Done) (word : ℕ) → IsChained logs t history → 0 < logs (looked_at t word) →
     (number_of word ≤ length history) × (word_at_number (number_of word) history ≡ word)
 
--- these logs add up: if two weights of each entry are together within a third, so are their sums over all entries
+-- The logs add up: if two weights of each entry are together within a third, so are their sums over all entries.
 abbrev pub AddsUp : ((Entry → ℕ) → ℕ) → Type 0
 AddsUp logs = (f g h : Entry → ℕ) → ((e : Entry) → f e + g e ≤ h e) → logs f + logs g ≤ logs h
 
--- the logs of a view do
+-- the logs of a view add up
 abbrev pub LogsAddUp : Type 0
 LogsAddUp = (v : View) → AddsUp (logged_of v)
 
@@ -43,7 +43,7 @@ StepStandsAtItsNumber =
     (number_of word < length history) × (word_at_number (number_of word) history ≡ word) ×
     (up_to (number_of word + 1) history ≡ record { step = step; value = value } ∷ up_to (number_of word) history)
 
--- if logs grew, the history goes on from what it was; so logs have one history
+-- If logs grew, the history goes on from what it was. So logs have one history.
 abbrev pub HistoryGoesOn : Type 0
 HistoryGoesOn =
     (logs after : (Entry → ℕ) → ℕ) (t : Title) (older newer : List Done) → AddsUp after →
@@ -66,13 +66,13 @@ AllLogsAreKnown =
     (words : List ℕ) (views : List View) (i : ℕ) (v : View) → IsKept words views → get_elem? views i ≡ some v → HasEveryStake v →
     HasAllLogs v
 
--- and its logs, with the lists as it has seen them, are of one order
+-- under the rule a view that has every stake has one order of its logs, with the lists as it has seen them
 abbrev pub OneOrderIsKnown : Type 0
 OneOrderIsKnown =
     (words : List ℕ) (views : List View) (i : ℕ) (v : View) → IsKept words views → get_elem? views i ≡ some v → HasEveryStake v →
     HasOneOrder v
 
--- it knows the reads by their places in the logs
+-- if the reads in a view's logs gave what they should, each read gave so at its place in its log
 abbrev pub ReadsHavePlaces : Type 0
 ReadsHavePlaces = (history : Title → List Done) (v : View) → HasReads history v → AreReadsRight history v
 

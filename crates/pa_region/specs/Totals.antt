@@ -1,9 +1,9 @@
--- The totals words: to which kind of steps each belongs, what was added to it, and what stakes owe to the words of a kind.
--- The kinds are issued 0, freed 1, entered the quarantine 2 and left it 3; the word of number 4 p + q is of kind q.
+-- The totals words: to which kind of steps each belongs, what was added to it, and what stakes owe to the words of a kind. The kinds
+-- are issued 0, freed 1, entered the quarantine 2 and left it 3. The word of number 4 p + q is of kind q.
 use Rattle.std.specs.Prelude.{◌≡◌, ℕ, ◌+◌, ◌-◌, ◌*◌, ◌%◌, ◌<◌, ◌≤◌, List, Bool, ◌==◌, ◌&&◌, nat_lt, length, slice_index, if◌then◌else◌}
 use Rattle.std.specs.List.{sum_by}
-use Rattle.pa_machine.specs.declared.word.Step.{Step}
-use Rattle.pa_machine.specs.Kinds.{issues, frees, enters, leaves}
+use Rattle.pa_slot.specs.declared.word.Step.{Step}
+use Rattle.pa_slot.specs.Kinds.{issues, frees, enters, leaves}
 use Rattle.pa_region.specs.declared.view.Entry.{Entry}
 use Rattle.pa_region.specs.declared.view.Entry.TheVariants.{Counted, Added}
 use Rattle.pa_region.specs.declared.view.View.{View}
@@ -18,17 +18,17 @@ is_of_kind q step found =
     then issues step found
     else (if q == 1 then frees step found else (if q == 2 then enters step found else (q == 3) && leaves step found))
 
--- Weights of entries. A counted step of kind q: the bytes of its title.
+-- the weight of an entry by what it owes: for a counted step of kind q the bytes of its title, else 0
 abbrev pub owes_as : ℕ → Entry → ℕ
 owes_as q (Counted t step found value) = if is_of_kind q step found then t.len else 0
 owes_as q other = 0
 
--- an addition to a word of kind q: the bytes that were added
+-- the bytes that an entry added to a word of kind q, 0 if it added none
 abbrev pub added_as : ℕ → Entry → ℕ
 added_as q (Added word bytes) = if nat_lt word 16 && (word % 4 == q) then bytes else 0
 added_as q other = 0
 
--- an addition to word number k
+-- the bytes that an entry added to word number k, 0 if it added none
 abbrev pub added_to : ℕ → Entry → ℕ
 added_to k (Added word bytes) = if word == k then bytes else 0
 added_to k other = 0
@@ -37,9 +37,9 @@ added_to k other = 0
 abbrev pub total_place : List ℕ → ℕ → ℕ
 total_place words k = (length words - 16) + k
 
--- The sixth part of the rule. There are 16 totals words. Each is the sum of the additions to it in all logs; what the
--- logs of one stake number owe to the words of a kind is never below 0; and the region is so small that no sum passes
--- 2^25 bytes for each counted step.
+-- The sixth part of the rule. There are 16 totals words. Each is the sum of the additions to it in all logs. What the logs of one
+-- stake number owe to the words of a kind is never below what they added. The region is so small that no sum passes 2^25 bytes for
+-- each counted step.
 pub record Totals (words : List ℕ) (logs : (Entry → ℕ) → ℕ) (logs_by : ℕ → (Entry → ℕ) → ℕ) : Type 0 where
   pub wide : 16 ≤ length words
   pub small : length words ≤ 4194320

@@ -1,13 +1,13 @@
 -- What a view holds and knows, counted so that the amounts of several views can be added up.
 use Rattle.std.specs.Prelude.{ℕ, ◌+◌, ◌-◌, ◌*◌, ◌<◌, ◌⊎◌, List, [], ◌∷◌, ◌++◌, ◌==◌, ◌&&◌, nat_lt, nat_le, length, take, map, min, max, if◌then◌else◌}
 use Rattle.std.specs.List.{sum_by}
-use Rattle.pa_machine.specs.declared.title.Title.{Title}
-use Rattle.pa_machine.specs.declared.title.OwnState.{OwnState}
-use Rattle.pa_machine.specs.declared.word.Step.{Step}
-use Rattle.pa_machine.specs.declared.word.Step.TheVariants.{Issue, Copy, Reset, Free, Write}
-use Rattle.pa_machine.specs.Count.{number_of}
-use Rattle.pa_machine.specs.Titles.{same_title, same_state, Covers, IsContentOf}
-use Rattle.pa_machine.specs.Holdings.{Piece, RawPiece, FreePiece, OwnPiece, RefPiece, Thing, RawByte, one, held_in}
+use Rattle.pa_slot.specs.declared.title.Title.{Title}
+use Rattle.pa_slot.specs.declared.title.OwnState.{OwnState}
+use Rattle.pa_slot.specs.declared.word.Step.{Step}
+use Rattle.pa_slot.specs.declared.word.Step.TheVariants.{Issue, Copy, Reset, Free, Write}
+use Rattle.pa_slot.specs.Count.{number_of}
+use Rattle.pa_slot.specs.Titles.{same_title, same_state, Covers, IsContentOf}
+use Rattle.pa_slot.specs.Holdings.{Piece, RawPiece, FreePiece, OwnPiece, RefPiece, Thing, RawByte, one, held_in}
 use Rattle.pa_machine.specs.Events.{State}
 use Rattle.pa_region.specs.declared.view.RawRange.{RawRange}
 use Rattle.pa_region.specs.declared.view.OwnTitle.{OwnTitle}
@@ -33,19 +33,19 @@ pieces_of v = map raw_piece v.raws ++ (map FreePiece v.frees ++ (map own_piece v
 abbrev pub held_of_view : View → Thing → ℕ
 held_of_view v x = held_in (pieces_of v) x
 
--- how many times a title is among a view's free titles, its Owns and its Refs
+-- how many times a title is among a view's free titles
 abbrev pub free_of : View → Title → ℕ
 free_of v t = sum_by (λ u. one (same_title u t)) v.frees
 
--- among its Owns
+-- how many times a title is among a view's Owns
 abbrev pub own_of : View → Title → ℕ
 own_of v t = sum_by (λ (o : OwnTitle). one (same_title o.title t)) v.owns
 
--- among its Owns in this state
+-- how many times a title is among a view's Owns in this state
 abbrev pub own_as : View → Title → OwnState → ℕ
 own_as v t state = sum_by (λ (o : OwnTitle). one (same_title o.title t && same_state o.state state)) v.owns
 
--- among its Refs
+-- how many times a title is among a view's Refs
 abbrev pub ref_of : View → Title → ℕ
 ref_of v t = sum_by (λ u. one (same_title u t)) v.refs
 
@@ -72,7 +72,7 @@ Knows v word =
 abbrev pub idle_of : View → Title → ℕ
 idle_of v t = sum_by (λ (o : OwnTitle). one (same_title o.title t && o.idle)) v.owns
 
--- how many times all views together have it so
+-- how many times all views together have the title's Own with the knowledge that no Ref of it is left
 abbrev pub idle_in : List View → Title → ℕ
 idle_in views t = sum_by (λ v. idle_of v t) views
 
@@ -84,7 +84,7 @@ budget_in views = sum_by (λ (v : View). v.budget) views
 abbrev pub low_of : View → ℕ → ℕ → ℕ
 low_of v b n = sum_by (λ (r : RawRange). one ((nat_le r.start b && nat_lt b (r.start + r.len)) && nat_le r.floor n)) v.raws
 
--- how many of all views' raw ranges do
+-- how many of all views' raw ranges have the byte b with a floor of at most n
 abbrev pub low_in : List View → ℕ → ℕ → ℕ
 low_in views b n = sum_by (λ v. low_of v b n) views
 
@@ -92,7 +92,7 @@ low_in views b n = sum_by (λ v. low_of v b n) views
 abbrev pub stake_of : View → ℕ → ℕ
 stake_of v k = sum_by (λ (s : Stake). one (s.number == k)) v.stakes
 
--- how many times all views together have it
+-- how many times all views together have stake number k
 abbrev pub stakes_in : List View → ℕ → ℕ
 stakes_in views k = sum_by (λ v. stake_of v k) views
 
@@ -112,33 +112,33 @@ step_number Reset = 2
 step_number Free = 3
 step_number Write = 4
 
--- Weights of entries, each 1 or 0: the entry is a counted step.
+-- the weight 1 for an entry that is a counted step, else 0
 abbrev pub counted : Entry → ℕ
 counted (Counted u step found value) = 1
 counted other = 0
 
--- a counted step on this title
+-- the weight 1 for a counted step on this title, else 0
 abbrev pub counted_on : Title → Entry → ℕ
 counted_on t (Counted u step found value) = one (same_title u t)
 counted_on t other = 0
 
--- a counted step on it that found this number
+-- the weight 1 for a counted step on this title that found this number, else 0
 abbrev pub counted_at : Title → ℕ → Entry → ℕ
 counted_at t number (Counted u step found value) = one (same_title u t && (number_of found == number))
 counted_at t number other = 0
 
--- this step on it, which found this word, with this value
+-- the weight 1 for this step on this title, which found this word, with this value, else 0
 abbrev pub counted_as : Title → Step → ℕ → ℕ → Entry → ℕ
 counted_as t step word value (Counted u p found written) =
     one (same_title u t && ((step_number p == step_number step) && ((found == word) && (written == value))))
 counted_as t step word value other = 0
 
--- a look at this title that found this word
+-- the weight 1 for a look at this title that found this word, else 0
 abbrev pub looked_at : Title → ℕ → Entry → ℕ
 looked_at t word (Looked u found) = one (same_title u t && (found == word))
 looked_at t word other = 0
 
--- the entry names this title
+-- the weight 1 for an entry that names this title, else 0
 abbrev pub names : Title → Entry → ℕ
 names t (Counted u step found value) = one (same_title u t)
 names t (Looked u found) = one (same_title u t)
@@ -146,16 +146,16 @@ names t (Read u place value since owned unclean) = one (same_title u t)
 names t (Uncut u) = one (same_title u t)
 names t other = 0
 
--- it says that this title was uncut
+-- the weight 1 for an entry which says that this title was uncut, else 0
 abbrev pub uncuts : Title → Entry → ℕ
 uncuts t (Uncut u) = one (same_title u t)
 uncuts t other = 0
 
--- how many times a view's logs say so
+-- how many times a view's logs say that this title was uncut
 abbrev pub uncut_of : View → Title → ℕ
 uncut_of v t = logged_of v (uncuts t)
 
--- how many times all logs say so
+-- how many times all logs say that this title was uncut
 abbrev pub uncut_in : List View → Title → ℕ
 uncut_in views t = logged_in views (uncuts t)
 
@@ -163,7 +163,7 @@ uncut_in views t = logged_in views (uncuts t)
 abbrev pub undone_of : View → Title → ℕ
 undone_of v t = sum_by (λ u. one (same_title u t)) v.uncut
 
--- how many times it is in the lists of all views
+-- how many times a title is in the lists of those that all views uncut
 abbrev pub undone_in : List View → Title → ℕ
 undone_in views t = sum_by (λ v. undone_of v t) views
 
@@ -172,7 +172,7 @@ abbrev pub seen_among : Title → List SeenNumber → ℕ
 seen_among t [] = 0
 seen_among t (s ∷ ss) = if same_title s.title t then max s.number (seen_among t ss) else seen_among t ss
 
--- the greatest number that a view has seen
+-- the greatest number of the title that a view has seen
 abbrev pub seen_of : View → Title → ℕ
 seen_of v t = seen_among t v.seen
 
@@ -180,7 +180,7 @@ seen_of v t = seen_among t v.seen
 abbrev pub ahead_of : View → Title → ℕ → ℕ
 ahead_of v t number = sum_by (λ (s : SeenNumber). one (same_title s.title t && nat_lt number s.number)) v.seen
 
--- how many notes of all views say so
+-- how many notes of all views say that a greater number of the title was seen
 abbrev pub ahead_in : List View → Title → ℕ → ℕ
 ahead_in views t number = sum_by (λ v. ahead_of v t number) views
 

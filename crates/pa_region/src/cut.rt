@@ -1,5 +1,5 @@
 ghost use Rattle.std.specs.Prelude.{◌≡◌, ℕ, ◌≤◌};
-ghost use Rattle.pa_machine.specs.Titles.{IsWellFormed};
+ghost use Rattle.pa_slot.specs.Titles.{IsWellFormed};
 ghost use Rattle.pa_layout.specs.Limits.{most_words};
 ghost use Rattle.pa_region.specs.Views.{seen_of};
 ghost use Rattle.pa_region.specs.Shares.{count_offset};
@@ -7,7 +7,7 @@ ghost use Rattle.pa_region.specs.Cuts.{CanCut, after_cut, CanUncut, after_uncut}
 
 use crate::region::{Region, Seat};
 use crate::rule::title_as;
-use pa_machine::Title;
+use pa_slot::Title;
 use std::marker::Brand;
 
 impl Region {

@@ -1,6 +1,6 @@
 ghost use Rattle.std.specs.Prelude.{◌≡◌, ℕ, ◌*◌, ◌<◌, length};
-ghost use Rattle.pa_machine.specs.declared.title.Title.{Title};
-ghost use Rattle.pa_machine.specs.Holdings.{RawByte};
+ghost use Rattle.pa_slot.specs.declared.title.Title.{Title};
+ghost use Rattle.pa_slot.specs.Holdings.{RawByte};
 ghost use Rattle.pa_region.specs.Views.{held_of_view, stake_of};
 ghost use Rattle.pa_region.specs.Waiting.{poisoned_of, unclean_of};
 ghost use Rattle.pa_region.specs.Hands.{CanHand, IsParted, left_after, given_after, united};
@@ -31,7 +31,7 @@ impl Model for Note {
 }
 
 impl Note {
-    /// The same share as a seat, which can make steps.
+    /// The note's share as a seat, which can make steps.
     pub fn seat(self) -> Seat
         ensures same { result ≡ self }
         ensures clean { unclean_of result.view ≡ 0 }
@@ -40,7 +40,7 @@ impl Note {
         seat
     }
 
-    /// What the rule says of the note's view; its list of words is as long as the region's, and its raw bytes lie in the
+    /// What the rule says of the note's view. Its list of words is as long as the region's, and its raw bytes lie in the
     /// region. It costs nothing: it hands on what the note's type keeps.
     pub fn aware(&self)
         ensures aware { IsAware self.now.view }
@@ -52,7 +52,7 @@ impl Note {
 }
 
 impl Seat {
-    /// The same share as a note, which can be taken: each Own of it is clean.
+    /// The seat's share as a note, which can be taken: each Own of it is clean.
     pub fn note(self) -> Note
         requires { unclean_of self.view ≡ 0 }
         ensures { result ≡ self }

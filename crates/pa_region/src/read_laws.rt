@@ -36,13 +36,13 @@ pub fn all_logs_are_known()
     ensures { AllLogsAreKnown }
 {}
 
-/// It knows one order of all that was logged: each log and each keeper's list is a part of it, and each counted step and each look
-/// found as many counted steps of its title before it as the number in its word.
+/// Under the rule a view that has every stake knows one order of all that was logged. Each log and each keeper's list is a part
+/// of it, and each counted step and each look found as many counted steps of its title before it as the number in its word.
 pub fn one_order_is_known()
     ensures { OneOrderIsKnown }
 {}
 
-/// It knows the reads by their places in its logs.
+/// If the reads in a view's logs gave what they should, each read gave so at its place in its log.
 pub fn reads_have_places()
     ensures { ReadsHavePlaces }
 {}

@@ -1,8 +1,8 @@
 ghost use Rattle.std.specs.Prelude.{◌≡◌, ℕ, ◌-◌, ◌*◌, ◌<◌, ◌≤◌, [], length, IfOk};
 ghost use Rattle.atomic_table.specs.Seated.{TableId};
-ghost use Rattle.pa_machine.specs.Titles.{IsWellFormed, count_place, content_count, content_place};
+ghost use Rattle.pa_slot.specs.Titles.{IsWellFormed, count_place, content_count, content_place};
 ghost use Rattle.pa_layout.specs.Limits.{most_supers, most_words};
-ghost use Rattle.pa_machine.specs.Holdings.{RawByte};
+ghost use Rattle.pa_slot.specs.Holdings.{RawByte};
 ghost use Rattle.pa_region.specs.Views.{held_of_view, logged_of, HasTitle, HasStake, HasEveryStake, least_stake};
 ghost use Rattle.pa_region.specs.Moves.{CanCount};
 ghost use Rattle.pa_region.specs.Marks.{AreStakes};
@@ -19,12 +19,12 @@ use crate::marks::{Stakes, least};
 use crate::rule::{Opening, Words, add_as, load_as, poison_as, store_as, total_as};
 use crate::view::View;
 use atomic_table::Table;
-use pa_machine::{OutOfMemory, Step, Title, Word};
+use pa_slot::{OutOfMemory, Step, Title, Word};
 use std::alloc::Global;
 use std::marker::{Brand, Model};
 
-/// The words of one reserved region: its bytes, and after them 16 totals words. Threads share it by `&`; each
-/// changes it by single atomic steps with a seat of its own. Contracts see which region it is.
+/// The words of one reserved region: its bytes, and after them 16 totals words. Threads share it by `&`, and each changes it by
+/// single atomic steps with a seat of its own. Contracts see which region it is.
 #[derive(Drop)]
 pub struct Region {
     pub(crate) table: Words,
@@ -65,22 +65,23 @@ impl Seat {
         least(&self.stakes)
     }
 
-    /// A title that the seat holds free, or has a handle of, is in the seat's region, which has at most 16 super
-    /// pages; and the seat's list of words is as long. It costs nothing: it hands on what the seat's type keeps.
+    /// A title that the seat holds free, or has a handle of, is in the seat's region, which has at most 16 super pages. The
+    /// seat's list of words is as long. It costs nothing: it hands on what the seat's type keeps.
     pub fn placed(&self, title: Title)
         requires { HasTitle self.now.view title }
         ensures small { byte_word_count self.now.region ≤ most_words }
         ensures well { IsWellFormed (byte_word_count self.now.region) title }
         ensures long { length self.now.view.words ≡ byte_word_count self.now.region }
     {
-        // Naming the seat inside gives its proof what the type keeps; so do the lines like this one below, here and in the other files.
+        // Naming the seat inside gives its proof what the type keeps. So do the lines like this one below, here and in the
+        // other files.
         let _ = &self.seat;
         let _ = title;
     }
 }
 
 impl Seat {
-    /// What the rule says of the seat's view; its list of words is as long as the region's, and its raw bytes lie in the
+    /// What the rule says of the seat's view. Its list of words is as long as the region's, and its raw bytes lie in the
     /// region. It costs nothing: it hands on what the seat's type keeps.
     pub fn aware(&self)
         ensures aware { IsAware self.now.view }

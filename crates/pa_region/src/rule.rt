@@ -1,7 +1,7 @@
 ghost use Rattle.std.specs.Prelude.{◌≡◌, ℕ, ◌+◌, ◌%◌, ◌^◌, ◌<◌, []};
 ghost use Rattle.atomic_table.specs.Table.{Allows, Splits, Joins};
 ghost use Rattle.atomic_table.specs.Table.{State as TableState};
-ghost use Rattle.pa_machine.specs.Titles.{poison};
+ghost use Rattle.pa_slot.specs.Titles.{poison};
 ghost use Rattle.pa_region.specs.declared.view.View.{View};
 ghost use Rattle.pa_region.specs.Rule.{IsKept};
 ghost use Rattle.pa_region.specs.Start.{first_view};
@@ -10,7 +10,8 @@ ghost use Rattle.pa_region.specs.Aware.{IsAware};
 use crate::marks::Mark;
 use crate::view::View;
 use atomic_table::{Join, Play, Seat, Split, Table, TableRule};
-use pa_machine::{Item, Step, Title};
+use pa_machine::Item;
+use pa_slot::{Step, Title};
 use std::alloc::Global;
 use std::marker::{Brand, PhantomData};
 
@@ -151,7 +152,7 @@ pub fn store_as<T: Telling>(
     table.shared.store::<Told<T>>(seat, word, value)
 }
 
-// The same, of poison to the title's content word with this index.
+// One store of poison to the title's content word with this index.
 pub fn poison_as<T: Telling>(
     table: &Words,
     seat: &mut Seat<(), View>,

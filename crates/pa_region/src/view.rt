@@ -1,4 +1,4 @@
-use pa_machine::{OwnState, Step, Title};
+use pa_slot::{OwnState, Step, Title};
 use std::collections::LinkedList;
 
 /// A range of raw bytes that a seat holds: offsets in bytes, multiples of 8.
@@ -27,7 +27,7 @@ pub struct Deeds {
 
 /// One thing that was done with a stake.
 pub enum Entry {
-    /// A step on the title's count word, with the word that it found; a write also has the value written.
+    /// A step on the title's count word, with the word that it found. A write also has the value written.
     Counted {
         title: Title,
         step: Step,
@@ -39,8 +39,8 @@ pub enum Entry {
         title: Title,
         found: u64,
     },
-    /// A load of the title's content word with the index `place`, with the value that it gave; what the seat did since the
-    /// entry before it; whether the seat held the title's Own; and whether it held it in a state other than clean.
+    /// A load of the title's content word with the index `place`, with the value that it gave. It also has what the seat did
+    /// since the entry before it, whether the seat held the title's Own, and whether it held it in a state other than clean.
     Read {
         title: Title,
         place: u32,

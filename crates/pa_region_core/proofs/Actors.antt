@@ -2,9 +2,9 @@
 use Rattle.std.proofs.Common.{◌≡◌, ℕ, zero, suc, ◌<◌, List, [], ◌∷◌, ◌++◌, get_or, refl, sym, ap, subst, arith}
 use Rattle.std.proofs.Math.Seq.{get_or-append_seam}
 use Rattle.std.proofs.lemmas.List.Sums.{sum_by_push}
-use Rattle.pa_machine.specs.declared.title.Title.{Title}
-use Rattle.pa_machine.specs.declared.title.OwnState.TheVariants.{Clean, Poisoned}
-use Rattle.pa_machine.specs.Holdings.{Piece, Thing, OwnAs, RefOf, held_in}
+use Rattle.pa_slot.specs.declared.title.Title.{Title}
+use Rattle.pa_slot.specs.declared.title.OwnState.TheVariants.{Clean, Poisoned}
+use Rattle.pa_slot.specs.Holdings.{Piece, Thing, OwnAs, RefOf, held_in}
 use Rattle.pa_machine.specs.Good.{IsGood}
 use Rattle.pa_machine.specs.Events.{State, total_of}
 use Rattle.pa_machine.specs.Trail.{IsGoodState, KeepsContent}
@@ -17,7 +17,7 @@ same_at [] (suc actor) = refl
 same_at (h ∷ hs) zero = refl
 same_at (h ∷ hs) (suc actor) = same_at hs actor
 
--- and all together too
+-- all actors together hold the same with one more that holds nothing
 same_total : (s : State) → total_of (with_actor s) ≡ total_of s
 same_total s = λ i x. each x i
   where

@@ -2,18 +2,18 @@
 use Rattle.std.proofs.Common.{◌≡◌, ℕ, zero, suc, ◌+◌, ◌<◌, ◌≤◌, List, [], ◌∷◌, ◌++◌, length, map, get_or, refl, sym, ◌∙◌, ap, subst, arith, ◌⊎◌, inl, inr}
 use Rattle.std.proofs.lemmas.Bool.{cases_lt}
 use Rattle.std.proofs.lemmas.List.{length-append}
-use Rattle.pa_machine.specs.declared.title.Title.{Title}
-use Rattle.pa_machine.specs.declared.title.OwnState.{OwnState}
-use Rattle.pa_machine.specs.declared.title.OwnState.TheVariants.{Clean, Dirty, Poisoned}
-use Rattle.pa_machine.specs.declared.word.Step.{Step}
-use Rattle.pa_machine.specs.declared.word.Step.TheVariants.{Issue, Copy, Reset, Free as FreeStep, Write}
+use Rattle.pa_slot.specs.declared.title.Title.{Title}
+use Rattle.pa_slot.specs.declared.title.OwnState.{OwnState}
+use Rattle.pa_slot.specs.declared.title.OwnState.TheVariants.{Clean, Dirty, Poisoned}
+use Rattle.pa_slot.specs.declared.word.Step.{Step}
+use Rattle.pa_slot.specs.declared.word.Step.TheVariants.{Issue, Copy, Reset, Free as FreeStep, Write}
 use Rattle.pa_machine.specs.declared.event.Item.{Item}
 use Rattle.pa_machine.specs.declared.event.Item.TheVariants.{Raw, Free, Own, Ref}
 use Rattle.pa_machine.specs.declared.event.Event.{Event}
 use Rattle.pa_machine.specs.declared.event.Event.TheVariants.{Count, Store, Poison, Load, Hand, Cut, Uncut}
-use Rattle.pa_machine.specs.Count.{refs_of}
-use Rattle.pa_machine.specs.Titles.{Covers, content_count, count_word, IsContentOf, HasContentFrom, IsUniform, progress}
-use Rattle.pa_machine.specs.Holdings.{Piece, Thing, RawByte, FreeTitle, OwnAs, RefOf, held_in}
+use Rattle.pa_slot.specs.Count.{refs_of}
+use Rattle.pa_slot.specs.Titles.{Covers, content_count, count_word, IsContentOf, HasContentFrom, IsUniform, progress}
+use Rattle.pa_slot.specs.Holdings.{Piece, Thing, RawByte, FreeTitle, OwnAs, RefOf, held_in}
 use Rattle.pa_machine.specs.Events.{State, HasActor, CanCount, HoldsItem, IsEnabled, Happens, Counts, IsAfter, Exchanges, of_actor}
 use Rattle.pa_machine.specs.Trail.{Played, end_of, IsGoodState, Lasts}
 use Rattle.pa_machine.proofs.Totals.{of_actor_apart}

@@ -2,11 +2,11 @@
 use Rattle.std.proofs.Common.{◌≡◌, ℕ, ◌+◌, ◌<◌, ◌≤◌, false, List, [], ◌∷◌, refl, arith, inl, inr}
 use Rattle.std.specs.List.{sum_by}
 use Rattle.std.proofs.lemmas.List.Sums.{sum_by-cons, sum_by-append}
-use Rattle.pa_machine.specs.declared.title.Title.{Title}
-use Rattle.pa_machine.specs.declared.title.OwnState.TheVariants.{Clean}
+use Rattle.pa_slot.specs.declared.title.Title.{Title}
+use Rattle.pa_slot.specs.declared.title.OwnState.TheVariants.{Clean}
 use Rattle.pa_machine.specs.declared.event.Item.{Item}
 use Rattle.pa_machine.specs.declared.event.Item.TheVariants.{Raw, Free, Own, Ref}
-use Rattle.pa_machine.specs.Holdings.{FreePiece, RefPiece, RawPiece, Thing, RawByte, FreeTitle, OwnOf, OwnAs, RefOf, amount}
+use Rattle.pa_slot.specs.Holdings.{FreePiece, RefPiece, RawPiece, Thing, RawByte, FreeTitle, OwnOf, OwnAs, RefOf, amount}
 use Rattle.pa_machine.specs.Events.{piece_of}
 use Rattle.pa_region.specs.declared.view.RawRange.{RawRange}
 use Rattle.pa_region.specs.declared.view.OwnTitle.{OwnTitle}
@@ -119,7 +119,7 @@ item_came (Ref t) v w has once th =
     let s2 = held_split w th in
     omega arith
 
--- and the giver has it once less
+-- the giver of an item has it once less
 item_out : (x : Item) (v w : View) → HoldsGiven x v → HasRawOnce v → (th : Thing) →
     held_of_view (without_item x v) th + amount th (piece_of x) ≡ held_of_view v th
 item_out x v w has once th =

@@ -3,11 +3,11 @@ use Rattle.std.proofs.Common.{◌≡◌, ℕ, ◌+◌, ◌<◌, ◌≤◌, List,
 use Rattle.std.proofs.lemmas.List.{length-set, get_or-set_same, get_or-set_other, set-get_or, set-set, set_comm}
 use Rattle.std.proofs.lemmas.List.Sums.{sum_by-cons}
 use Rattle.std.proofs.lemmas.Bool.Decides.{eqb_tells}
-use Rattle.pa_machine.specs.declared.title.OwnState.TheVariants.{Clean}
+use Rattle.pa_slot.specs.declared.title.OwnState.TheVariants.{Clean}
 use Rattle.pa_machine.specs.declared.event.Item.{Item}
 use Rattle.pa_machine.specs.declared.event.Item.TheVariants.{Raw, Free, Own, Ref}
 use Rattle.pa_machine.specs.declared.event.Event.TheVariants.{Hand}
-use Rattle.pa_machine.specs.Holdings.{Piece, Thing, RawByte, FreeTitle, OwnAs, RefOf, amount, held_in}
+use Rattle.pa_slot.specs.Holdings.{Piece, Thing, RawByte, FreeTitle, OwnAs, RefOf, amount, held_in}
 use Rattle.pa_machine.specs.Events.{State, HasActor, HoldsItem, IsEnabled, Happens, of_actor, piece_of}
 use Rattle.pa_machine.specs.Trail.{Played, end_of, IsGoodState, IsRunTo}
 use Rattle.pa_machine.proofs.Totals.{of_actor_here, of_actor_apart}
@@ -27,7 +27,7 @@ pub record IsPassed (x : Item) (giver getter left given : List Piece) : Type 0 w
   pub out : (th : Thing) → held_in left th + amount th (piece_of x) ≡ held_in giver th
   pub came : (th : Thing) → held_in given th ≡ held_in getter th + amount th (piece_of x)
 
--- and all of these, one after the other
+-- all of these items pass, one after the other
 abbrev pub ArePassed : List Item → List Piece → List Piece → List Piece → List Piece → Type 0
 ArePassed [] giver getter left given = (left ≡ giver) × (given ≡ getter)
 ArePassed (x ∷ xs) giver getter left given =
@@ -122,7 +122,7 @@ play (x ∷ xs) s from to giver getter left given ne has_from has_to at_from at_
     (get_or-set_other (set s.holdings to got) from to mid [] (λ e. ne (sym e)) ∙ get_or-set_same s.holdings to got [] has_to) p.3 in
     (next ∷ again.0, (event.0, event.1, again.1), ap (λ hs. record { words = s.words; holdings = hs }) (over_again s.holdings from to mid got left given ne) ∙ again.2)
 
--- and as a run, from a good core
+-- items that pass are a run from a good core
 pub run_of : (xs : List Item) (s : State) (from to : ℕ) (left given : List Piece) → (from ≡ to → ⊥) → HasActor s from → HasActor s to → IsGoodState s →
     ArePassed xs (get_or s.holdings from []) (get_or s.holdings to []) left given → IsRunTo s (hands_of from to xs) (moved_to s from to left given)
 run_of xs s from to left given ne has_from has_to good p =

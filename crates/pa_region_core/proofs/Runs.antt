@@ -6,7 +6,7 @@ use Rattle.std.proofs.Math.Seq.{get_or-append_seam}
 use Rattle.std.proofs.lemmas.Bool.{cases_lt}
 use mathlib.Core.Option.{some, some-ne-none}
 use lib.ListN.{get_elem?}
-use Rattle.pa_machine.specs.Holdings.{RawByte}
+use Rattle.pa_slot.specs.Holdings.{RawByte}
 use Rattle.pa_machine.specs.Events.{State}
 use Rattle.pa_machine.specs.Trail.{IsRunTo}
 use Rattle.pa_region.specs.declared.view.View.{View}

@@ -4,14 +4,14 @@ use Rattle.std.specs.List.{sum_by}
 use Rattle.std.proofs.lemmas.List.{append-nil, append_assoc, map-append}
 use Rattle.std.proofs.lemmas.List.Sums.{sum_by-cons, sum_by-append}
 use Rattle.std.proofs.lemmas.Bool.{lt-ltb, le-leb}
-use Rattle.pa_machine.specs.declared.title.Title.{Title}
-use Rattle.pa_machine.specs.declared.title.OwnState.{OwnState}
-use Rattle.pa_machine.specs.declared.title.OwnState.TheVariants.{Clean, Dirty, Poisoned}
+use Rattle.pa_slot.specs.declared.title.Title.{Title}
+use Rattle.pa_slot.specs.declared.title.OwnState.{OwnState}
+use Rattle.pa_slot.specs.declared.title.OwnState.TheVariants.{Clean, Dirty, Poisoned}
 use Rattle.pa_machine.specs.declared.event.Item.{Item}
 use Rattle.pa_machine.specs.declared.event.Item.TheVariants.{Raw, Free, Own, Ref}
-use Rattle.pa_machine.specs.Holdings.{Piece, RawPiece, FreePiece, OwnPiece, RefPiece, Thing, RawByte, FreeTitle, OwnAs, RefOf, one, amount, held_in}
+use Rattle.pa_slot.specs.Holdings.{Piece, RawPiece, FreePiece, OwnPiece, RefPiece, Thing, RawByte, FreeTitle, OwnAs, RefOf, one, amount, held_in}
 use Rattle.pa_machine.specs.Events.{piece_of}
-use Rattle.pa_machine.proofs.Same.{title_self}
+use Rattle.pa_slot.proofs.Same.{title_self}
 use Rattle.pa_region.specs.declared.view.RawRange.{RawRange}
 use Rattle.pa_region.specs.declared.view.OwnTitle.{OwnTitle}
 use Rattle.pa_region.specs.declared.view.View.{View}
@@ -71,7 +71,7 @@ grows_between left right ps q th =
     let f = sum_by-append (amount th) ps right in
     omega arith
 
--- and after a list
+-- what grows still does after a list
 grows_behind : (left : List Piece) (place : List Piece → List Piece) → Grows place → Grows (λ ps. left ++ place ps)
 grows_behind left place grows ps q th =
     let a = sum_by-append (amount th) left (place (ps ++ q ∷ [])) in

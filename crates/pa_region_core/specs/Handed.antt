@@ -2,12 +2,12 @@
 use Rattle.std.specs.Prelude.{◌≡◌, ℕ, List, [], ◌∷◌, ◌++◌, length, map, slice_set}
 use mathlib.Core.Option.{some}
 use lib.ListN.{get_elem?}
-use Rattle.pa_machine.specs.declared.title.Title.{Title}
+use Rattle.pa_slot.specs.declared.title.Title.{Title}
 use Rattle.pa_machine.specs.declared.event.Item.{Item}
 use Rattle.pa_machine.specs.declared.event.Item.TheVariants.{Raw, Free, Own, Ref}
 use Rattle.pa_machine.specs.declared.event.Event.{Event}
 use Rattle.pa_machine.specs.declared.event.Event.TheVariants.{Hand}
-use Rattle.pa_machine.specs.Holdings.{Thing}
+use Rattle.pa_slot.specs.Holdings.{Thing}
 use Rattle.pa_machine.specs.Events.{State, held_by, total_of}
 use Rattle.pa_machine.specs.Trail.{IsGoodState, KeepsContent, IsRunTo}
 use Rattle.pa_region.specs.declared.view.RawRange.{RawRange}
@@ -21,8 +21,8 @@ use Rattle.pa_region.specs.Hands.{Parcel, CanHand, CanTake, left_after, given_af
 abbrev pub with_actor : State → State
 with_actor s = record { words = s.words; holdings = s.holdings ++ [] ∷ [] }
 
--- Such an actor changes nothing that is said of a core: what each actor holds (the new one nothing); what all hold; whether
--- the core is good; and which content it keeps.
+-- An additional actor that holds nothing changes nothing that is said of a core. What each actor holds and what all hold stays, and
+-- so does whether the core is good, and which content it keeps.
 abbrev pub ActorAddsNothing : Type 0
 ActorAddsNothing =
     (s : State) →
@@ -33,7 +33,7 @@ ActorAddsNothing =
     ((last : Title → ℕ) → KeepsContent s last → KeepsContent (with_actor s) last) ×
     ((last : Title → ℕ) → KeepsContent (with_actor s) last → KeepsContent s last)
 
--- and each run of the core is one with that actor, which takes no part: so it may have been there from the start
+-- Each run of the core is one with an additional actor that takes no part. So that actor may have been there from the start.
 abbrev pub ActorStaysAside : Type 0
 ActorStaysAside = (s : State) (events : List Event) (after : State) → IsRunTo s events after → IsRunTo (with_actor s) events (with_actor after)
 
@@ -41,7 +41,7 @@ ActorStaysAside = (s : State) (events : List Event) (after : State) → IsRunTo 
 abbrev pub hands_of : ℕ → ℕ → List Item → List Event
 hands_of from to items = map (Hand from to) items
 
--- a raw range as an item; and an Own, which is handed over clean
+-- a raw range as an item
 abbrev pub raw_item : RawRange → Item
 raw_item r = Raw r.start r.len
 

@@ -1,5 +1,5 @@
 //! Handing over in the region, in terms of the core's own events: a `hand` and a `take` are runs of its event Hand, item by
-//! item. Only laws; nothing here runs.
+//! item. There are only laws, and nothing here runs.
 #![tactic(auto)]
 
 mod laws;

@@ -1,10 +1,10 @@
 -- A move, record by record: what it leaves.
 use Rattle.std.proofs.Common.{◌≡◌, ℕ, ◌+◌, ◌<◌, List, [], ◌∷◌, ◌++◌, map, Some, None, refl, sym, ap, ◌∙◌, subst, arith, ◌⊎◌, inl, inr, append_assoc}
-use Rattle.pa_machine.specs.declared.word.SlotName.{SlotName}
-use Rattle.pa_machine.specs.declared.word.Step.TheVariants as steps
-use Rattle.pa_machine.specs.Count.{number_of, held_of, refs_of, stepped, CanStep}
-use Rattle.pa_machine.specs.Run.{Mark}
-use Rattle.pa_machine.proofs.Runs.{number_stepped, same_slot_cases}
+use Rattle.pa_slot.specs.declared.word.SlotName.{SlotName}
+use Rattle.pa_slot.specs.declared.word.Step.TheVariants as steps
+use Rattle.pa_slot.specs.Count.{number_of, held_of, refs_of, stepped, CanStep}
+use Rattle.pa_slot.specs.Run.{Mark}
+use Rattle.pa_slot.proofs.Runs.{number_stepped, same_slot_cases}
 use Rattle.pa_lists.proofs.Elements.{in_middle}
 use Rattle.pa_trace.specs.declared.script.Line.TheVariants.{Do}
 use Rattle.pa_trace.specs.declared.script.Op.{Op}

@@ -23,7 +23,7 @@ use Rattle.pa_rules.specs.Legal.{IsFileTold}
 use Rattle.pa_rules.specs.Registers.{Reg, Regs, AllRegs, Facts, RowsTo, no_regs, with_thread, usable_in}
 use Rattle.pa_rules.specs.Sizes.{usable_of}
 use Rattle.pa_rules.specs.Told.{Told, told_by, records_of}
-use Rattle.pa_rules.proofs.Leading.{row_leads}
+use Rattle.pa_rules.proofs.Leading.{row_leads, rows_one}
 use Rattle.pa_one_run.specs.Parts.{Parts, parts_of}
 use Rattle.pa_one_run.proofs.Filed.{IsFiled}
 use Rattle.pa_one_run.proofs.Legality.{filed}
@@ -72,14 +72,6 @@ full_kept cells reg partition size answer regs (entry, is) =
     ap (λ ans. changed regs (change_of cells (ops.Alloc reg partition size) ans) spare) is
 
 -- ---- rows
-
-rows_one : (facts : Facts) (all after other : AllRegs) (ps : List Played) → RowsTo facts all ps after → RowsTo facts all ps other → after ≡ other
-rows_one facts all after other [] h k = h ∙ sym k
-rows_one facts all after other (p ∷ ps) (next, row, more) (next', row', more') =
-    let one = (row_leads facts p.op (all p.thread) p.answer next row).registers in
-    let two = (row_leads facts p.op (all p.thread) p.answer next' row').registers in
-    let same : next' ≡ next = λ i r. (two r ∙ sym (one r)) i in
-    rows_one facts (with_thread all p.thread next) after other ps more (subst (λ (z : Regs). RowsTo facts (with_thread all p.thread z) ps other) same more')
 
 rows_join : (facts : Facts) (all mid after : AllRegs) (xs ys : List Played) → RowsTo facts all xs mid → RowsTo facts mid ys after → RowsTo facts all (xs ++ ys) after
 rows_join facts all mid after [] ys first then' = subst (λ (z : AllRegs). RowsTo facts z ys after) first then'

@@ -1,8 +1,8 @@
 -- What a script comes to: the lines of a trace, and a verdict for each resize.
 use Rattle.std.specs.Prelude.{◌≡◌, ℕ, ◌+◌, ◌<◌, ◌≤◌, List, [], ◌∷◌, ◌++◌, map, Option, Some, None}
 use Rattle.std.specs.List.{flat_map}
-use Rattle.pa_machine.specs.declared.word.SlotName.{SlotName}
-use Rattle.pa_machine.specs.Count.{refs_of}
+use Rattle.pa_slot.specs.declared.word.SlotName.{SlotName}
+use Rattle.pa_slot.specs.Count.{refs_of}
 use Rattle.pa_direct.specs.Shapes.{greatest_size}
 use Rattle.pa_trace.specs.declared.script.Line.{Line}
 use Rattle.pa_trace.specs.declared.script.Line.TheVariants.{Phase, Do}
@@ -38,7 +38,7 @@ use Rattle.pa_resize.specs.declared.verdict.Verdict.TheVariants.{NotOwn, Shared,
 abbrev pub did : Played → Line
 did x = Do x.thread x.op
 
--- the register and the cell that no script names
+-- the number of the register and of the cell that no script names
 abbrev pub spare : ℕ
 spare = named_count
 
@@ -70,7 +70,7 @@ IsAlone a = refs_of a.seen.found.0 ≡ 0
 abbrev pub NeedsOther : Object → ℕ → Type 0
 NeedsOther a size = IsAlone a × (size ≤ greatest_size) × (slot_size_for size ≡ a.len → ⊥)
 
--- there was no room
+-- the answer says that there was no room
 abbrev pub HasNoRoom : Answer → Type 0
 HasNoRoom answer = (entry : ℕ) × (answer ≡ Full entry)
 
@@ -106,8 +106,8 @@ abbrev pub IsRecordOf : Line → List Played → Type 0
 IsRecordOf Phase xs = xs ≡ []
 IsRecordOf (Do thread op) xs = (x : Played) × (did x ≡ Do thread op) × (xs ≡ x ∷ [])
 
--- In a run with these records, of which the first ones are before it, the piece is what its line comes to: a plain line is itself, and
--- a resize is by what its register held then.
+-- In a run with these records, of which the first ones are before it, the piece is what its line comes to: a plain line is itself, and a
+-- resize goes by what its register held then.
 abbrev pub IsPieceOf : ScriptLine → List Played → Told → List Played → List Line → List Played → Option Verdict → Type 0
 IsPieceOf (Plain l) ps r before lines records verdict = (lines ≡ l ∷ []) × IsRecordOf l records × (verdict ≡ None)
 IsPieceOf (Resize thread reg size) ps r before lines records verdict =
@@ -118,12 +118,12 @@ IsPieceOf (Resize thread reg size) ps r before lines records verdict =
 abbrev pub IsPiece : List Played → Told → List Played → ScriptPiece → Type 0
 IsPiece ps r before x = IsPieceOf x.line ps r before x.lines x.records x.verdict
 
--- piece by piece, from these records on
+-- from these records on, each piece is what its line comes to, one after the other
 abbrev pub ArePieces : List Played → Told → List Played → List ScriptPiece → Type 0
 ArePieces ps r before [] = Unit {0}
 ArePieces ps r before (x ∷ xs) = IsPiece ps r before x × ArePieces ps r (before ++ x.records) xs
 
--- the verdicts of the resizes, each with the number of its line in the script, if the first piece is line n
+-- the verdict of a line, if it has one, with the number of the line
 abbrev pub verdict_noted : ℕ → Option Verdict → List (ℕ × Verdict)
 verdict_noted n None = []
 verdict_noted n (Some v) = (n, v) ∷ []

@@ -1,8 +1,8 @@
 -- What a move leaves of registers, cells and contents, in a run in the order of its lines.
 use Rattle.std.specs.Prelude.{◌≡◌, ℕ, ◌<◌, ◌≤◌, List, ◌++◌, Contains}
 use Rattle.std.specs.List.{flat_map}
-use Rattle.pa_machine.specs.declared.word.SlotName.{SlotName}
-use Rattle.pa_machine.specs.Count.{number_of, refs_of}
+use Rattle.pa_slot.specs.declared.word.SlotName.{SlotName}
+use Rattle.pa_slot.specs.Count.{number_of, refs_of}
 use Rattle.pa_trace.specs.declared.script.Op.TheVariants.{Free}
 use Rattle.pa_trace.specs.declared.script.Trace.{Trace}
 use Rattle.pa_trace.specs.Limits.{IsWithinLimits}
@@ -27,11 +27,11 @@ use Rattle.pa_resize.specs.declared.verdict.Verdict.{Verdict}
 use Rattle.pa_resize.specs.declared.verdict.Verdict.TheVariants.{Moved}
 use Rattle.pa_resize.specs.Expansion.{spare, IsResized, ScriptPiece, IsExpanded}
 
--- the rows of the whole run lead over these records from the one registers to the others
+-- over these records the rows of the whole run lead from the first registers to the second ones
 abbrev pub LeadsOver : List Played → Told → AllRegs → List Played → AllRegs → Type 0
 LeadsOver ps r regs xs after = RowsTo (record { usable_of = usable_of; usable_at = usable_in ps; cells = r.cells }) regs xs after
 
--- line n is between them: the ones are on lines before it, the others on none
+-- line n is between these records: the first ones are on lines before it, and none of the rest is
 pub record StandsBetween (n : ℕ) (before rest : List Played) : Type 0 where
   pub early : (x : Played) → Contains before x → x.line < n
   pub late : (x : Played) → Contains rest x → n ≤ x.line
@@ -64,7 +64,7 @@ pub record IsMoveKept (ps : List Played) (r : Told) (thread reg : ℕ) (before x
   pub freed : (x : Played) × (seen : Seen) × Contains xs x × (x.op ≡ Free reg) × (x.answer ≡ Done seen) × (seen.slot ≡ old)
       × (refs_of seen.found.0 ≡ 0)
 
--- The records of a move, of a register that scripts may name, leave that if the spare register and cell were free.
+-- The records of a move, of a register that scripts may name, leave all that a move keeps if the spare register and cell were free.
 abbrev pub MovesKeep : Type 0
 MovesKeep =
     (t : Trace) (r : Told) (before xs rest : List Played) (regs after : AllRegs) (thread reg size : ℕ) →
@@ -87,7 +87,7 @@ pub record IsAsBefore (r : Told) (before xs rest : List Played) (regs after : Al
       → cell_before r m k ≡ cell_before r n k
   pub words : (s : SlotName) → word_after (before ++ xs) s ≡ word_after before s
 
--- the records of a resize with any verdict but a move's leave that
+-- the records of a resize with any verdict but a move's leave all as before
 abbrev pub OthersStay : Type 0
 OthersStay =
     (t : Trace) (r : Told) (before xs rest : List Played) (regs after : AllRegs) (thread reg size : ℕ) (v : Verdict) →

@@ -42,7 +42,7 @@ pub record Resizes (p : Player) (thread reg size : ℕ) (v : Verdict) (q : Playe
   pub is : (ps : List Played) (r : Told) → GoesOnFrom q ps r
       → (regs : AllRegs) × AreRegsAfter ps r (records_so_far p) regs × IsResized v r.roots (regs thread reg) thread reg size added
 
--- A line of a script was played; it has this verdict if it is a resize.
+-- A line of a script was played. It has this verdict if it is a resize.
 pub record PlaysScriptLine (p : Player) (l : ScriptLine) (found : Option Verdict) (q : Player) : Type 0 where
   pub going : IsGoing q
   pub head : q.lines.head ≡ p.lines.head
@@ -71,7 +71,7 @@ pub record IsScriptPlayed (start : Head) (ls : List ScriptLine) (p : Player) (vs
   pub each : (ps : List Played) (r : Told) → GoesOnFrom p ps r → ArePieces ps r [] pieces
   pub verdicts : vs ≡ verdicts_of 2 pieces
 
--- Of the bytes some lines are read, and these were played.
+-- The lines of a script that were read of these bytes so far were played.
 pub record IsInputPlayedTo (bytes : List ℕ) (u : Unread) (p : Player) : Type 0 where
   pub lines : List ScriptLine
   pub verdicts : List (ℕ × Verdict)

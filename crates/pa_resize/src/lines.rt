@@ -11,11 +11,11 @@ ghost use Rattle.pa_resize.specs.Playing.{PlaysScriptLine, Resizes, Went, WentBy
 use crate::sizes::slot_size_for;
 use crate::verdict::Verdict;
 use pa_direct::GREATEST_SIZE;
-use pa_machine::{OutOfMemory, refs};
 use pa_model::Player;
 use pa_player::{Output, Told};
 use pa_record::{Answer, Seen};
 use pa_script::{NAMED, ScriptLine};
+use pa_slot::{OutOfMemory, refs};
 use pa_trace::{Line, Op};
 use pa_trace_writer::{Keeper, Kept};
 

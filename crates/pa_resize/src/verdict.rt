@@ -1,4 +1,4 @@
-/// What a resize came to. They are tried in this order.
+/// What a resize came to. The verdicts are tried in this order.
 #[derive(Clone, Copy, Debug, PartialEq, Eq)]
 pub enum Verdict {
     /// The register owns no object.

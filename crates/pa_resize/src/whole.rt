@@ -10,11 +10,11 @@ ghost use Rattle.pa_resize.specs.Playing.{IsScriptPlayed, script_head};
 
 use crate::lines::play_line;
 use crate::verdict::Verdict;
-use pa_machine::OutOfMemory;
 use pa_model::Player;
 use pa_player::{Output, Told};
 use pa_record::Run;
 use pa_script::{MOST_SCRIPT_LINES, Script, ScriptReader};
+use pa_slot::OutOfMemory;
 use pa_trace::{Head, Trace, TraceFault};
 use pa_trace_writer::{Keeper, Kept};
 use std::alloc::Global;
@@ -41,9 +41,9 @@ pub struct ExpandedText {
     pub run: Vec<u8>,
 }
 
-/// Plays a script, whose resizes become ops as it is played. A line of a trace is itself. A resize of what a register owns
-/// is a look at the object; if no `raw_ptr` points to it, and a slot for the size has another length, it is moved to one in
-/// the same partition, if there is room. Out of memory is the only error.
+/// Plays a script, whose resizes become ops as it is played. A line of a trace is itself. A resize of what a register owns is a look at
+/// the object. If no `raw_ptr` points to it, and a slot for the size has another length, it is moved to one in the same partition, if
+/// there is room. Out of memory is the only error.
 pub fn expand(alloc: Global, script: &Script) -> Result<Expanded, OutOfMemory>
     requires { IsScriptWithin script.now }
     ensures expanded { IfOk result (λ e. IsExpanded script.now e.trace e.run e.verdicts.items) }

@@ -1,7 +1,7 @@
 -- A give as a call: the seat that took the note holds its titles free, at the numbers that the note had seen.
 use Rattle.std.proofs.Common.{◌≡◌, ℕ, ◌+◌, ◌<◌, List, [], ◌∷◌, length, refl, ◌∙◌, ap, subst, arith}
 use Rattle.std.specs.Prelude.{◌≢◌, AllPairs, Contains}
-use Rattle.pa_machine.specs.declared.title.Title.{Title}
+use Rattle.pa_slot.specs.declared.title.Title.{Title}
 use Rattle.pa_region.specs.declared.view.View.{View}
 use Rattle.pa_region.specs.Views.{free_of, seen_of}
 use Rattle.pa_region.specs.Hands.{united}

@@ -1,8 +1,8 @@
 -- A fill: what it makes can be cut, what it takes can be handed over, and the root is sound again.
 use Rattle.std.proofs.Common.{◌≡◌, ℕ, ◌+◌, ◌≤◌, List, sym, ◌∙◌, ap, subst, arith, inl, inr}
 use Rattle.std.specs.Prelude.{◌≢◌, Contains}
-use Rattle.pa_machine.specs.declared.title.Title.{Title}
-use Rattle.pa_machine.specs.Titles.{Covers}
+use Rattle.pa_slot.specs.declared.title.Title.{Title}
+use Rattle.pa_slot.specs.Titles.{Covers}
 use Rattle.pa_machine.proofs.Cutting.{covers_or}
 use Rattle.pa_layout.specs.Pages.{page_place}
 use Rattle.pa_region.specs.Cuts.{CanCut}

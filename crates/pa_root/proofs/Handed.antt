@@ -3,9 +3,9 @@ use Rattle.std.proofs.Common.{ℕ, ◌<◌, List, refl, sym, ap, subst, arith}
 use Rattle.std.specs.Prelude.{◌≢◌, AllPairs, Contains}
 use Rattle.std.proofs.lemmas.List.Elements.{All-contains}
 use Rattle.pa_lists.proofs.Joined.{map_cases}
-use Rattle.pa_machine.specs.declared.title.Title.{Title}
-use Rattle.pa_machine.specs.declared.word.SlotName.{SlotName}
-use Rattle.pa_machine.specs.Holdings.{RawByte}
+use Rattle.pa_slot.specs.declared.title.Title.{Title}
+use Rattle.pa_slot.specs.declared.word.SlotName.{SlotName}
+use Rattle.pa_slot.specs.Holdings.{RawByte}
 use Rattle.pa_record.specs.Spans.{Span, title_at, name_of}
 use Rattle.pa_record.specs.Root.{Root, IsOut}
 use Rattle.pa_record.specs.Sound.{IsSound}

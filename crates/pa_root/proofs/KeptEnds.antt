@@ -1,6 +1,6 @@
 -- A root that is kept after the pool was asked: it got super pages, or none.
 use Rattle.std.proofs.Common.{◌≡◌, ℕ, ◌+◌, ◌%◌, ◌<◌, ◌≤◌, List, Option, sym, subst, arith}
-use Rattle.pa_machine.specs.declared.title.Title.{Title}
+use Rattle.pa_slot.specs.declared.title.Title.{Title}
 use Rattle.pa_layout.specs.Pages.{supers_for}
 use Rattle.pa_region.specs.declared.view.View.{View}
 use Rattle.pa_region.specs.Hands.{united}
@@ -46,7 +46,7 @@ kept_none r p line count class a b w w_now js js_now l (fault.Full j) kept sound
 kept_none r p line count class a b w w_now js js_now l fault.OutOfMemory kept sound (seats, own, journals) =
     subst (λ (x : Share). IsKept p x.view js_now l) (sym own) (subst (λ es. IsKept p w.view es l) (sym journals) kept)
 
--- it is kept, and the caller is told
+-- a root that was refused super pages is kept, and the caller gets the reason
 pub refused_kept : (r p line count : ℕ) (class : Option ℕ) (a b w w_now : Share) (js js_now : List RootEntry) (l : ShelfParts) (fault : FillFault) →
     IsKept p w.view js l → ((asked : ℕ) → FoundNone (pools_seen w_now.view) asked count → FullFits (pools_seen w_now.view) class asked (root_of w.view js)) →
     RefusesRoom r p line count class a b w w_now js js_now fault →

@@ -48,3 +48,4 @@ pub mod KeptSteps
 pub mod PagesCome
 pub mod Rewriting
 pub mod KeptEnds
+pub mod Entered

@@ -1,6 +1,6 @@
 -- A direct map as a call: the root is sound with its entry, and what the caller knows.
 use Rattle.std.proofs.Common.{◌≡◌, ℕ, ◌%◌, ◌≤◌, [], ◌∷◌, ◌++◌, Some, length, refl, sym, ◌∙◌, ap, subst, arith}
-use Rattle.pa_machine.specs.declared.title.Title.{Title}
+use Rattle.pa_slot.specs.declared.title.Title.{Title}
 use Rattle.pa_layout.specs.Pages.{supers_for}
 use Rattle.pa_direct.specs.declared.maps.Shape.{Shape}
 use Rattle.pa_direct.specs.Shapes.{IsShape}

@@ -1,8 +1,8 @@
 -- One take from a root that is shown: its new slots are cut, and a slot is taken.
 use Rattle.std.proofs.Common.{◌≡◌, ℕ, ◌<◌, ◌≤◌, List, [], ◌∷◌, max, Option, Some, None, refl, sym, ◌∙◌, ap, subst, arith, inl, inr}
 use Rattle.std.specs.Prelude.{Contains}
-use Rattle.pa_machine.specs.declared.title.Title.{Title}
-use Rattle.pa_machine.specs.declared.word.SlotName.{SlotName}
+use Rattle.pa_slot.specs.declared.title.Title.{Title}
+use Rattle.pa_slot.specs.declared.word.SlotName.{SlotName}
 use Rattle.pa_buckets.specs.Table.{slots_of}
 use Rattle.pa_lists.proofs.Members.{of_some, not_some, not_in_none, first_in, later_in}
 use Rattle.pa_record.specs.declared.taken.SuperPage.{SuperPage}
@@ -147,7 +147,7 @@ module _ (class : ℕ) (v : View) (l : ShelfParts) (z : Root) (w : View) (m : Sh
         unseen = subst (λ o. NoneSeen y (cut_for o)) (sym h.is) (unseen_on (titles_new_in s) x y wrote none);
       }
 
--- the view after the cuts of the slots that were told
+-- the view after the cuts of the slots that were to be cut
 pub cut_view : (n : NewSlots) (s : Span) (y x : Share) (z : View) → n ≡ cut_before s → y ≡ x → z ≡ after_cuts (titles_beside n.first 0 n.count) y.view →
     z ≡ after_cuts (titles_new_in s) x.view
 cut_view n s y x z told same is =

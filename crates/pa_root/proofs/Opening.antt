@@ -2,8 +2,8 @@
 use Rattle.std.proofs.Common.{◌≡◌, ℕ, ◌+◌, ◌<◌, [], ◌∷◌, Some, sym, ◌∙◌, ap, subst, arith, ◌⊎◌, inl, inr}
 use Rattle.std.specs.Prelude.{Contains}
 use Rattle.std.proofs.lemmas.List.Elements.{Contains-append_cases}
-use Rattle.pa_machine.specs.declared.title.Title.{Title}
-use Rattle.pa_machine.specs.Holdings.{RawByte}
+use Rattle.pa_slot.specs.declared.title.Title.{Title}
+use Rattle.pa_slot.specs.Holdings.{RawByte}
 use Rattle.pa_region.specs.declared.view.View.{View}
 use Rattle.pa_region.specs.Views.{free_of, low_of}
 use Rattle.pa_region.specs.Lists.{lease_of}

@@ -5,9 +5,9 @@ use Rattle.std.proofs.lemmas.List.Elements.{All-contains}
 use Rattle.pa_lists.proofs.Elements.{length_map}
 use Rattle.pa_lists.proofs.Different.{length_less}
 use Rattle.pa_lists.proofs.Joined.{map_cases, pairs_map}
-use Rattle.pa_machine.specs.declared.title.Title.{Title}
-use Rattle.pa_machine.specs.Titles.{Covers}
-use Rattle.pa_machine.specs.Holdings.{RawByte}
+use Rattle.pa_slot.specs.declared.title.Title.{Title}
+use Rattle.pa_slot.specs.Titles.{Covers}
+use Rattle.pa_slot.specs.Holdings.{RawByte}
 use Rattle.pa_layout.specs.Limits.{most_supers}
 use Rattle.pa_layout.specs.Pages.{super_page_at, page_place, supers_for}
 use Rattle.pa_region.specs.declared.view.View.{View}
@@ -37,7 +37,7 @@ map_first p s t sound among =
     let raw = sound.rest.raw t.born (2097152 * first) (inr (t, first, among, refl, start, (omega arith, omega arith), away)) in
     (omega arith, subst (λ n. 0 < low_of s.view (2097152 * n) t.born) (sym here) raw)
 
--- so no two start in one super page
+-- no two direct maps start in one super page
 maps_apart : (p : ℕ) (s : RootState) (t u : Title) → IsRootSound p s → Contains s.root.maps t → Contains s.root.maps u → t.born ≢ u.born →
     super_page_at t.start ≢ super_page_at u.start
 maps_apart p s t u sound among other differ same =

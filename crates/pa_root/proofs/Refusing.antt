@@ -130,7 +130,7 @@ none_given r p line count class a b w w_now js js_now root fault.OutOfMemory sou
     ap (λ (x : Share). root_of_parts x.view js_now root) own ∙ ap (λ es. root_of_parts w.view es root) journals in
     ((same, seats), subst (λ z. IsRootSound p z) (sym same) sound)
 
--- its journal has one more entry at most
+-- the journal of a root that gave none has one more entry at most
 pub none_long : (r p line count : ℕ) (class : Option ℕ) (a b : Share) (s s_now : RootState) (fault : FillFault) →
     NoneGiven r p line count class a b s s_now fault → (length s.journal ≤ length s_now.journal) × (length s_now.journal ≤ length s.journal + 1)
 none_long r p line count class a b s s_now (fault.Full j) told =

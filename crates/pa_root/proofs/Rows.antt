@@ -2,7 +2,7 @@
 use Rattle.std.proofs.Common.{◌≡◌, ℕ, zero, suc, ◌+◌, ◌-◌, ◌*◌, ◌<◌, ◌≤◌, List, [], ◌∷◌, ◌++◌, refl, sym, ◌∙◌, ap, subst, arith, inl, inr}
 use Rattle.std.specs.Prelude.{◌≢◌, AllPairs, Contains}
 use Rattle.std.proofs.lemmas.List.Elements.{Contains-append_cases}
-use Rattle.pa_machine.specs.declared.title.Title.{Title}
+use Rattle.pa_slot.specs.declared.title.Title.{Title}
 use Rattle.pa_region.specs.declared.view.View.{View}
 use Rattle.pa_region.specs.Views.{seen_of}
 use Rattle.pa_region.specs.Cuts.{CanCut, after_cut}
@@ -63,7 +63,7 @@ next_view first n v w x e f =
     f ∙ ap (after_cut (title_beside first n)) e
     ∙ sym (ap (λ ts. after_cuts ts v) more ∙ view (titles_beside first 0 n) (title_beside first n ∷ []) v)
 
--- and it is new as those before it
+-- the next title of a row is new as those before it
 pub next_new : (first : Title) (n : ℕ) (v w : View) → w ≡ after_cuts (titles_beside first 0 n) v → NoneSeen v (titles_beside first 0 n) →
     seen_of (after_cut (title_beside first n) w) (title_beside first n) ≡ 0 → NoneSeen v (titles_beside first 0 (n + 1))
 next_new first n v w e new now t among =

@@ -4,8 +4,8 @@ use Rattle.std.specs.Prelude.{if◌then◌else◌}
 use Rattle.std.specs.List.{sum_by}
 use Rattle.std.proofs.lemmas.List.{append-nil, length-append}
 use Rattle.std.proofs.lemmas.List.Sums.{sum_by-append}
-use Rattle.pa_machine.specs.Titles.{same_title}
-use Rattle.pa_machine.specs.Holdings.{one}
+use Rattle.pa_slot.specs.Titles.{same_title}
+use Rattle.pa_slot.specs.Holdings.{one}
 use Rattle.pa_region.specs.declared.view.OwnTitle.{OwnTitle}
 use Rattle.pa_region.specs.declared.view.Entry.{Entry}
 use Rattle.pa_region.specs.declared.view.Stake.{Stake}
@@ -36,7 +36,8 @@ all_keepers : (qs : List Keeper) → filter (λ (q : Keeper). true) qs ≡ qs
 all_keepers [] = refl
 all_keepers (q ∷ qs) = ap (λ xs. q ∷ xs) (all_keepers qs)
 
-no_stakes : (ss : List Stake) → filter (λ (s : Stake). false) ss ≡ []
+-- of no stakes is what a test keeps that none passes
+pub no_stakes : (ss : List Stake) → filter (λ (s : Stake). false) ss ≡ []
 no_stakes [] = refl
 no_stakes (s ∷ ss) = no_stakes ss
 
@@ -72,7 +73,7 @@ gives_nothing v r =
       logs = λ k. more_none k r (log_of k v) (log_of k (left_after (frees_parcel []) v)) (ap (λ ss. log_among k ss) stakes);
     }
 
--- and the seat that takes it keeps what it has
+-- a seat that takes a note of nothing keeps what it has
 pub takes_nothing : (v w : View) (r : ℕ) → IsAware w → IsAware (united w (given_after (frees_parcel []) v)) → length w.words ≡ length v.words →
     Lends r [] w (united w (given_after (frees_parcel []) v))
 takes_nothing v w r aware both long =

@@ -3,10 +3,10 @@ use Rattle.std.proofs.Common.{◌≡◌, ℕ, ◌+◌, ◌*◌, ◌/◌, ◌%◌
 use Rattle.std.specs.Prelude.{Contains, slice_index}
 use Rattle.std.proofs.lemmas.List.Elements.{All-contains}
 use Rattle.pa_lists.proofs.Joined.{map_cases}
-use Rattle.pa_machine.specs.declared.title.Title.{Title}
-use Rattle.pa_machine.specs.declared.word.SlotName.{SlotName}
-use Rattle.pa_machine.specs.Titles.{Covers}
-use Rattle.pa_machine.specs.Holdings.{RawByte}
+use Rattle.pa_slot.specs.declared.title.Title.{Title}
+use Rattle.pa_slot.specs.declared.word.SlotName.{SlotName}
+use Rattle.pa_slot.specs.Titles.{Covers}
+use Rattle.pa_slot.specs.Holdings.{RawByte}
 use Rattle.pa_region.specs.declared.view.View.{View}
 use Rattle.pa_region.specs.Views.{held_of_view, free_of, Knows}
 use Rattle.pa_region.specs.Hands.{united}
@@ -41,7 +41,7 @@ listed_made r s t sound among inside =
     let below = c.numbers n numbered in let made = c.made in
     (s, among, n, omega arith, sym is)
 
--- and is free in the seat's view
+-- a free slot of a span is free in the seat's view
 pub free_held : (p : ℕ) (s : RootState) (span : Span) (t : Title) → IsRootSound p s → Contains s.root.spans span → Contains (titles_free span) t →
     0 < free_of s.view t
 free_held p s span t sound among inside =

@@ -3,8 +3,8 @@ use Rattle.std.proofs.Common.{◌≡◌, ℕ, zero, suc, ◌+◌, ◌<◌, ◌�
 use Rattle.std.specs.Prelude.{◌≢◌, is_some}
 use Rattle.std.proofs.lemmas.List.{append-nil}
 use Rattle.std.proofs.lemmas.List.Elements.{Contains-append_cases, Contains-append_left, Contains-append_right}
-use Rattle.pa_machine.specs.declared.title.Title.{Title}
-use Rattle.pa_machine.specs.declared.word.SlotName.{SlotName}
+use Rattle.pa_slot.specs.declared.title.Title.{Title}
+use Rattle.pa_slot.specs.declared.word.SlotName.{SlotName}
 use Rattle.pa_lists.proofs.Members.{of_some, not_some, not_in_none}
 use Rattle.pa_lists.proofs.Pairs.{pairs_none}
 use Rattle.pa_lists.proofs.Joined.{pairs_append}
@@ -55,8 +55,8 @@ none_more r = record {
   once = pairs_none (λ (a : Title) (b : Title). a ≢ b);
 }
 
--- So many takes of a root gave these titles, and with those that are left they are what all takes give: the root z gives the rest.
--- The seat had the view v, and has w.
+-- The takes so far gave these titles, and with those that are left they are what all takes give: the root z gives the rest. The
+-- seat had the view v, and has w.
 pub record IsUnderWay (class want left : ℕ) (v w : View) (l : ShelfParts) (r : Root) (titles : List Title) : Type 0 where
   pub now : Root
   pub new : List Title

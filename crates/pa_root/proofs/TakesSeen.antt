@@ -32,7 +32,7 @@ entered_seen line p count first index r v after m made = record {
   says = made.says;
 }
 
--- so has the root that takes in the note
+-- the root that takes in the note has seen the take
 pub asked_seen : (r line p count first index : ℕ) (v after root s w : View) → IsAskedFor r line p count (Some first) index v after root →
     IsRunNote first count index after w → IsAware (united s w) → HasSeenTake p index first count (united s w)
 asked_seen r line p count first index v after root s w asked note both =

@@ -2,10 +2,10 @@
 use Rattle.std.proofs.Common.{◌≡◌, ℕ, ◌+◌, ◌<◌, List, [], ◌∷◌, length, refl, sym, ◌∙◌, ap, subst, arith}
 use Rattle.std.specs.List.{sum_by}
 use Rattle.std.proofs.lemmas.List.Sums.{sum_by-cons}
-use Rattle.pa_machine.specs.declared.title.Title.{Title}
-use Rattle.pa_machine.specs.Titles.{same_title, IsWellFormed}
-use Rattle.pa_machine.specs.Holdings.{FreeTitle, OwnOf, RefOf, one}
-use Rattle.pa_machine.proofs.Same.{title_self}
+use Rattle.pa_slot.specs.declared.title.Title.{Title}
+use Rattle.pa_slot.specs.Titles.{same_title, IsWellFormed}
+use Rattle.pa_slot.specs.Holdings.{FreeTitle, OwnOf, RefOf, one}
+use Rattle.pa_slot.proofs.Same.{title_self}
 use Rattle.pa_region.specs.declared.view.OwnTitle.{OwnTitle}
 use Rattle.pa_region.specs.declared.view.View.{View}
 use Rattle.pa_region.specs.Views.{free_of, own_of, ref_of, low_of, seen_of, stake_of}

@@ -3,10 +3,10 @@ use Rattle.std.proofs.Common.{◌≡◌, ℕ, ◌+◌, ◌<◌, List, [], ◌∷
 use Rattle.std.specs.List.{sum_by}
 use Rattle.std.proofs.lemmas.List.Sums.{sum_by-cons}
 use Rattle.std.proofs.lemmas.Bool.Decides.{eqb_tells}
-use Rattle.pa_machine.specs.declared.title.Title.{Title}
-use Rattle.pa_machine.specs.Titles.{same_title}
-use Rattle.pa_machine.specs.Holdings.{one}
-use Rattle.pa_machine.proofs.Same.{title_tells}
+use Rattle.pa_slot.specs.declared.title.Title.{Title}
+use Rattle.pa_slot.specs.Titles.{same_title}
+use Rattle.pa_slot.specs.Holdings.{one}
+use Rattle.pa_slot.proofs.Same.{title_tells}
 use Rattle.pa_region.specs.declared.view.Entry.TheVariants.{Uncut}
 use Rattle.pa_region.specs.declared.view.View.{View}
 use Rattle.pa_region.specs.Views.{free_of, stake_of, least_stake}
@@ -126,7 +126,7 @@ module _ (a h : View) (t : Title) (lends : CanLend a) (host : CanHost h) (free :
         uncut = uncut_now;
       }
 
--- the same, of the views of the seats as they come
+-- a title is uncut with the lender's stake, of the views of the seats as they come
 pub uncut_by : (a h l g u e l2 g2 f : View) (t : Title) → l ≡ left_after (stake_parcel (least_stake a.stakes)) a →
     g ≡ given_after (stake_parcel (least_stake a.stakes)) a → u ≡ united h g → e ≡ after_uncut t u →
     l2 ≡ left_after (stake_parcel (least_stake e.stakes)) e → g2 ≡ given_after (stake_parcel (least_stake e.stakes)) e → f ≡ united l g2 →

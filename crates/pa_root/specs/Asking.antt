@@ -11,8 +11,8 @@ use Rattle.pa_root.specs.Reading.{pools_seen}
 use Rattle.pa_root.specs.Making.{IsEnteredAt}
 use Rattle.pa_root.specs.Filling.{HasRunOnly}
 
--- The pool was asked for `count` super pages for partition p, on this line, for a seat with the stake r: entry `index` of the pool
--- was made for it, and says what was found. The seat has seen that entry; the root's seat, which only showed what it saw, hasn't.
+-- The pool was asked for `count` super pages for partition p, on this line, for a seat with the stake r. Entry `index` of the pool
+-- was made for it, and says what was found. The seat has seen that entry. The root's seat, which only showed what it saw, hasn't.
 pub record IsAskedFor (r line p count : ℕ) (found : Option ℕ) (index : ℕ) (v after root : View) : Type 0 where
   pub made : Made
   pub is_made : IsEnteredAt index r 4 (pool_numbers (take_entry line p count found)) v after made

@@ -1,6 +1,6 @@
 -- A direct map is brought back: its title comes to the root's seat and is uncut, and its super pages go to the pool.
 use Rattle.std.specs.Prelude.{◌≡◌, ℕ, ◌+◌, ◌≤◌, [], ◌∷◌, length, Some, slice_get, ◌*◌}
-use Rattle.pa_machine.specs.declared.title.Title.{Title}
+use Rattle.pa_slot.specs.declared.title.Title.{Title}
 use Rattle.pa_layout.specs.Limits.{most_words}
 use Rattle.pa_region.specs.declared.view.Entry.TheVariants.{Entered, Uncut}
 use Rattle.pa_region.specs.declared.view.Made.{Made}
@@ -16,7 +16,7 @@ use Rattle.pa_root.specs.Reading.{pools_seen}
 use Rattle.pa_root.specs.Making.{IsEnteredAt}
 use Rattle.pa_root.specs.Uncutting.{IsUncut}
 
--- The title came to the root's seat, which had shown the caller's what it had seen and had the view `shown` then; and it was uncut
+-- The title came to the root's seat, which had shown the caller's seat what it had seen and had the view `shown` then. It was uncut
 -- with the caller's stake r. The number is the one that the note had seen.
 pub record IsTitleBack (r : ℕ) (t : Title) (number : ℕ) (v after root root_now note : View) : Type 0 where
   pub shown : View

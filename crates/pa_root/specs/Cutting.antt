@@ -1,6 +1,6 @@
 -- Titles that are cut side by side, and direct maps' titles.
 use Rattle.std.specs.Prelude.{◌≡◌, ℕ, zero, suc, ◌+◌, ◌*◌, ◌%◌, ◌<◌, ◌≤◌, List, [], ◌∷◌, ◌++◌, Contains}
-use Rattle.pa_machine.specs.declared.title.Title.{Title}
+use Rattle.pa_slot.specs.declared.title.Title.{Title}
 use Rattle.pa_layout.specs.Pages.{page_place, supers_for}
 use Rattle.pa_region.specs.declared.view.View.{View}
 use Rattle.pa_region.specs.Views.{low_of, seen_of}
@@ -8,7 +8,7 @@ use Rattle.pa_region.specs.Cuts.{CanCut}
 use Rattle.pa_root.specs.Keeping.{IsInRun}
 use Rattle.pa_root.specs.Filling.{CanCutAll, after_cuts}
 
--- the n-th of the titles that are side by side from the first one on; and `count` of them, from the one numbered `from` on
+-- the title with number n among those side by side from the first one on, which has number 0
 abbrev pub title_beside : Title → ℕ → Title
 title_beside first n = record { start = first.start + first.len * n; len = first.len; born = first.born }
 
@@ -21,7 +21,7 @@ titles_beside first from (suc count) = title_beside first from ∷ titles_beside
 abbrev pub NoneSeen : View → List Title → Type 0
 NoneSeen v ts = (t : Title) → Contains ts t → seen_of v t ≡ 0
 
--- What can be cut in two parts can be cut, and the view is then the same; and a new title stays new.
+-- Titles that can be cut can be cut in two parts, and the view is then the same. Cuts leave what was seen of each title.
 pub record CutsGoOn : Type 0 where
   pub parts : (ts us : List Title) (v : View) → CanCutAll (ts ++ us) v → CanCutAll ts v × CanCutAll us (after_cuts ts v)
   pub view : (ts us : List Title) (v : View) → after_cuts (ts ++ us) v ≡ after_cuts us (after_cuts ts v)

@@ -1,6 +1,6 @@
 -- Slots that are made and go out: a super page that the pool gave, slots that are cut for the first time, and a fill.
 use Rattle.std.specs.Prelude.{◌≡◌, ◌≢◌, ℕ, ◌+◌, ◌<◌, ◌≤◌, ◌⊎◌, List, [], ◌∷◌, length, map, Option, Some, None, IsSome, IsNone, AllPairs, Contains}
-use Rattle.pa_machine.specs.declared.title.Title.{Title}
+use Rattle.pa_slot.specs.declared.title.Title.{Title}
 use Rattle.pa_machine.specs.declared.event.Item.{Item}
 use Rattle.pa_machine.specs.declared.event.Item.TheVariants as items
 use Rattle.pa_buckets.specs.Limits.{class_count}
@@ -65,7 +65,7 @@ OpeningKeeps =
 
 -- ---- slots that are cut for the first time
 
--- these titles can be cut, one after the other; and the view after that
+-- these titles can be cut, one after the other
 abbrev pub CanCutAll : List Title → View → Type 0
 CanCutAll [] v = Unit {0}
 CanCutAll (t ∷ ts) v = CanCut t v × CanCutAll ts (after_cut t v)
@@ -109,7 +109,7 @@ pub record IsReadyFor (p class : ℕ) (asked : Option ℕ) (s : RootState) (u : 
   pub asked_if : Asked (pools_seen u) class asked s.root
   pub later : AsksFrom (least_after_all 0 s.journal) asked
 
--- A root is ready as it is if its first take finds a span; and else with the super page that the pool gave, by an entry after
+-- A root is ready as it is if its first take finds a span. Else it is ready with the super page that the pool gave, by an entry after
 -- those that its seat had seen.
 pub record RootsAreReady : Type 0 where
   pub as_it_is : (p class : ℕ) (s : RootState) → IsRootSound p s → IsAware s.view → class < class_count → IsSome (span_for class s.root) →
@@ -122,7 +122,7 @@ pub record RootsAreReady : Type 0 where
 abbrev pub fill_taken : ℕ → Option ℕ → RootState → View → Filled
 fill_taken class asked s u = takes class (fill_of class) (ready_root asked s u)
 
--- these titles are handed over free, and nothing else
+-- a title as an item that is handed over free
 abbrev pub free_item : Title → Item
 free_item t = items.Free t
 
@@ -139,20 +139,20 @@ pub record IsCutFor (p class : ℕ) (asked : Option ℕ) (s : RootState) (u c : 
   pub aware : IsAware c
   pub new : (t : Title) → Contains ts t → seen_of c t ≡ 0
 
--- Then the slots that it takes can be handed over, and the note has them and nothing else, and has seen the same numbers.
+-- These titles can be handed over. The note has them and nothing else, and has seen the same numbers.
 pub record GivesTitles (titles : List Title) (c : View) : Type 0 where
   pub can : CanHand (frees_parcel titles) c
   pub has : HasOnly titles (given_after (frees_parcel titles) c)
   pub seen : (t : Title) → seen_of (given_after (frees_parcel titles) c) t ≡ seen_of c t
 
--- once the slots that it made are cut, a fill can hand over so what it takes
+-- once the slots that it made are cut, a fill can hand over what it takes
 abbrev pub FillsHandOut : Type 0
 FillsHandOut =
     (p class : ℕ) (asked : Option ℕ) (s : RootState) (u c : View) (ts : List Title) → IsCutFor p class asked s u c ts →
     GivesTitles (fill_taken class asked s u).titles c
 
--- And the root is sound with the entry that names them, each at the number that the note has seen, once its seat has handed
--- them over and has made the entry.
+-- After a fill the root is sound with the entry that names the titles, each at the number that the note has seen, once its seat has
+-- handed them over and has made the entry.
 abbrev pub FillsKeep : Type 0
 FillsKeep =
     (p line class : ℕ) (asked : Option ℕ) (s : RootState) (u c x : View) (ts : List Title) (e : RootEntry) →

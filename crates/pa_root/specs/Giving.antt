@@ -1,6 +1,6 @@
 -- Slots that come back to a root.
 use Rattle.std.specs.Prelude.{◌≡◌, ◌≢◌, ℕ, List, map, length, All, AllPairs, Contains}
-use Rattle.pa_machine.specs.declared.title.Title.{Title}
+use Rattle.pa_slot.specs.declared.title.Title.{Title}
 use Rattle.pa_region.specs.declared.view.View.{View}
 use Rattle.pa_region.specs.Lending.{Keeps}
 use Rattle.pa_region.specs.Hands.{united}
@@ -25,17 +25,17 @@ pub record CanComeBack (p : ℕ) (s : RootState) (w : View) (titles : List Title
   pub once : AllPairs ◌≢◌ titles
   pub named : (t : Title) → Contains titles t → HasSeenFill p w t
 
--- Then each of them is out of the root, and their names differ: no title is in two seats.
+-- Each of these titles is out of the root, and their names differ: no title is in two seats.
 pub record AreAllOut (s : RootState) (titles : List Title) : Type 0 where
   pub out : All (IsOut s.root) (map name_of titles)
   pub once : AllPairs ◌≢◌ (map name_of titles)
 
--- if a note comes back so to a sound root, each of its titles is out of that root, and none is there twice
+-- if a note comes back to a sound root, each of its titles is out of that root, and none is there twice
 abbrev pub WhatComesIsOut : Type 0
 WhatComesIsOut = (p : ℕ) (s : RootState) (w : View) (titles : List Title) → CanComeBack p s w titles → AreAllOut s titles
 
--- And the root is sound again with the entry that names them, each at the number that the note had seen, once its seat has written
--- records and links, and has made the entry.
+-- A root is sound again with the entry that names the titles that came back, each at the number that the note had seen, once its seat
+-- has written records and links, and has made the entry.
 abbrev pub GivesKeep : Type 0
 GivesKeep =
     (p line : ℕ) (s : RootState) (w y x : View) (titles : List Title) → CanComeBack p s w titles → Rewritten (united s.view w) y → IsAware y →

@@ -1,7 +1,7 @@
 -- What the calls of a root give and take: notes that hold titles, each at its number, and the entries that say so.
 use Rattle.std.specs.Prelude.{◌≡◌, ◌≢◌, ◌↔◌, ℕ, ◌+◌, ◌<◌, ◌≤◌, List, [], ◌∷◌, length, map, Option, Some, None, All, AllPairs, Contains}
-use Rattle.pa_machine.specs.declared.title.Title.{Title}
-use Rattle.pa_machine.specs.Holdings.{RawByte}
+use Rattle.pa_slot.specs.declared.title.Title.{Title}
+use Rattle.pa_slot.specs.Holdings.{RawByte}
 use Rattle.pa_layout.specs.Pages.{supers_for}
 use Rattle.pa_buckets.specs.Table.{slot_of}
 use Rattle.pa_region.specs.declared.view.Entry.TheVariants.{Uncut}
@@ -46,8 +46,8 @@ EntersFor j r p line None found act v after = EntersOne j r p (root_entry line a
 EntersFor j r p line (Some asked) found act v after =
     EntersTwo asked j r p [] (take_entry line p 1 found) (root_entry line act) v after
 
--- A fill of a class gave these titles in a note: at least one and at most as many as were wanted, each once and of the class's
--- slot size. The entry made for it names them, each at the number that the note has seen; it asked the pool if it had to.
+-- A fill of a class gave these titles in a note: at least one and at most as many as were wanted, each once and of the class's slot
+-- size. The entry made for it names them, each at the number that the note has seen. It asked the pool if it had to.
 pub record FillGives (r p line class want : ℕ) (v after note : View) (titles : List Title) : Type 0 where
   pub some : 1 ≤ length titles
   pub few : length titles ≤ want
@@ -74,7 +74,7 @@ pub record MapGives (r p line len : ℕ) (v after note : View) (title : Title) :
   pub enters : EntersTwo title.born index r p [] (take_entry line p (supers_for len) (Some first))
       (root_entry line (Map title.born (name_of title) len)) v after
 
--- the note's titles came back, each at the number that it had seen
+-- the titles of the note came back, each at the number that it had seen
 abbrev pub GiveTakes : (r p line : ℕ) (v after note : View) (titles : List Title) → Type 0
 GiveTakes r p line v after note titles =
     (j : ℕ) × EntersOne j r p (root_entry line (Give (numbered_by note titles))) v after
@@ -91,8 +91,8 @@ pub record UnmapTakes (r p line : ℕ) (v after note : View) (title : Title) : T
 abbrev pub PurgeEnters : (r p line : ℕ) (v after : View) → Type 0
 PurgeEnters r p line v after = (j : ℕ) × EntersOne j r p (root_entry line Purge) v after
 
--- What a call requires of its caller's seat for the titles that come back: the seat has seen an entry of the root's list, a fill
--- that names the title and has a class with the title's length as slot size; or a map that names it with its length.
+-- What a call requires of its caller's seat for a slot that comes back. The seat has seen an entry of the root's list, a fill that
+-- names the title and has a class with the title's length as slot size.
 abbrev pub HasSeenFill : ℕ → View → Title → Type 0
 HasSeenFill p v t =
     (line class : ℕ) × (asked : Option ℕ) × (slots : List Numbered) × (n : Numbered) × (t.len ≡ slot_of class) × Contains slots n

@@ -1,8 +1,8 @@
 -- What contracts see of the root of a partition over a region, and what its type keeps.
 use Rattle.std.specs.Prelude.{◌≡◌, ℕ, ◌+◌, ◌*◌, ◌<◌, ◌≤◌, ◌⊎◌, List, Some, Contains, map}
-use Rattle.pa_machine.specs.declared.title.Title.{Title}
-use Rattle.pa_machine.specs.declared.word.SlotName.{SlotName}
-use Rattle.pa_machine.specs.Titles.{Covers}
+use Rattle.pa_slot.specs.declared.title.Title.{Title}
+use Rattle.pa_slot.specs.declared.word.SlotName.{SlotName}
+use Rattle.pa_slot.specs.Titles.{Covers}
 use Rattle.pa_layout.specs.Pages.{page_place, supers_for}
 use Rattle.pa_trace.specs.Limits.{most_partitions}
 use Rattle.pa_region.specs.declared.view.Made.{Made}
@@ -27,7 +27,7 @@ pub record RootState : Type 0 where
   pub journal : List RootEntry
   pub root : Root
 
--- The journal of partition p. Its seat has keeper p, and that list is the journal as numbers; the seat can be lent a stake. The
+-- The journal of partition p. Its seat has keeper p, and that list is the journal as numbers. The seat can be lent a stake. The
 -- journal is one of a root, with what the seat has seen of the pool's entries, and the root is what it replays to.
 pub record HasJournal (p : ℕ) (s : RootState) : Type 0 where
   pub partition : p < most_partitions
@@ -36,8 +36,8 @@ pub record HasJournal (p : ℕ) (s : RootState) : Type 0 where
   pub fits : IsJournal (pools_seen s.view) s.journal
   pub replayed : s.root ≡ root_replayed (pools_seen s.view) s.journal new_root
 
--- The slots. The seat holds free what was made and is with the root: each slot that was made is free here or out of the root,
--- and what is free here was made and isn't out. It has no handle and no budget.
+-- What is known of slots. The seat holds free what was made and is with the root: each slot that was made is free here or out of the
+-- root, and what is free here was made and isn't out. It has no handle and no budget.
 pub record HoldsMade (s : RootState) : Type 0 where
   pub has : (t : Title) → IsMade s.root t → (0 < free_of s.view t) ⊎ IsOut s.root (name_of t)
   pub made : (t : Title) → 0 < free_of s.view t → IsMade s.root t
@@ -45,8 +45,8 @@ pub record HoldsMade (s : RootState) : Type 0 where
   pub unused : (t : Title) → own_of s.view t + ref_of s.view t ≡ 0
   pub budget : s.view.budget ≡ 0
 
--- The numbers. By its journal the root gives each slot out at the number at which it has it, at first 0; and of each title that
--- its seat holds free, this is the number that the seat has seen.
+-- What is known of numbers. By its journal the root gives each slot out at the number at which it has it, which is 0 at first. Of
+-- each title that its seat holds free, this is the number that the seat has seen.
 pub record KnowsNumbers (s : RootState) : Type 0 where
   pub numbered : (name : SlotName) → IsNumbered (Some 0) (moves_of s.journal name)
   pub known : (t : Title) → 0 < free_of s.view t → at_end (Some 0) (moves_of s.journal (name_of t)) ≡ Some (seen_of s.view t)
@@ -59,8 +59,7 @@ IsInRun first count b = (2097152 * first ≤ b) × (b < 2097152 * (first + count
 abbrev pub IsInMade : Root → ℕ → ℕ → Type 0
 IsInMade r born b = (t : Title) × IsMade r t × (t.born ≡ born) × Covers t b
 
--- The byte b is one of the rest of what entry j of the pool took for the root: it is in that super page and in no slot that was
--- made of it; or in the super pages of that direct map, and not in its slot.
+-- byte b is in the super page that entry j of the pool took for the root, and in no slot that was made of it
 abbrev pub IsInSuperRest : Root → ℕ → ℕ → Type 0
 IsInSuperRest r j b = (at : SuperPage) × Contains r.supers at × (at.born ≡ j) × IsInRun at.number 1 b × (IsInMade r j b → ⊥)
 
@@ -74,13 +73,13 @@ IsInMapRest r j b =
 abbrev pub IsInRest : Root → ℕ → ℕ → Type 0
 IsInRest r j b = IsInSuperRest r j b ⊎ IsInMapRest r j b
 
--- The other bytes. Each byte of the rest is raw, with a floor of at most the index of the entry of the pool that took it; and it
--- is in the rest of one such entry alone.
+-- What is known of the other bytes. Each byte of the rest is raw, with a floor of at most the index of the entry of the pool that
+-- took it, and it is in the rest of one such entry alone.
 pub record HasRest (s : RootState) : Type 0 where
   pub raw : (j b : ℕ) → IsInRest s.root j b → 0 < low_of s.view b j
   pub one : (j k b : ℕ) → IsInRest s.root j b → IsInRest s.root k b → j ≡ k
 
--- the leases of what it has: of each super page, and of each direct map
+-- the root's seat has the leases of what the root has: of each super page, and of each direct map
 pub record KeepsLeases (s : RootState) : Type 0 where
   pub supers : (at : SuperPage) → Contains s.root.supers at → 0 < lease_of s.view at.born
   pub maps : (t : Title) → Contains s.root.maps t → 0 < lease_of s.view t.born
@@ -95,10 +94,10 @@ pub record KnowsMaps (p : ℕ) (s : RootState) : Type 0 where
 -- What the type of the root of partition p keeps.
 --   journal: its journal is its keeper's list, and replays to the root
 --   titles: its seat holds free what was made and isn't out
---   numbers: each at the number that the journal says
+--   numbers: it holds each at the number that the journal says
 --   rest: all other bytes of its super pages are raw
 --   leases: it has the lease of each entry of the pool by which it has super pages
---   maps: each direct map that its journal made is mapped, or its seat uncut it; and the seat has seen its take
+--   maps: each direct map that its journal made is mapped, or its seat uncut it, and its seat has seen the take of each mapped one
 pub record IsRootSound (p : ℕ) (s : RootState) : Type 0 where
   pub journal : HasJournal p s
   pub titles : HoldsMade s

@@ -1,8 +1,8 @@
 -- What keeps a root sound: seeing more, and entries that make and move no slot.
 use Rattle.std.specs.Prelude.{◌≡◌, ℕ, ◌+◌, ◌*◌, ◌<◌, ◌≤◌, ◌↔◌, List, [], ◌∷◌, ◌++◌, length, map, Contains}
-use Rattle.pa_machine.specs.declared.title.Title.{Title}
-use Rattle.pa_machine.specs.declared.word.SlotName.{SlotName}
-use Rattle.pa_machine.specs.Titles.{IsWellFormed}
+use Rattle.pa_slot.specs.declared.title.Title.{Title}
+use Rattle.pa_slot.specs.declared.word.SlotName.{SlotName}
+use Rattle.pa_slot.specs.Titles.{IsWellFormed}
 use Rattle.pa_trace.specs.Limits.{most_partitions}
 use Rattle.pa_region.specs.declared.view.Made.{Made}
 use Rattle.pa_region.specs.declared.view.View.{View}
@@ -39,11 +39,11 @@ pub record IsFirstView (p : ℕ) (v : View) : Type 0 where
 abbrev pub first_state : View → RootState
 first_state v = record { view = v; journal = []; root = new_root }
 
--- it is sound
+-- the state of a new root is sound
 abbrev pub FirstIsSound : Type 0
 FirstIsSound = (p : ℕ) (v : View) → IsFirstView p v → IsRootSound p (first_state v)
 
--- the same root with another view
+-- a root with another view of its seat
 abbrev pub with_view : View → RootState → RootState
 with_view x s = record { view = x; journal = s.journal; root = s.root }
 
@@ -53,7 +53,7 @@ SeeingMoreKeeps =
     (p : ℕ) (s : RootState) (x : View) → IsRootSound p s → IsAware s.view → IsAware x → Keeps s.view x → list_of p x ≡ list_of p s.view →
     IsRootSound p (with_view x s)
 
--- It stays sound if only words of its seat's view are others: records and links.
+-- A root stays sound if only words of its seat's view change: records and links.
 abbrev pub RewritingKeeps : Type 0
 RewritingKeeps = (p : ℕ) (s : RootState) (x : View) → IsRootSound p s → Rewritten s.view x → IsRootSound p (with_view x s)
 
@@ -81,7 +81,7 @@ pub record HasSameSlots (r after : Root) : Type 0 where
   pub supers : after.supers ≡ r.supers
   pub maps : after.maps ≡ r.maps
 
--- So a root stays sound with an entry that moves no slot and leaves the root the same slots: a Full, and a purge.
+-- A root stays sound with an entry that moves no slot and leaves the root the same slots: a Full, and a purge.
 abbrev pub IdleEntriesKeep : Type 0
 IdleEntriesKeep =
     (p : ℕ) (s : RootState) (x : View) (e : RootEntry) → IsRootSound p s → IsAware s.view → IsAware x → Keeps s.view x →
@@ -98,8 +98,8 @@ SeenIsInJournal =
     (p : ℕ) (s : RootState) (list : List Made) (e : RootEntry) → IsRootSound p s → IsBeginning list (list_of p s.view) →
     Contains (map (λ (m : Made). m.numbers) list) (root_numbers e) → Contains s.journal e
 
--- The journal is one of a root with all entries of the pool, if the list that the root's seat has seen of the pool's keeper
--- is a beginning of the pool's list; and it replays to the same root.
+-- If the list that the root's seat has seen of the pool's keeper is a beginning of the pool's list, the journal is one of a root with
+-- all entries of the pool. It replays to the same root.
 abbrev pub JournalsFitPool : Type 0
 JournalsFitPool =
     (p : ℕ) (s : RootState) (list : List Made) (pools : List PoolEntry) → IsRootSound p s → IsBeginning (list_of 4 s.view) list →

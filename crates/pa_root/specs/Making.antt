@@ -1,7 +1,7 @@
 -- What a call of the root ensures for its caller's seat: the entries that were made for it, in the lists of the root and of
 -- the pool, with its stake.
 use Rattle.std.specs.Prelude.{◌≡◌, ℕ, ◌<◌, ◌≤◌, List, [], ◌∷◌, ◌++◌, length}
-use Rattle.pa_machine.specs.declared.title.Title.{Title}
+use Rattle.pa_slot.specs.declared.title.Title.{Title}
 use Rattle.pa_region.specs.declared.view.Entry.{Entry}
 use Rattle.pa_region.specs.declared.view.Entry.TheVariants.{Entered}
 use Rattle.pa_region.specs.declared.view.Made.{Made}

@@ -21,7 +21,7 @@ use Rattle.pa_root.specs.Filling.{HasRunOnly, frees_parcel, GivesTitles}
 use Rattle.pa_root.specs.Cutting.{map_beside}
 
 -- A sound root takes in a note of the super pages for a direct map of this many bytes, which the pool gave for its partition by an
--- entry after those that its seat had seen; and cuts the direct map's title, on which no seat has seen a step. Its seat has the view c
+-- entry after those that its seat had seen. It cuts the direct map's title, on which no seat has seen a step. Its seat has the view c
 -- then.
 pub record IsCutForMap (p first entry len : ℕ) (s : RootState) (w c : View) : Type 0 where
   pub sound : IsRootSound p s
@@ -38,13 +38,14 @@ pub record IsCutForMap (p first entry len : ℕ) (s : RootState) (w c : View) : 
   pub cut_aware : IsAware c
   pub new : seen_of c (map_beside first entry len) ≡ 0
 
--- Then the title can be handed over.
+-- once the title of a direct map was cut, it can be handed over
 abbrev pub MapsHandOut : Type 0
 MapsHandOut =
     (p first entry len : ℕ) (s : RootState) (w c : View) → IsCutForMap p first entry len s w c →
     GivesTitles (map_beside first entry len ∷ []) c
 
--- And the root is sound with the entry that names it, once its seat has handed it over and has made the entry.
+-- A root is sound with the entry that names the title of a direct map, once its seat has handed the title over and has made the
+-- entry.
 abbrev pub MapsKeep : Type 0
 MapsKeep =
     (p line first entry len : ℕ) (s : RootState) (w c x : View) (e : RootEntry) → IsCutForMap p first entry len s w c →

@@ -1,6 +1,6 @@
 -- The steps of a fill: the super page that a root opens for it, the slots that it cuts, and what it hands over.
 use Rattle.std.specs.Prelude.{◌≡◌, ℕ, ◌≤◌, List, [], ◌∷◌, ◌++◌, length, Option, Some, None}
-use Rattle.pa_machine.specs.declared.title.Title.{Title}
+use Rattle.pa_slot.specs.declared.title.Title.{Title}
 use Rattle.pa_region.specs.declared.view.Entry.TheVariants.{Entered}
 use Rattle.pa_region.specs.declared.view.Made.{Made}
 use Rattle.pa_region.specs.declared.view.View.{View}
@@ -26,8 +26,8 @@ use Rattle.pa_root.specs.Laws.{HasEntryMore}
 use Rattle.pa_root.specs.Making.{IsEnteredAt}
 use Rattle.pa_root.specs.Filling.{IsReadyFor, IsCutFor, ready_root, fill_taken, frees_parcel}
 
--- The pool was asked for `count` super pages and had none: entry j of the journal says so and names the pool's, after those that
--- the root's seat had seen. That seat had the view w and has `w_now`, and the journal was js.
+-- The pool was asked for `count` super pages and had none. Entry j of the journal says so and names the pool's entry, which comes
+-- after those that the root's seat had seen. That seat had the view w and has `w_now`, and the journal was js.
 pub record IsRefusedBy (j r p line count : ℕ) (class : Option ℕ) (v after w w_now : View) (js js_now : List RootEntry) : Type 0 where
   pub full : IsFullFor j r p line count class v after
   pub entered : HasEntryMore p (root_entry line (act.Full class full.asked)) w w_now
@@ -38,7 +38,7 @@ pub record IsRefusedBy (j r p line count : ℕ) (class : Option ℕ) (v after w 
   pub aware : IsAware w
   pub now_aware : IsAware w_now
 
--- why there are no super pages: none are free; or it ran out of memory, and nothing changed
+-- Why the root got no super pages. None are free, as entry j of the journal says, or it ran out of memory, and nothing changed.
 abbrev pub RefusesRoom :
     (r p line count : ℕ) → Option ℕ → (seat seat_now own own_now : Share) → (js js_now : List RootEntry) → FillFault → Type 0
 RefusesRoom r p line count class a b w w_now js js_now (Full j) =
@@ -49,15 +49,15 @@ RefusesRoom r p line count class a b w w_now js js_now OutOfMemory = (b ≡ a) �
 abbrev pub root_of_parts : View → List RootEntry → Root → RootState
 root_of_parts v journal r = record { view = v; journal = journal; root = r }
 
--- What the caller's seat knows once a root is ready for a fill: the pool's entry that was made for it, if it was asked; and
--- nothing has changed if it wasn't.
+-- What the caller's seat knows once the pool was asked for a root that is to fill: the pool gave a super page by entry `index`, which
+-- was made with the stake r.
 pub record PoolGave (r p line index : ℕ) (v after : View) : Type 0 where
   pub first : ℕ
   pub made : Made
   pub is_made : IsEnteredAt index r 4 (pool_numbers (take_entry line p 1 (Some first))) v after made
   pub lends : Lends r (Entered 4 made ∷ []) v after
 
--- if the pool was asked, it gave a super page by its entry of that index; if not, the caller's view is as it was
+-- if the pool was asked, it gave a super page by its entry of that index, and if not, the caller's view is as it was
 abbrev pub AskedIf : (r p line : ℕ) → Option ℕ → View → View → Type 0
 AskedIf r p line None v after = after ≡ v
 AskedIf r p line (Some index) v after = PoolGave r p line index v after

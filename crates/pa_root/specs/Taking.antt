@@ -1,6 +1,6 @@
 -- Slots of a class that are taken from a root that is shown: what that needs, and what it leaves.
 use Rattle.std.specs.Prelude.{◌≡◌, ℕ, ◌<◌, ◌⊎◌, List, [], Option, Some, None}
-use Rattle.pa_machine.specs.declared.title.Title.{Title}
+use Rattle.pa_slot.specs.declared.title.Title.{Title}
 use Rattle.pa_region.specs.declared.view.View.{View}
 use Rattle.pa_region.specs.Views.{free_of}
 use Rattle.pa_record.specs.Spans.{Span, title_at, name_of}
@@ -13,7 +13,7 @@ use Rattle.pa_root.specs.Keeping.{HasRest}
 use Rattle.pa_root.specs.Cutting.{titles_beside, NoneSeen}
 use Rattle.pa_root.specs.Filling.{CanCutAll, MakesMore, after_cuts}
 
--- the slots that are cut before one is taken from a span; and from the one that was found
+-- the slots that are cut before one is taken from a span
 abbrev pub titles_new_in : Span → List Title
 titles_new_in s = titles_beside (title_at s s.made) 0 (count_cut s.free s)
 
@@ -34,7 +34,7 @@ pub record CanTakeOne (class : ℕ) (v : View) (l : ShelfParts) (r : Root) : Typ
   pub able : CanCutAll (cut_for (span_for class r)) v
 
 -- One take gave this slot, or none, and the root after it is shown. The slots that are new were cut, and nobody had seen a step on
--- them; else only words changed.
+-- them. Else only words changed.
 pub record IsOneTaken (class : ℕ) (r : Root) (v w : View) (l : ShelfParts) (title : Option Title) : Type 0 where
   pub title_is : title ≡ (one_take class r).title
   pub shown : ShowsRoot w l (one_take class r).root
@@ -48,8 +48,8 @@ pub record CanTakeSlots (v : View) (l : ShelfParts) (r : Root) : Type 0 where
   pub has : HasMade v r
   pub rest : HasRest (record { view = v; journal = []; root = r })
 
--- So many takes gave these slots, and the root after them is shown. The slots that are new were cut, each once, and nobody had seen
--- a step on them; else only words changed.
+-- `want` takes gave these slots, and the root after them is shown. The slots that are new were cut, each once, and nobody had seen a
+-- step on them. Else only words changed.
 pub record AreSlotsTaken (class want : ℕ) (r : Root) (v w : View) (l : ShelfParts) (titles : List Title) : Type 0 where
   pub new : List Title
   pub titles_are : titles ≡ (takes class want r).titles

@@ -1,8 +1,8 @@
--- A title that is uncut with a lent stake; and seats that show each other what they have seen.
+-- A title that is uncut with a lent stake, and seats that show each other what they have seen.
 use Rattle.std.specs.Prelude.{◌≡◌, ℕ, ◌+◌, ◌<◌, ◌≤◌, [], ◌∷◌, slice_index}
-use Rattle.pa_machine.specs.declared.title.Title.{Title}
-use Rattle.pa_machine.specs.Titles.{same_title, Covers, IsWellFormed}
-use Rattle.pa_machine.specs.Holdings.{one}
+use Rattle.pa_slot.specs.declared.title.Title.{Title}
+use Rattle.pa_slot.specs.Titles.{same_title, Covers, IsWellFormed}
+use Rattle.pa_slot.specs.Holdings.{one}
 use Rattle.pa_region.specs.declared.view.Entry.TheVariants.{Uncut}
 use Rattle.pa_region.specs.declared.view.View.{View}
 use Rattle.pa_region.specs.Views.{Knows, free_of, own_of, ref_of, low_of, stake_of, undone_of, seen_of}
@@ -30,7 +30,7 @@ pub record IsUncut (t : Title) (v after : View) : Type 0 where
   pub undone : (o : Title) → undone_of after o ≡ undone_of v o + one (same_title t o)
   pub words : (q : ℕ) → Knows v q → slice_index after.words q ≡ slice_index v.words q
 
--- it was uncut in the host's view, with the lender's stake r, and that stake's log says so
+-- the title was uncut in the host's view, with the lender's stake r, and that stake's log says so
 pub record IsUncutWith (r : ℕ) (t : Title) (lender lender_now host host_now : View) : Type 0 where
   pub lends : Lends r (Uncut t ∷ []) lender lender_now
   pub uncut : IsUncut t host host_now

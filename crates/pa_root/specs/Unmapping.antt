@@ -1,6 +1,6 @@
 -- Direct maps that come back to a root.
 use Rattle.std.specs.Prelude.{◌≡◌, ℕ, ◌+◌, ◌≤◌, ◌⊎◌, List, [], ◌∷◌, ◌++◌, length, Contains}
-use Rattle.pa_machine.specs.declared.title.Title.{Title}
+use Rattle.pa_slot.specs.declared.title.Title.{Title}
 use Rattle.pa_layout.specs.Pages.{page_place, supers_for}
 use Rattle.pa_region.specs.declared.view.View.{View}
 use Rattle.pa_region.specs.Lists.{list_of}
@@ -51,7 +51,7 @@ pub record MapComesBack (p : ℕ) (s : RootState) (w : View) (t : Title) : Type 
   pub has : HasOnly (t ∷ []) w
   pub named : HasSeenMap p w t
 
--- Then the root still has it mapped: if it had uncut it, its seat would hold no such title.
+-- If the title of a direct map comes back, the root still has it mapped. Had it uncut the title, its seat would hold no such title.
 abbrev pub WhatComesIsMapped : Type 0
 WhatComesIsMapped = (p : ℕ) (s : RootState) (w : View) (t : Title) → MapComesBack p s w t → Contains s.root.maps t
 
@@ -69,17 +69,18 @@ pub record IsCutBack (p first : ℕ) (s : RootState) (w c : View) (t : Title) : 
   pub uncut : IsUncut t (united s.view w) c
   pub cut_aware : IsAware c
 
--- Then the super pages can be handed over as raw bytes with the lease of the entry that took them, with floors of at most the index after that entry's.
+-- The super pages of a direct map that was uncut can be handed over as raw bytes with the lease of the entry that took them, with
+-- floors of at most the index after that entry's.
 pub record HandsBack (first : ℕ) (t : Title) (c : View) : Type 0 where
   pub can : CanHand (run_parcel first (supers_for t.len) t.born) c
   pub has : HasRunOnly first (supers_for t.len) (t.born + 1) t.born (given_after (run_parcel first (supers_for t.len) t.born) c)
 
--- once its title came back and was uncut, a direct map's super pages can be handed back so
+-- once its title came back and was uncut, a direct map's super pages can be handed back
 abbrev pub UnmapsHandBack : Type 0
 UnmapsHandBack = (p first : ℕ) (s : RootState) (w c : View) (t : Title) → IsCutBack p first s w c t → HandsBack first t c
 
--- And the root is sound with the entry that names the title, at the number that the note had seen, once its seat has handed the
--- super pages over, has seen the pool's entry that gave them back, after those that it had seen, and has made the entry.
+-- A root is sound with the entry that names the title that came back, at the number that the note had seen, once its seat has handed
+-- the super pages over, has seen the pool's entry that gave them back, after those that it had seen, and has made the entry.
 abbrev pub UnmapsKeep : Type 0
 UnmapsKeep =
     (p line first asked : ℕ) (s : RootState) (w c x : View) (t : Title) (e : RootEntry) → IsCutBack p first s w c t →

@@ -4,9 +4,9 @@ ghost use Rattle.pa_record.specs.Numbers.{root_numbers};
 ghost use Rattle.pa_region.specs.Aware.{IsAware};
 ghost use Rattle.pa_region.specs.Lending.{CanLend, HostsKeeper, MakesEntry};
 
-use pa_machine::OutOfMemory;
 use pa_record::{RootEntry, root_numbers};
 use pa_region::{Region, Seat, enter_with};
+use pa_slot::OutOfMemory;
 
 // The most members of a list.
 const MOST_MEMBERS: usize = 2_147_483_647;

@@ -7,9 +7,9 @@ ghost use Rattle.pa_region.specs.Lending.{CanLend, Lends};
 ghost use Rattle.pa_root.specs.Asking.{IsAskedFor, IsRunNote};
 
 use crate::lends::show_seen;
-use pa_machine::OutOfMemory;
 use pa_pool::{Pool, PoolFault};
 use pa_region::{Name, Note, Region, Seat};
+use pa_slot::OutOfMemory;
 use std::marker::PhantomData;
 use std::sync::{Mutex, Wait};
 

@@ -14,9 +14,10 @@ use crate::asks::Asking;
 use crate::lends::{show_seen, uncut_with};
 use crate::numbers::number_seen;
 use pa_layout::{PARTITION_PAGE, SUPER_PAGE, supers_for};
-use pa_machine::{Item, Title};
+use pa_machine::Item;
 use pa_pool::Pool;
 use pa_region::{Mark, Name, Note, Region, Seat};
+use pa_slot::Title;
 
 // Shows the seat what the root's has seen, takes in the note, and uncuts its title with the seat's least stake. It returns
 // the title's number.
@@ -72,7 +73,7 @@ pub(crate) fn hand_map(region: &Region, seat: &mut Seat, title: Title) -> Note
 
 impl<N: Name> Asking<'_, N> {
     // Gives super pages back to the pool, which its entry `taken` took for the partition, by the op of the line with the seat's
-    // least stake; shows the root's seat the new entry, and returns its index.
+    // least stake. It shows the root's seat the new entry, and returns its index.
     pub(crate) fn give_run(
         &mut self,
         root: &mut Seat,

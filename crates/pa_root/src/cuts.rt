@@ -7,8 +7,8 @@ ghost use Rattle.pa_root.specs.Keeping.{IsInRun};
 ghost use Rattle.pa_root.specs.Filling.{CanCutAll, after_cuts};
 ghost use Rattle.pa_root.specs.Cutting.{titles_beside, NoneSeen, map_beside};
 
-use pa_machine::Title;
 use pa_region::{Region, Seat};
+use pa_slot::Title;
 
 /// Cuts `count` titles out of raw bytes, side by side, from the first one on. No seat has seen a step on any of them.
 pub fn cut_beside(region: &Region, seat: &mut Seat, first: Title, count: u32)

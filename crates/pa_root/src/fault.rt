@@ -1,4 +1,4 @@
-use pa_machine::OutOfMemory;
+use pa_slot::OutOfMemory;
 
 /// Why a root gave no slot.
 #[derive(Clone, Copy, Debug, PartialEq, Eq)]

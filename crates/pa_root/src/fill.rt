@@ -14,11 +14,11 @@ use crate::root::{Ledger, Root};
 use crate::takes::take_out;
 use arrayvec::ArrayVec;
 use pa_buckets::{Class, fill_count};
-use pa_machine::Title;
 use pa_pool::Pool;
 use pa_record::{RootAct, RootEntry};
 use pa_region::{Name, Note, Region, Seat};
 use pa_shelf::Shelf;
+use pa_slot::Title;
 use std::marker::PhantomData;
 use std::sync::{Mutex, Wait};
 

@@ -4,8 +4,8 @@ ghost use Rattle.pa_region.specs.Views.{free_of, least_stake};
 ghost use Rattle.pa_region.specs.Lending.{CanLend, CanHost};
 ghost use Rattle.pa_root.specs.Uncutting.{IsUncutWith, IsShown};
 
-use pa_machine::Title;
 use pa_region::{Region, Seat, lend_stake};
+use pa_slot::Title;
 
 /// Uncuts the host's free title, with the lender's least stake, so that its log says so. The stake is lent to the host
 /// and comes back.

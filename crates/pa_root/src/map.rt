@@ -11,10 +11,11 @@ use crate::cuts::cut_map;
 use crate::fault::FillFault;
 use crate::root::Root;
 use pa_direct::Shape;
-use pa_machine::{Item, SlotName, Title};
+use pa_machine::Item;
 use pa_pool::Pool;
 use pa_record::{RootAct, RootEntry};
 use pa_region::{Name, Note, Region, Seat};
+use pa_slot::{SlotName, Title};
 use std::marker::PhantomData;
 use std::sync::{Mutex, Wait};
 

@@ -3,9 +3,9 @@ ghost use Rattle.std.specs.Prelude.{◌≡◌, ◌<◌, ◌≤◌, All, length};
 ghost use Rattle.pa_region.specs.Views.{free_of, seen_of};
 ghost use Rattle.pa_root.specs.Handing.{numbered_by};
 
-use pa_machine::{SlotName, Title, Word, number};
 use pa_record::{Batch, Numbered};
 use pa_region::{Region, Seat};
+use pa_slot::{SlotName, Title, Word, number};
 
 /// The number of a free title's count word, which is the one that its seat has seen.
 pub fn number_seen(region: &Region, seat: &mut Seat, title: Title) -> u64

@@ -14,10 +14,10 @@ use crate::append::{append, make_room};
 use crate::lends::show_seen;
 use crate::numbers::numbers_seen;
 use arrayvec::ArrayVec;
-use pa_machine::{OutOfMemory, Title};
 use pa_record::{Census, RootAct, RootEntry};
 use pa_region::{Name, Note, Region, Seat};
 use pa_shelf::Shelf;
+use pa_slot::{OutOfMemory, Title};
 use std::alloc::Global;
 use std::marker::{Model, PhantomData};
 

@@ -2,7 +2,8 @@
 ghost use Rattle.std.specs.Prelude.{◌≡◌, ◌≤◌, length, map, take};
 ghost use Rattle.pa_root.specs.Filling.{free_item};
 
-use pa_machine::{Item, Title};
+use pa_machine::Item;
+use pa_slot::Title;
 
 // The first `titles.len()` items are these titles as free ones, which can be handed over.
 pub(crate) fn free_items(titles: &[Title]) -> [Item; 16]

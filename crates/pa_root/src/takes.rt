@@ -14,10 +14,10 @@ use crate::numbers::numbers_seen;
 use crate::slots::free_items;
 use arrayvec::ArrayVec;
 use pa_buckets::Class;
-use pa_machine::Title;
 use pa_record::Batch;
 use pa_region::{Note, Region, Seat};
 use pa_shelf::Shelf;
+use pa_slot::Title;
 
 // Takes a slot of the class, and cuts before it those of its span that are new. `None` if the pool has to be asked.
 fn take_one(shelf: &mut Shelf, region: &Region, own: &mut Seat, class: Class) -> Option<Title>

@@ -9,10 +9,10 @@ use crate::append::{append, make_room};
 use crate::asks::Asking;
 use crate::backs::{hand_map, take_title};
 use crate::root::Root;
-use pa_machine::{SlotName, Title};
 use pa_pool::Pool;
 use pa_record::{Numbered, RootAct, RootEntry};
 use pa_region::{Name, Note, Region, Seat};
+use pa_slot::{SlotName, Title};
 use std::marker::PhantomData;
 use std::sync::{Mutex, Wait};
 

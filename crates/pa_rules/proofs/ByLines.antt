@@ -3,7 +3,7 @@ use Rattle.std.proofs.Common.{◌≡◌, ℕ, ◌+◌, Bool, cond, List, [], ◌
 use Rattle.std.specs.Prelude.{Contains, AllPairs, ◌==◌, nat_le}
 use Rattle.std.proofs.lemmas.Bool.{cases_Bool, eq-eqb, ne_eqb, le-leb, leb-true}
 use Rattle.std.proofs.lemmas.List.Elements.{All-contains}
-use Rattle.pa_machine.specs.declared.word.SlotName.{SlotName}
+use Rattle.pa_slot.specs.declared.word.SlotName.{SlotName}
 use Rattle.pa_record.specs.declared.root.RootEntry.{RootEntry}
 use Rattle.pa_record.specs.declared.root.RootAct.{RootAct}
 use Rattle.pa_record.specs.Laws.{times, leaves_by, comes_by, times_left, times_back}
@@ -76,7 +76,8 @@ over_hit f e (y ∷ ys) x h among same = elim (in_cases y x ys among) [
       omega arith
 ]
 
--- the entries of a list have the line of one of these records each, those after it of none
+-- on the lines of these records the entries weigh what the list weighs, if each entry of it has the line of one of them and no
+-- entry after it has
 by_lines : (f : RootAct → ℕ) (es rest : List RootEntry) (xs : List Played) → AllPairs OtherRecord xs → ((e : RootEntry) → Contains es e → (x : Played) × Contains xs x × (e.line ≡ x.line))
     → ((e : RootEntry) (x : Played) → Contains rest e → Contains xs x → e.line ≡ x.line → ⊥) → over (λ line. weigh f (acts_at (es ++ rest) line)) xs ≡ weight f es
 by_lines f [] [] xs h each none = over_none (λ line. 0) xs (λ x among. refl)
@@ -106,7 +107,7 @@ pub record IsFront (xs : List Played) (journal front : List RootEntry) : Type 0 
   pub each : (e : RootEntry) → Contains front e → (x : Played) × Contains xs x × (e.line ≡ x.line)
   pub none : (e : RootEntry) (x : Played) → Contains rest e → Contains xs x → e.line ≡ x.line → ⊥
 
--- so do those up to the end of a phase
+-- the entries of a journal up to the end of a phase are a front of it, by the records up to there
 pub until_front : (ps : List Played) (phase : ℕ) (journal before : List RootEntry) → AllPairs OtherRecord ps → AreUntil ps phase journal before → IsFront (until phase ps) journal before
 until_front ps phase journal before h u = record {
   rest = u.rest;

@@ -4,8 +4,8 @@ use Rattle.std.specs.Prelude.{nat_lt}
 use Rattle.std.proofs.lemmas.Bool.{cases_Bool, cases_eq, eq-eqb, ne_eqb}
 use Rattle.std.proofs.lemmas.List.{take-append-drop, length-drop}
 use Rattle.std.proofs.lemmas.List.Sums.{sum_by-cons}
-use Rattle.pa_machine.specs.declared.word.SlotName.{SlotName}
-use Rattle.pa_machine.specs.Run.{same_slot}
+use Rattle.pa_slot.specs.declared.word.SlotName.{SlotName}
+use Rattle.pa_slot.specs.Run.{same_slot}
 use Rattle.pa_buckets.specs.Bands.{limit_of}
 use Rattle.pa_record.specs.declared.numbered.Numbered.{Numbered}
 use Rattle.pa_record.specs.declared.root.RootAct.{RootAct}
@@ -117,13 +117,15 @@ listed_none s f from (suc n) none =
     let ih = listed_none s f (from + 1) n none in
     omega arith
 
--- a list that was changed, and the others
+-- the list that was changed is the new one
 pub list_changed : (cache : Cache) (p class : ℕ) (xs : List Numbered) → with_list cache p class xs p class ≡ xs
 list_changed cache p class xs = rw (eq-eqb p p refl, eq-eqb class class refl) refl
 
+-- the list of another class stays as it was
 pub list_of_another_class : (cache : Cache) (p class : ℕ) (xs : List Numbered) (c : ℕ) → (c ≡ class → ⊥) → with_list cache p class xs p c ≡ cache p c
 list_of_another_class cache p class xs c ne = rw (eq-eqb p p refl, ne_eqb c class ne) refl
 
+-- the lists of another partition stay as they were
 pub list_of_another : (cache : Cache) (p class : ℕ) (xs : List Numbered) (q c : ℕ) → (q ≡ p → ⊥) → with_list cache p class xs q c ≡ cache q c
 list_of_another cache p class xs q c ne = rw (ne_eqb q p ne) refl
 

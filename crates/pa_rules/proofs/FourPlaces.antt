@@ -4,11 +4,11 @@ use Rattle.std.specs.Prelude.{Contains, AllPairs, All}
 use Rattle.std.proofs.lemmas.Bool.{cases_eq}
 use Rattle.std.proofs.lemmas.List.Elements.{All-filter, All-head, All-tail, Contains-append_left}
 use Rattle.std.proofs.lemmas.List.Kept.{AllPairs-filter}
-use Rattle.pa_machine.specs.declared.word.SlotName.{SlotName}
-use Rattle.pa_machine.specs.Count.{held_of, refs_of}
-use Rattle.pa_machine.specs.Run.{Slots, IsLive, IsQuarantined}
-use Rattle.pa_machine.proofs.Arith.{held_small}
-use Rattle.pa_machine.proofs.Runs.{same_slot_cases}
+use Rattle.pa_slot.specs.declared.word.SlotName.{SlotName}
+use Rattle.pa_slot.specs.Count.{held_of, refs_of}
+use Rattle.pa_slot.specs.Run.{Slots, IsLive, IsQuarantined}
+use Rattle.pa_slot.proofs.Arith.{held_small}
+use Rattle.pa_slot.proofs.Runs.{same_slot_cases}
 use Rattle.pa_buckets.specs.Table.{slot_of}
 use Rattle.pa_record.specs.declared.pool.PoolEntry.{PoolEntry}
 use Rattle.pa_record.specs.declared.root.RootEntry.{RootEntry}
@@ -55,7 +55,7 @@ pub record Given (supers partitions threads p : ℕ) (ps : List Played) (pools :
 abbrev pub HasLeft : Journals → ℕ → SlotName → Type 0
 HasLeft roots p s = (e : RootEntry) × Contains (roots p) e × Contains (leaves_by e.act) s
 
--- a slot that is out is cached or in use, once; another is neither
+-- a slot that is out is cached or in use once, and another one never
 abbrev pub IsOnce : Root → SlotName → ℕ → Type 0
 IsOnce r s n = (IsNameOut r s × (n ≡ 1)) ⊎ ((IsNameOut r s → ⊥) × (n ≡ 0))
 

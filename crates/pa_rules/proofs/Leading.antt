@@ -1,6 +1,6 @@
 -- A row changes the registers as the answer says, and a step that was done is of the slot that the register names.
 use Rattle.std.proofs.Common.{◌≡◌, ℕ, List, Option, Some, None, refl, sym, ◌∙◌, ap, subst, inl, inr, [], ◌∷◌, ◌++◌}
-use Rattle.pa_machine.specs.declared.word.SlotName.{SlotName}
+use Rattle.pa_slot.specs.declared.word.SlotName.{SlotName}
 use Rattle.pa_trace.specs.declared.script.Op.{Op}
 use Rattle.pa_trace.specs.declared.script.Op.TheVariants as ops
 use Rattle.pa_record.specs.declared.entry.Seen.{Seen}
@@ -195,3 +195,12 @@ rows_cut facts all [] rest after h = (all, refl, h)
 rows_cut facts all (p ∷ before) rest after (next, row, more) =
     let (mid, first, second) = rows_cut facts (with_thread all p.thread next) before rest after more in
     (mid, (next, row, first), second)
+
+-- the registers that a list of records leads to are one
+pub rows_one : (facts : Facts) (all after other : AllRegs) (ps : List Played) → RowsTo facts all ps after → RowsTo facts all ps other → after ≡ other
+rows_one facts all after other [] h k = h ∙ sym k
+rows_one facts all after other (p ∷ ps) (next, row, more) (next', row', more') =
+    let one = (row_leads facts p.op (all p.thread) p.answer next row).registers in
+    let two = (row_leads facts p.op (all p.thread) p.answer next' row').registers in
+    let same : next' ≡ next = λ i r. (two r ∙ sym (one r)) i in
+    rows_one facts (with_thread all p.thread next) after other ps more (subst (λ (z : Regs). RowsTo facts (with_thread all p.thread z) ps other) same more')

@@ -29,6 +29,7 @@ lines_phases n phase (Do t o ∷ ls) a b (suc i, c, e) (zero, d, f) lt =
 lines_phases n phase (Do t o ∷ ls) a b (suc i, c, e) (suc j, d, f) lt =
     lines_phases (n + 1) phase ls a b (i, omega (arith, c), e) (j, omega (arith, d), f) lt
 
+-- a line that begins a phase is no op line
 pub lines_phase : (n phase : ℕ) (ls : List Line) → op_lines n phase (ls ++ Phase ∷ []) ≡ op_lines n phase ls
 lines_phase n phase [] = refl
 lines_phase n phase (Phase ∷ ls) = lines_phase (n + 1) (phase + 1) ls
@@ -44,6 +45,12 @@ abbrev pub phase_after : ℕ → List Line → ℕ
 phase_after phase [] = phase
 phase_after phase (Phase ∷ ls) = phase_after (phase + 1) ls
 phase_after phase (Do thread op ∷ ls) = phase_after phase ls
+
+-- the phase never falls
+pub phase_on : (phase : ℕ) (ls : List Line) → phase ≤ phase_after phase ls
+phase_on phase [] = omega arith
+phase_on phase (Phase ∷ ls) = omega (arith, phase_on (phase + 1) ls)
+phase_on phase (Do thread op ∷ ls) = phase_on phase ls
 
 -- an op line more, and one more phase
 pub lines_push : (n phase : ℕ) (ls : List Line) (thread : ℕ) (op : Op)

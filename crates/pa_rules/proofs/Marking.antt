@@ -1,6 +1,6 @@
 -- A record's mark has the record's line.
 use Rattle.std.proofs.Common.{◌≡◌, ℕ, Option, Some, None, ap, sym, arith, ◌≤◌, ◌∙◌, refl}
-use Rattle.pa_machine.specs.Run.{Mark}
+use Rattle.pa_slot.specs.Run.{Mark}
 use Rattle.pa_trace.specs.declared.script.Op.{Op}
 use Rattle.pa_record.specs.declared.entry.Seen.{Seen}
 use Rattle.pa_record.specs.declared.entry.Answer.{Answer}
@@ -8,9 +8,9 @@ use Rattle.pa_record.specs.declared.entry.Answer.TheVariants as answers
 use Rattle.pa_lists.proofs.Members.{of_some, not_some}
 use Rattle.pa_rules.specs.declared.played.Played.{Played}
 use Rattle.pa_rules.specs.Played.{mark_of, mark_of_answer, mark_at, look_at, step_of}
-use Rattle.pa_machine.specs.Count.{number_of}
+use Rattle.pa_slot.specs.Count.{number_of}
 use Rattle.pa_rules.specs.Seen.{left_number}
-use Rattle.pa_machine.specs.declared.word.Step.{Step}
+use Rattle.pa_slot.specs.declared.word.Step.{Step}
 use Rattle.pa_record.specs.declared.entry.Answer.TheVariants.{Value}
 
 look_line : (line : ℕ) (o : Option Seen) (m : Mark) → look_at line o ≡ Some m → m.line ≡ line

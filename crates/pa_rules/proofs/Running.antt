@@ -3,13 +3,13 @@ use Rattle.std.proofs.Common.{◌≡◌, ◌≢◌, ℕ, ◌+◌, ◌<◌, ◌�
 use Rattle.std.specs.Prelude.{Contains, AllPairs, count_by, ◌==◌}
 use Rattle.std.proofs.lemmas.Bool.{cases_Bool, cases_eq, cases_lt, eq-eqb, ne_eqb, and_parts, le-leb, lt-leb, leb-true, false≢true, false_from_ne_true}
 use Rattle.std.proofs.lemmas.List.Sums.{sum_by-cons}
-use Rattle.pa_machine.specs.declared.word.SlotName.{SlotName}
-use Rattle.pa_machine.specs.declared.word.Step.{Step}
-use Rattle.pa_machine.specs.declared.word.Step.TheVariants.{Issue, Copy, Reset, Free, Write}
-use Rattle.pa_machine.specs.Count.{CanStep, stepped, number_of, held_of, refs_of}
-use Rattle.pa_machine.specs.Run.{Mark, IsFirstAt, IsRunFrom, IsOneRun, same_slot}
-use Rattle.pa_machine.proofs.Arith.{stepped_is}
-use Rattle.pa_machine.proofs.Runs.{same_slot_eq, same_slot_yes, number_stepped}
+use Rattle.pa_slot.specs.declared.word.SlotName.{SlotName}
+use Rattle.pa_slot.specs.declared.word.Step.{Step}
+use Rattle.pa_slot.specs.declared.word.Step.TheVariants.{Issue, Copy, Reset, Free, Write}
+use Rattle.pa_slot.specs.Count.{CanStep, stepped, number_of, held_of, refs_of}
+use Rattle.pa_slot.specs.Run.{Mark, IsFirstAt, IsRunFrom, IsOneRun, same_slot}
+use Rattle.pa_slot.proofs.Arith.{stepped_is}
+use Rattle.pa_slot.proofs.Runs.{same_slot_eq, same_slot_yes, number_stepped}
 use Rattle.pa_lists.proofs.Members.{not_in_none, first_in, later_in, in_cases, of_some}
 use Rattle.pa_lists.proofs.Elements.{in_one}
 use Rattle.pa_lists.proofs.Pairs.{pairs_none, pairs_cons, pairs_head, pairs_tail}
@@ -82,7 +82,7 @@ count_none f (m ∷ ms) h =
     let ih = count_none f ms (λ n among. h n (later_in m n ms among)) in
     omega arith
 
--- those that pass and found this number or a later one
+-- the test whether a mark passes and found this number or a later one
 abbrev from : ℕ → (Mark → Bool) → Mark → Bool
 from k f m = leb k (number_of m.found) && f m
 
@@ -259,7 +259,7 @@ same_word ms s u (v ∷ vs) x y (m, p, at, can, is, rest) first second e =
 abbrev IsOfSteps : SlotName → (Mark → Bool) → Type 0
 IsOfSteps s f = (m : Mark) → f m ≡ true → (m.slot ≡ s) × (p : Step) × (m.step ≡ Some p)
 
--- so are those that make a step that passes
+-- the marks of slot s that make a step that passes are marks of its steps
 so_steps : (test : Step → ℕ → Bool) (s : SlotName) → IsOfSteps s (steps_so test s)
 so_steps test s m e =
     let (a, b) = and_parts _ _ e in

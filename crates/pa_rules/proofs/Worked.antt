@@ -1,6 +1,6 @@
 -- The caches of the worked purge.
 use Rattle.std.proofs.Common.{◌≡◌, ℕ, zero, suc, ◌<◌, List, [], ◌∷◌, length, Some, None, refl, arith, inl, lit<}
-use Rattle.pa_machine.specs.declared.word.Step.TheVariants as steps
+use Rattle.pa_slot.specs.declared.word.Step.TheVariants as steps
 use Rattle.pa_buckets.specs.Table.{rows, row_of, slot_of, pages_of, slots_of}
 use Rattle.pa_buckets.specs.Bands.{limit_of, fill_of}
 use Rattle.pa_buckets.specs.Classes.{IsClassOf}

@@ -1,9 +1,9 @@
 -- The caches of the threads: for each partition and class a list of free slots, front first.
 use Rattle.std.specs.Prelude.{◌≡◌, ℕ, zero, suc, ◌+◌, ◌/◌, ◌<◌, ◌==◌, ◌&&◌, nat_lt, if◌then◌else◌, ◌⊎◌, List, [], ◌∷◌, ◌++◌, map, length, take, drop, Option, Some, None, Contains, filter}
-use Rattle.pa_machine.specs.declared.word.SlotName.{SlotName}
-use Rattle.pa_machine.specs.declared.word.Step.{Step}
-use Rattle.pa_machine.specs.Count.{number_of}
-use Rattle.pa_machine.specs.Run.{IsReturning}
+use Rattle.pa_slot.specs.declared.word.SlotName.{SlotName}
+use Rattle.pa_slot.specs.declared.word.Step.{Step}
+use Rattle.pa_slot.specs.Count.{number_of}
+use Rattle.pa_slot.specs.Run.{IsReturning}
 use Rattle.pa_buckets.specs.Limits.{class_count}
 use Rattle.pa_buckets.specs.Bands.{limit_of}
 use Rattle.pa_record.specs.declared.entry.Seen.{Seen}
@@ -38,7 +38,7 @@ SameLists after cache = (p c : ℕ) → after p c ≡ cache p c
 abbrev pub acts_of : Journals → ℕ → ℕ → List RootAct
 acts_of roots line p = map (λ (e : RootEntry). e.act) (filter (λ (e : RootEntry). e.line == line) (roots p))
 
--- the entries of the line are these of partition p, and none of another; are none
+-- the entries of the line are these in partition p's journal, and none in any other
 abbrev pub OnlyActs : Journals → ℕ → ℕ → List RootAct → Type 0
 OnlyActs roots line p acts = (acts_of roots line p ≡ acts) × ((q : ℕ) → (q ≡ p → ⊥) → acts_of roots line q ≡ [])
 
@@ -52,11 +52,11 @@ batches zero xs = []
 batches (suc n) [] = []
 batches (suc n) (x ∷ xs) = Give (take 16 (x ∷ xs)) ∷ batches n (drop 16 (x ∷ xs))
 
--- the gives by which a whole list goes back, in order; none for an empty list
+-- the gives by which a whole list goes back, in order, and none for an empty list
 abbrev pub gives : List Numbered → List RootAct
 gives xs = batches (length xs) xs
 
--- the slot is one of partition p's of the class, which a fill gave; a direct map of partition p
+-- a fill of this class in partition p's journal gave the slot
 abbrev pub IsOfClass : Journals → SlotName → ℕ → ℕ → Type 0
 IsOfClass roots s p class =
     (e : RootEntry) × (asked : Option ℕ) × (slots : List Numbered) × Contains (roots p) e × (e.act ≡ Fill class asked slots)
@@ -66,24 +66,26 @@ IsOfClass roots s p class =
 abbrev pub IsDirect : Journals → SlotName → ℕ → Type 0
 IsDirect roots s p = (e : RootEntry) × (asked len : ℕ) × Contains (roots p) e × (e.act ≡ Map asked s len)
 
--- The front of a list is the slot that was made, at the number that was found. An empty list is filled first.
+-- the front of a list is the slot that was made, at the number that was found, and `rest` comes after it
 abbrev pub FrontIs : Seen → List Numbered → List Numbered → Type 0
 FrontIs seen xs rest = xs ≡ record { slot = seen.slot; number = number_of seen.found.0 } ∷ rest
 
--- what the list has when its front is taken: an empty one has the slots of a fill, the only entry of the line; another is as
--- it was, and the line has no entry
+-- what the list has when its front is taken: an empty one has the slots of a fill, which is the line's only entry, and any
+-- other is as it was, and no entry is of the line
 abbrev pub FilledFirst : Journals → ℕ → ℕ → ℕ → List Numbered → List Numbered → Type 0
 FilledFirst roots line p class [] xs = (asked : Option ℕ) × OnlyActs roots line p (Fill class asked xs ∷ [])
 FilledFirst roots line p class (y ∷ ys) xs = (xs ≡ y ∷ ys) × NoActs roots line
 
--- a slot of a class was made: the front leaves its list; a direct map was made: one Map of it
+-- A slot was made. If it is of a class, it was the front of its list and leaves it. If it is a direct map, one Map of it is the
+-- line's only entry, and the lists stay as they were.
 abbrev pub MadeRow : Journals → Played → Seen → Cache → Cache → Type 0
 MadeRow roots x seen cache after =
     ((p class : ℕ) × (xs rest : List Numbered) × AsksForClass x.op p class × FilledFirst roots x.line p class (cache p class) xs
     × FrontIs seen xs rest × SameLists after (with_list cache p class rest))
     ⊎ ((p size asked len : ℕ) × AsksForMap x.op p size × OnlyActs roots x.line p (Map asked seen.slot len ∷ []) × SameLists after cache)
 
--- there was no room: one Full; for a class the list is empty
+-- there was no room for a class with an empty list, or for a direct map: one Full is the line's only entry, and the lists stay
+-- as they were
 abbrev pub FullRow : Journals → Played → Cache → Cache → Type 0
 FullRow roots x cache after =
     ((p class asked : ℕ) × AsksForClass x.op p class × (cache p class ≡ []) × OnlyActs roots x.line p (Full (Some class) asked ∷ [])
@@ -102,8 +104,8 @@ spilled class xs = if nat_lt (limit_of class) (length xs) then drop (limit_of cl
 abbrev pub unmap_at : ℕ → SlotName → ℕ → RootAct
 unmap_at asked slot number = Unmap asked (record { slot = slot; number = number })
 
--- a step returned a slot, which it left at this number: the slot becomes the front of its list, and what doesn't stay goes
--- back to the root; a direct map goes back at once, at a number that the clause `holders` checks
+-- A step returned a slot, which it left at this number. A slot of a class becomes the front of its list, and what doesn't stay
+-- goes back to the root. A direct map goes back at once, at a number that the clause `holders` checks.
 abbrev pub ReturnRow : Journals → Played → Numbered → Cache → Cache → Type 0
 ReturnRow roots x slot cache after =
     ((p class : ℕ) × IsOfClass roots slot.slot p class × OnlyActs roots x.line p (gives (spilled class (slot ∷ cache p class)))
@@ -111,7 +113,8 @@ ReturnRow roots x slot cache after =
     ⊎ ((p asked number : ℕ) × IsDirect roots slot.slot p × OnlyActs roots x.line p (unmap_at asked slot.slot number ∷ [])
     × SameLists after cache)
 
--- a step was made: a returning one or another
+-- a step was made: if it is a returning one the slot comes back, and else no entry is of the line and the lists stay as they
+-- were
 abbrev pub DoneRow : Journals → Played → Option Step → Seen → Cache → Cache → Type 0
 DoneRow roots x None seen cache after = NoActs roots x.line × SameLists after cache
 DoneRow roots x (Some step) seen cache after =
@@ -158,7 +161,7 @@ CachesTo partitions roots all (x ∷ xs) after =
     (next : Cache) × CacheRow partitions roots x x.answer (all x.thread) next
     × CachesTo partitions roots (with_cache all x.thread next) xs after
 
--- at the start every list is empty
+-- the lists at the start, all of which are empty
 abbrev pub no_caches : Caches
 no_caches thread p class = []
 

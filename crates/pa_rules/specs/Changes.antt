@@ -1,7 +1,7 @@
 -- The register that an op changes by its answer, and what it holds then.
 use Rattle.std.specs.Prelude.{ℕ, List, slice_get, Option, Some, None}
 use Rattle.std.specs.Option.{option_map}
-use Rattle.pa_machine.specs.declared.word.SlotName.{SlotName}
+use Rattle.pa_slot.specs.declared.word.SlotName.{SlotName}
 use Rattle.pa_trace.specs.declared.script.Op.{Op}
 use Rattle.pa_trace.specs.declared.script.Op.TheVariants as ops
 use Rattle.pa_record.specs.declared.entry.Seen.{Seen}
@@ -13,17 +13,17 @@ use Rattle.pa_record.specs.declared.history.Held.TheVariants as held
 use Rattle.pa_rules.specs.declared.register.Register.TheVariants.{Own, Ref, Freed, Cleared}
 use Rattle.pa_rules.specs.Registers.{Reg, Regs, with, reg_of, made_of}
 
--- what was seen by a step that was done, and the exchange of a swap
+-- what was seen by a step that was done, or none for any other answer
 abbrev pub done_of : Answer → Option Seen
 done_of (Done seen) = Some seen
 done_of answer = None
 
--- the number of a swap's exchange in the history of its cell; none for any other answer
+-- the number of a swap's exchange in the history of its cell, or none for any other answer
 abbrev pub swapped_of : Answer → Option ℕ
 swapped_of (Swapped entry) = Some entry
 swapped_of answer = None
 
--- the handle that an exchange found in its cell; none if there is no such exchange
+-- the handle that an exchange found in its cell, or none if there is no such exchange
 abbrev pub found_in : Option CellEntry → Held
 found_in None = held.Nothing
 found_in (Some e) = e.found

@@ -1,8 +1,8 @@
 -- The content of a slot, and what a read may return.
 use Rattle.std.specs.Prelude.{◌≡◌, ◌≢◌, ℕ, ◌<◌, ◌≤◌, ◌⊎◌, List, ◌∷◌, ◌++◌, Contains}
-use Rattle.pa_machine.specs.declared.word.SlotName.{SlotName}
-use Rattle.pa_machine.specs.Count.{number_of}
-use Rattle.pa_machine.specs.Titles.{poison}
+use Rattle.pa_slot.specs.declared.word.SlotName.{SlotName}
+use Rattle.pa_slot.specs.Count.{number_of}
+use Rattle.pa_slot.specs.Titles.{poison}
 use Rattle.pa_trace.specs.declared.script.Op.TheVariants as ops
 use Rattle.pa_record.specs.declared.entry.Seen.{Seen}
 use Rattle.pa_record.specs.declared.entry.Answer.{Answer}
@@ -28,8 +28,8 @@ IsWrittenAt ps s n value =
 abbrev pub IsWrittenFor : List Played → SlotName → ℕ → ℕ → ℕ → Type 0
 IsWrittenFor ps s k n value = IsWrittenAt ps s n value × (n < k) × ((m : ℕ) → IsMadeAt ps s m → n < m → m < k → ⊥)
 
--- The content of slot s at number k: the value of its last write that found a number below k and comes after the last
--- time below k at which it was made; 0 if there is no such write.
+-- The content of slot s at number k: the value of its last write that found a number below k and comes after the last time
+-- below k at which it was made, or 0 if there is no such write.
 abbrev pub IsContent : List Played → SlotName → ℕ → ℕ → Type 0
 IsContent ps s k value =
     ((n : ℕ) × IsWrittenFor ps s k n value × ((m other : ℕ) → IsWrittenFor ps s k m other → n < m → ⊥))
@@ -69,12 +69,13 @@ abbrev pub ReadsByRef : (ℕ → ℕ) → (ℕ → List CellEntry) → List Play
 ReadsByRef usable_of cells ps x s =
     (reg place : ℕ) × (regs : Regs) × (x.op ≡ ops.Read reg place) × HasRegs usable_of cells ps x regs × (regs reg ≡ Ref s)
 
--- it may read poison at number k: the next free of the slot is another thread's, in the same phase
+-- the record may read poison at number k: it reads the slot through a raw_ptr, and the slot's next free is another thread's, in
+-- the same phase
 abbrev pub IsBeingFreed : (ℕ → ℕ) → (ℕ → List CellEntry) → List Played → Played → SlotName → ℕ → Type 0
 IsBeingFreed usable_of cells ps x s k =
     ReadsByRef usable_of cells ps x s × (y : Played) × IsNextFree ps s k y × (y.thread ≢ x.thread) × (y.phase ≡ x.phase)
 
--- what an answer may have read: of a held slot its content at the number found, or poison if it is being freed then; of a
+-- what an answer may have read: of a held slot its content at the number found, or poison if it is being freed then, and of a
 -- freed slot poison
 abbrev pub IsReadAllowed : (ℕ → ℕ) → (ℕ → List CellEntry) → List Played → Played → Answer → Type 0
 IsReadAllowed usable_of cells ps x (Value seen value) =

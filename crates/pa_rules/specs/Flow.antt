@@ -1,10 +1,10 @@
 -- How often a slot is in the caches, and how often it goes into and out of them.
 use Rattle.std.specs.Prelude.{◌≡◌, ◌≢◌, ℕ, zero, suc, ◌+◌, ◌<◌, ◌≤◌, ◌==◌, ◌&&◌, Bool, true, false, if◌then◌else◌, List, [], ◌∷◌, Option, Some, None, Contains, All, AllPairs, count_by}
-use Rattle.pa_machine.specs.declared.word.SlotName.{SlotName}
-use Rattle.pa_machine.specs.declared.word.Step.{Step}
-use Rattle.pa_machine.specs.declared.word.Step.TheVariants.{Issue, Copy, Reset, Free, Write}
-use Rattle.pa_machine.specs.Count.{number_of, refs_of, held_of}
-use Rattle.pa_machine.specs.Run.{Mark, Slots, same_slot}
+use Rattle.pa_slot.specs.declared.word.SlotName.{SlotName}
+use Rattle.pa_slot.specs.declared.word.Step.{Step}
+use Rattle.pa_slot.specs.declared.word.Step.TheVariants.{Issue, Copy, Reset, Free, Write}
+use Rattle.pa_slot.specs.Count.{number_of, refs_of, held_of}
+use Rattle.pa_slot.specs.Run.{Mark, Slots, same_slot}
 use Rattle.pa_buckets.specs.Limits.{class_count}
 use Rattle.pa_record.specs.declared.numbered.Numbered.{Numbered}
 use Rattle.pa_record.specs.declared.pool.PoolEntry.{PoolEntry}
@@ -27,17 +27,17 @@ returns_at Reset w = (held_of w == 0) && (refs_of w == 1)
 returns_at Free w = (held_of w == 1) && (refs_of w == 0)
 returns_at Write w = false
 
--- the test whether a step is an issue; a look has no step and is none
+-- the test whether a step is an issue, which a look isn't
 abbrev pub is_issue : Option Step → Bool
 is_issue (Some Issue) = true
 is_issue step = false
 
--- the test whether a mark's step returns its slot, by the word that it found; a look returns none
+-- the test whether a mark's step returns its slot, by the word that it found, which a look doesn't
 abbrev pub is_return : ℕ → Option Step → Bool
 is_return found None = false
 is_return found (Some step) = returns_at step found
 
--- the test of a step by the word that it finds, which no look passes; the marks of slot s that pass
+-- the test of a step by the word that it finds, which no look passes
 abbrev pub at_step : (Step → ℕ → Bool) → ℕ → Option Step → Bool
 at_step test found None = false
 at_step test found (Some step) = test step found
@@ -46,7 +46,7 @@ at_step test found (Some step) = test step found
 abbrev pub steps_so : (Step → ℕ → Bool) → SlotName → Mark → Bool
 steps_so test s m = same_slot s m.slot && at_step test m.found m.step
 
--- a mark that issues slot s, and one that returns it; how many of them there are
+-- the test whether a mark issues slot s
 abbrev pub is_issue_of : SlotName → Mark → Bool
 is_issue_of s m = same_slot s m.slot && is_issue m.step
 
@@ -62,7 +62,7 @@ issues_of s ms = count_by (is_issue_of s) ms
 abbrev pub returns_of : SlotName → List Mark → ℕ
 returns_of s ms = count_by (is_return_of s) ms
 
--- how often slot s is in a thread's lists of one partition, `n` classes from one on; in those of the first threads
+-- how often slot s is in a thread's lists of one partition, of `n` classes from one on
 abbrev pub listed_times : SlotName → (ℕ → List Numbered) → ℕ → ℕ → ℕ
 listed_times s lists class zero = 0
 listed_times s lists class (suc n) = times s (names (lists class)) + listed_times s lists (class + 1) n
@@ -72,7 +72,7 @@ abbrev pub cached_times : SlotName → Caches → ℕ → ℕ → ℕ
 cached_times s all p zero = 0
 cached_times s all p (suc t) = listed_times s (all t p) 0 class_count + cached_times s all p t
 
--- how often slot s leaves the root by some entries, and comes back
+-- how often slot s leaves the root by these acts
 abbrev pub left_in : SlotName → List RootAct → ℕ
 left_in s [] = 0
 left_in s (a ∷ acts) = times s (leaves_by a) + left_in s acts
@@ -82,7 +82,7 @@ abbrev pub back_in : SlotName → List RootAct → ℕ
 back_in s [] = 0
 back_in s (a ∷ acts) = times s (comes_by a) + back_in s acts
 
--- by the entries of partition p on the lines of some records
+-- how often slot s leaves the root by the entries of partition p on the lines of these records
 abbrev pub left_on : SlotName → Journals → ℕ → List Played → ℕ
 left_on s roots p [] = 0
 left_on s roots p (x ∷ xs) = left_in s (acts_of roots x.line p) + left_on s roots p xs
@@ -105,11 +105,11 @@ CachesKeep =
     CachesTo partitions roots no_caches xs after →
     cached_times s after p threads + issues_of s (marks_of xs) + back_on s roots p xs ≡ left_on s roots p xs + returns_of s (marks_of xs)
 
--- 1 if a word isn't that of a free slot
+-- 1 if a word isn't that of a free slot, and else 0
 abbrev pub busy : ℕ → ℕ
 busy w = if (held_of w == 0) && (refs_of w == 0) then 0 else 1
 
--- A slot was issued as often as it was returned, and once more if its word isn't free; each record's line is its own.
+-- If each record has a line of its own, a slot was issued as often as it was returned, and once more if its word isn't free.
 abbrev pub IssuesReturn : Type 0
 IssuesReturn =
     (ps : List Played) (s : SlotName) (w : ℕ) → AllPairs (λ (x y : Played). x.line ≢ y.line) ps → Slots (marks_of ps) → HasWord ps s w →
@@ -121,7 +121,7 @@ IsInPhases ps =
     (x y : Played) (m n : Mark) → Contains ps x → Contains ps y → x.phase < y.phase → mark_of x ≡ Some m → mark_of y ≡ Some n →
     m.slot ≡ n.slot → left_number m ≤ number_of n.found
 
--- then the records up to the end of a phase have one run for each slot, if all records have
+-- if all records have one run for each slot and are in the order of the phases, the records up to the end of a phase have one
 abbrev pub RunsUntil : Type 0
 RunsUntil =
     (ps : List Played) (phase : ℕ) → AllPairs (λ (x y : Played). x.line ≢ y.line) ps → Slots (marks_of ps) → IsInPhases ps →

@@ -1,9 +1,9 @@
 -- Held by the closed region: what the words of a region that was closed say of the run that was played in it.
 use Rattle.std.specs.Prelude.{ℕ, ◌⊎◌, List, Contains}
-use Rattle.pa_machine.specs.declared.title.Title.{Title}
-use Rattle.pa_machine.specs.Count.{number_of}
-use Rattle.pa_machine.specs.Run.{IsLive, IsQuarantined}
-use Rattle.pa_machine.specs.Titles.{poison, count_word, HasContentFrom}
+use Rattle.pa_slot.specs.declared.title.Title.{Title}
+use Rattle.pa_slot.specs.Count.{number_of}
+use Rattle.pa_slot.specs.Run.{IsLive, IsQuarantined}
+use Rattle.pa_slot.specs.Titles.{poison, count_word, HasContentFrom}
 use Rattle.pa_trace.specs.declared.script.Trace.{Trace}
 use Rattle.pa_record.specs.declared.pool.PoolEntry.{PoolEntry}
 use Rattle.pa_record.specs.declared.root.RootEntry.{RootEntry}
@@ -27,6 +27,6 @@ pub record HasSlot (words : List ℕ) (ps : List Played) (t : Title) : Type 0 wh
   pub live : IsLive (count_word words t)
       → (value : ℕ) × IsContent ps (name_of t) (number_of (count_word words t)) value × HasContentFrom words t 0 value
 
--- they show each slot that was made and is in its root
+-- the region's words show each slot that was made and is in its root
 abbrev pub IsHeldIn : Trace → Told → List ℕ → Type 0
 IsHeldIn t r words = (p : ℕ) (title : Title) → IsStanding r.pools (r.roots p) title → HasSlot words (records_of t r) title

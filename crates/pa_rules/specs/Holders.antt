@@ -1,9 +1,9 @@
 -- Who holds a free slot: the root, or a thread.
 use Rattle.std.specs.Prelude.{◌≡◌, ℕ, ◌+◌, ◌<◌, ◌==◌, ◌&&◌, ◌⊎◌, Bool, List, [], ◌∷◌, map, Some, Contains, filter, flat_map}
-use Rattle.pa_machine.specs.declared.word.SlotName.{SlotName}
-use Rattle.pa_machine.specs.declared.word.Step.{Step}
-use Rattle.pa_machine.specs.Count.{number_of}
-use Rattle.pa_machine.specs.Run.{Mark, IsReturning, same_slot}
+use Rattle.pa_slot.specs.declared.word.SlotName.{SlotName}
+use Rattle.pa_slot.specs.declared.word.Step.{Step}
+use Rattle.pa_slot.specs.Count.{number_of}
+use Rattle.pa_slot.specs.Run.{Mark, IsReturning, same_slot}
 use Rattle.pa_record.specs.declared.entry.Seen.{Seen}
 use Rattle.pa_record.specs.declared.entry.Answer.TheVariants.{Made}
 use Rattle.pa_record.specs.declared.numbered.Numbered.{Numbered}
@@ -36,7 +36,8 @@ pub record Move : Type 0 where
 abbrev pub move_of : ℕ → Way → Numbered → Move
 move_of line way n = record { line = line; slot = n.slot; number = n.number; way = way }
 
--- the slots of a fill and a direct map leave the root, a map at the number 0; those that are given back come back
+-- The moves that an entry makes. The slots of a fill and a direct map leave the root, a map at the number 0, and those that are
+-- given back come back.
 abbrev pub moves_by : ℕ → RootAct → List Move
 moves_by line (Fill class asked slots) = map (move_of line Out) slots
 moves_by line (Map asked slot len) = record { line = line; slot = slot; number = 0; way = Out } ∷ []
@@ -64,8 +65,7 @@ IsReturnedBy ps s k x =
 abbrev pub IsFirstHolder : List Played → SlotName → ℕ → Holder → Type 0
 IsFirstHolder ps s k h = ((k ≡ 0) × (h ≡ InRoot)) ⊎ ((x : Played) × IsReturnedBy ps s k x × (h ≡ WithThread x.thread))
 
--- the holder that a move makes, and the one that it needs: what leaves goes from the root to the thread of the move's
--- line, and what comes back goes from that thread to the root
+-- the holder that a move makes: the thread of the record if the slot leaves, the root if it comes back
 abbrev pub made_by : Way → Played → Holder
 made_by Out x = WithThread x.thread
 made_by Back x = InRoot

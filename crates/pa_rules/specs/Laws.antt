@@ -4,7 +4,7 @@ use Rattle.pa_trace.specs.declared.script.Trace.{Trace}
 use Rattle.pa_trace.specs.declared.script.Line.{Line}
 use Rattle.pa_trace.specs.Limits.{IsWithinLimits}
 use Rattle.pa_record.specs.declared.pool.PoolEntry.{PoolEntry}
-use Rattle.pa_machine.specs.Run.{Slots}
+use Rattle.pa_slot.specs.Run.{Slots}
 use Rattle.pa_record.specs.declared.report.ReportLine.{ReportLine}
 use Rattle.pa_record.specs.declared.root.RootEntry.{RootEntry}
 use Rattle.pa_record.specs.declared.entry.Entry.{Entry}
@@ -18,8 +18,8 @@ use Rattle.pa_rules.specs.Flow.{IsInPhases}
 use Rattle.pa_rules.specs.Told.{Told, records_of}
 use Rattle.pa_rules.specs.Legal.{IsLegalTold}
 
--- Titles lie apart: it follows from the journals and the pool. And an entry of the pool that a journal names is one of its
--- own partition; so, as no super page is in two runs that are taken, a partition's super pages are its own.
+-- It follows from the journals and the pool that titles lie apart. An entry of the pool that a journal names is one of its own
+-- partition. So, as no super page is in two runs that are taken, a partition's super pages are its own.
 pub record TitlesFollow : Type 0 where
   pub titles : (supers partitions : ℕ) (ps : List Played) (pools : List PoolEntry) (roots : Journals) →
       AreRoots partitions ps pools roots → IsPoolOf supers ps pools roots → AreAllTitles pools roots

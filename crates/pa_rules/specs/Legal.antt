@@ -1,6 +1,6 @@
 -- A legal run of a trace, and the run in the order of its lines.
 use Rattle.std.specs.Prelude.{ℕ, ◌+◌, Bool, true, false, List, count_by}
-use Rattle.pa_machine.specs.Run.{Slots}
+use Rattle.pa_slot.specs.Run.{Slots}
 use Rattle.pa_trace.specs.declared.script.Trace.{Trace}
 use Rattle.pa_trace.specs.declared.script.Line.{Line}
 use Rattle.pa_trace.specs.declared.script.Line.TheVariants.{Phase, Do}
@@ -44,7 +44,7 @@ pub record IsLegalBy (t : Trace) (r : Told) (ps : List Played) : Type 0 where
   pub seen : IsSeenInOrder r.cells ps
   pub report : IsReport (phases_in t.lines) t.partitions t.threads ps r.pools r.roots r.report
 
--- what a run contains is legal; in the order of the trace's lines, as one thread plays them
+-- what a run contains is legal, with its records paired with the trace's ops
 abbrev pub IsLegalTold : Trace → Told → Type 0
 IsLegalTold t r = IsLegalBy t r (records_of t r)
 
@@ -52,7 +52,7 @@ IsLegalTold t r = IsLegalBy t r (records_of t r)
 abbrev pub IsFileTold : Trace → Told → Type 0
 IsFileTold t r = IsLegalTold t r × IsInFileOrder (records_of t r) r.pools r.roots r.cells
 
--- a legal run of the trace; the run of the trace in the order of its lines
+-- the run is a legal run of the trace
 abbrev pub IsLegal : Trace → Run → Type 0
 IsLegal t r = IsLegalTold t (told_by r)
 

@@ -1,7 +1,7 @@
 -- What an op does by its register alone is what its row requires: a law for each op.
 use Rattle.std.specs.Prelude.{◌≡◌, ◌↔◌, ℕ, ◌*◌, ◌<◌, ◌≤◌, ◌⊎◌, Result, Ok, Err}
-use Rattle.pa_machine.specs.declared.word.SlotName.{SlotName}
-use Rattle.pa_machine.specs.Count.{refs_of}
+use Rattle.pa_slot.specs.declared.word.SlotName.{SlotName}
+use Rattle.pa_slot.specs.Count.{refs_of}
 use Rattle.pa_record.specs.declared.entry.Seen.{Seen}
 use Rattle.pa_record.specs.declared.entry.Answer.{Answer}
 use Rattle.pa_record.specs.declared.entry.Answer.TheVariants.{Done, Filled, Shared, OutOfRange}
@@ -55,7 +55,7 @@ abbrev pub FreesAreNext : Type 0
 FreesAreNext = (r : Reg) (regs : Regs) (reg : ℕ) (answer : Answer) (after : Regs) →
     FreeRow r regs reg answer after ↔ FreeBy (free_next r) regs reg answer after
 
--- a write by the owner is made if no raw_ptr points to the slot
+-- a write is refused, or is made by the owner if no raw_ptr points to the slot, or only looks at the slot
 abbrev pub WriteBy : Next SlotName → Regs → Answer → Regs → Type 0
 WriteBy (Refused refusal) regs answer after = IsRefusedSo refusal regs answer after
 WriteBy (Step s) regs answer after =
@@ -68,7 +68,7 @@ abbrev pub WritesAreNext : Type 0
 WritesAreNext = (r : Reg) (regs : Regs) (answer : Answer) (after : Regs) →
     WriteRow r regs answer after ↔ WriteBy (write_next r) regs answer after
 
--- a read is made of a word inside the usable bytes
+-- a read is refused, or looks at the slot if its word is inside the usable bytes
 abbrev pub ReadBy : Result SlotName Answer → Facts → Regs → ℕ → Answer → Regs → Type 0
 ReadBy (Err refusal) facts regs place answer after = IsRefusedSo refusal regs answer after
 ReadBy (Ok s) facts regs place answer after =

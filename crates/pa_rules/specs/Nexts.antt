@@ -1,7 +1,7 @@
 -- What an op does by what its register holds alone, whatever a handle is; and the answers of ops that only look at a slot.
 use Rattle.std.specs.Prelude.{ℕ, ◌==◌, if◌then◌else◌, Some, None, Result, Ok, Err}
-use Rattle.pa_machine.specs.declared.word.SlotName.{SlotName}
-use Rattle.pa_machine.specs.Count.{held_of}
+use Rattle.pa_slot.specs.declared.word.SlotName.{SlotName}
+use Rattle.pa_slot.specs.Count.{held_of}
 use Rattle.pa_record.specs.declared.entry.Seen.{Seen}
 use Rattle.pa_record.specs.declared.entry.Answer.{Answer}
 use Rattle.pa_record.specs.declared.entry.Answer.TheVariants.{Value, Dangling, SecondFree, NotOwner, StaleReset, StaleUse, Nothing, NotRef}
@@ -18,7 +18,7 @@ named name (Ref h) = Ref (name h)
 named name Freed = Freed
 named name Cleared = Cleared
 
--- it has a handle
+-- the register has a handle
 abbrev pub HasSomeHandle : {H : Type 0} → Register H → Type 0
 HasSomeHandle Empty = ⊥
 HasSomeHandle (Own h) = Unit {0}
@@ -34,7 +34,7 @@ copy_next (Ref h) = Ok h
 copy_next Freed = Err (StaleUse None)
 copy_next Cleared = Err (StaleUse None)
 
--- a reset on that of a raw_ptr alone
+-- a reset makes its step on the slot of a raw_ptr alone
 abbrev pub reset_next : {H : Type 0} → Register H → Result H Answer
 reset_next Empty = Err Nothing
 reset_next (Own h) = Err NotRef
@@ -42,7 +42,7 @@ reset_next (Ref h) = Ok h
 reset_next Freed = Err NotRef
 reset_next Cleared = Err StaleReset
 
--- a free on that of an owner; through a raw_ptr it only looks
+-- a free makes its step on the slot of an owner, and only looks at the slot of a raw_ptr
 abbrev pub free_next : {H : Type 0} → Register H → Next H
 free_next Empty = Refused Nothing
 free_next (Own h) = Step h
@@ -50,7 +50,7 @@ free_next (Ref h) = Look h
 free_next Freed = Refused (SecondFree None)
 free_next Cleared = Refused (StaleUse None)
 
--- a write on that of an owner; through a raw_ptr it only looks
+-- a write makes its step on the slot of an owner, and only looks at the slot of a raw_ptr
 abbrev pub write_next : {H : Type 0} → Register H → Next H
 write_next Empty = Refused Nothing
 write_next (Own h) = Step h
@@ -66,14 +66,14 @@ read_next (Ref h) = Ok h
 read_next Freed = Err (StaleUse None)
 read_next Cleared = Err (StaleUse None)
 
--- the answer of a free, a write and a read that only looked, by whether the allocator holds what it saw
+-- the answer of a free that only looked: not the owner while the allocator holds the slot, else a second free
 abbrev pub looked_free : Seen → Answer
 looked_free seen = if held_of seen.found.0 == 1 then NotOwner seen else SecondFree (Some seen)
 
--- a write through a raw_ptr: not the owner while the allocator holds the slot, else a stale use
+-- the answer of a write that only looked: not the owner while the allocator holds the slot, else a stale use
 abbrev pub looked_write : Seen → Answer
 looked_write seen = if held_of seen.found.0 == 1 then NotOwner seen else StaleUse (Some seen)
 
--- a read: the value while the allocator holds the slot, else a dangling one
+-- the answer of a read: the value while the allocator holds the slot, else a dangling one
 abbrev pub looked_read : Seen → ℕ → Answer
 looked_read seen value = if held_of seen.found.0 == 1 then Value seen value else Dangling seen value

@@ -4,7 +4,7 @@ use Rattle.pa_record.specs.declared.run.Run.{Run}
 use Rattle.pa_rules.specs.declared.verdict.Place.{Place}
 use Rattle.pa_rules.specs.declared.verdict.Place.TheVariants as places
 
--- the first line of the journals, of the pool, of the histories and of the report; the text's head is line 1
+-- the first line of the journals: after the head, which is line 1, and all records
 abbrev pub roots_at : Run → ℕ
 roots_at r = 2 + length r.entries.items
 

@@ -1,9 +1,9 @@
 -- The records of a run with the ops of its trace, and what they report of the slots.
 use Rattle.std.specs.Prelude.{◌≡◌, ℕ, ◌+◌, List, [], ◌∷◌, map, zip, Option, Some, None}
 use Rattle.std.specs.List.{filter_map}
-use Rattle.pa_machine.specs.declared.word.Step.{Step}
-use Rattle.pa_machine.specs.declared.word.Step.TheVariants as steps
-use Rattle.pa_machine.specs.Run.{Mark}
+use Rattle.pa_slot.specs.declared.word.Step.{Step}
+use Rattle.pa_slot.specs.declared.word.Step.TheVariants as steps
+use Rattle.pa_slot.specs.Run.{Mark}
 use Rattle.pa_trace.specs.declared.script.Line.{Line}
 use Rattle.pa_trace.specs.declared.script.Line.TheVariants.{Phase, Do}
 use Rattle.pa_trace.specs.declared.script.Op.{Op}
@@ -21,13 +21,13 @@ pub record OpLine : Type 0 where
   pub phase : ℕ
   pub op : Op
 
--- the op lines of a trace whose next line has this number and is in this phase
+-- the op lines of a trace from a line on that has this number and is in this phase
 abbrev pub op_lines : ℕ → ℕ → List Line → List OpLine
 op_lines n phase [] = []
 op_lines n phase (Phase ∷ ls) = op_lines (n + 1) (phase + 1) ls
 op_lines n phase (Do thread op ∷ ls) = record { line = n; thread = thread; phase = phase; op = op } ∷ op_lines (n + 1) phase ls
 
--- the op line of a record, and what the run says of it
+-- the op line of a record
 abbrev pub op_line_of : Played → OpLine
 op_line_of p = record { line = p.line; thread = p.thread; phase = p.phase; op = p.op }
 
@@ -35,11 +35,11 @@ op_line_of p = record { line = p.line; thread = p.thread; phase = p.phase; op = 
 abbrev pub entry_of : Played → Entry
 entry_of p = record { line = p.line; thread = p.thread; answer = p.answer }
 
--- the records with their ops: those of all op lines of the trace; the head is line 1, and phases count from 1
+-- the records are those of all op lines of the trace, the first of which is line 2, after the head, in phase 1
 abbrev pub AreLines : List Line → List Played → Type 0
 AreLines ls ps = map op_line_of ps ≡ op_lines 2 1 ls
 
--- a run's records paired with the ops of the trace; if one list is longer, the rest of it is left out
+-- the record of an op line whose answer is the entry's
 abbrev pub beside : OpLine × Entry → Played
 beside (o, e) = record { line = o.line; thread = o.thread; phase = o.phase; op = o.op; answer = e.answer }
 
@@ -47,7 +47,7 @@ beside (o, e) = record { line = o.line; thread = o.thread; phase = o.phase; op =
 abbrev pub played : List Line → List Entry → List Played
 played ls es = map beside (zip (op_lines 2 1 ls) es)
 
--- The records are the trace's op lines, in order, each once, with its thread: then the pairs are all of both.
+-- the line and the thread of an op line
 abbrev pub key_of_line : OpLine → ℕ × ℕ
 key_of_line o = (o.line, o.thread)
 
@@ -71,7 +71,7 @@ step_of (ops.Read reg place) = None
 step_of (ops.Swap cell reg) = None
 step_of ops.Purge = None
 
--- what was seen on this line, with the step that was made; with none it is a look
+-- what was seen on this line, with the step that was made, or as a look if none was
 abbrev pub mark_at : ℕ → Seen → Option Step → Mark
 mark_at line seen step = record { line = line; slot = seen.slot; found = seen.found.0; step = step }
 

@@ -1,8 +1,8 @@
 -- What the clauses of the records require of each place. A place of which a clause requires nothing meets it.
 use Rattle.std.specs.Prelude.{◌≡◌, ℕ, zero, suc, ◌<◌, ◌≤◌, ◌⊎◌, List, [], ◌∷◌, map, take, Option, Some, None, Contains, slice_get}
-use Rattle.pa_machine.specs.declared.word.Step.{Step}
-use Rattle.pa_machine.specs.Count.{CanStep, number_of}
-use Rattle.pa_machine.specs.Run.{Mark, IsFirstAt, IsRunFrom}
+use Rattle.pa_slot.specs.declared.word.Step.{Step}
+use Rattle.pa_slot.specs.Count.{CanStep, number_of}
+use Rattle.pa_slot.specs.Run.{Mark, IsFirstAt, IsRunFrom}
 use Rattle.pa_trace.specs.declared.script.Line.{Line}
 use Rattle.pa_trace.specs.declared.script.Op.TheVariants.{Swap}
 use Rattle.pa_record.specs.declared.entry.Entry.{Entry}

@@ -1,8 +1,8 @@
 -- The registers of the threads: the answer of each op, and the registers after it.
 use Rattle.std.specs.Prelude.{◌≡◌, ℕ, ◌*◌, ◌<◌, ◌≤◌, ◌==◌, if◌then◌else◌, ◌⊎◌, List, [], ◌∷◌, Option, Some, None, slice_get}
-use Rattle.pa_machine.specs.declared.word.SlotName.{SlotName}
-use Rattle.pa_machine.specs.Count.{held_of, refs_of}
-use Rattle.pa_machine.specs.Run.{same_slot}
+use Rattle.pa_slot.specs.declared.word.SlotName.{SlotName}
+use Rattle.pa_slot.specs.Count.{held_of, refs_of}
+use Rattle.pa_slot.specs.Run.{same_slot}
 use Rattle.pa_trace.specs.declared.script.Op.{Op}
 use Rattle.pa_trace.specs.declared.script.Op.TheVariants as ops
 use Rattle.pa_direct.specs.Shapes.{greatest_size}
@@ -118,7 +118,7 @@ ReadRow (Ref s) facts regs place answer after = ReadFromRow s facts regs place a
 ReadRow Freed facts regs place answer after = (answer ≡ StaleUse None) × Becomes after regs
 ReadRow Cleared facts regs place answer after = (answer ≡ StaleUse None) × Becomes after regs
 
--- the handle that a register holds, and the register that holds a handle
+-- the handle that a register holds, or nothing if it holds none
 abbrev pub handle_of : Reg → Held
 handle_of Empty = held.Nothing
 handle_of (Own s) = held.Own s
@@ -126,7 +126,7 @@ handle_of (Ref s) = held.Ref s
 handle_of Freed = held.Nothing
 handle_of Cleared = held.Nothing
 
--- the register that holds this handle; an empty one if there is none
+-- the register that holds this handle, or an empty one if there is none
 abbrev pub reg_of : Held → Reg
 reg_of held.Nothing = Empty
 reg_of (held.Own s) = Own s
@@ -150,7 +150,7 @@ Row facts (ops.Read reg place) regs answer after = ReadRow (regs reg) facts regs
 Row facts (ops.Swap cell reg) regs answer after = SwapRow (facts.cells cell) regs reg answer after
 Row facts ops.Purge regs answer after = (slots : ℕ) × (answer ≡ Purged slots) × Becomes after regs
 
--- the registers of all threads, and the same with one thread's changed
+-- the registers of each thread, by the thread's number
 abbrev pub AllRegs : Type 0
 AllRegs = ℕ → Regs
 
@@ -164,7 +164,7 @@ RowsTo facts all [] after = after ≡ all
 RowsTo facts all (p ∷ ps) after =
     (next : Regs) × Row facts p.op (all p.thread) p.answer next × RowsTo facts (with_thread all p.thread next) ps after
 
--- at the start every register is empty
+-- the registers at the start, all of which are empty
 abbrev pub no_regs : AllRegs
 no_regs thread reg = Empty
 
@@ -198,7 +198,7 @@ abbrev pub usable_in : List Played → SlotName → ℕ
 usable_in [] s = 0
 usable_in (p ∷ ps) s = usable_or (made_of p.answer) s (usable_in ps s)
 
--- Every answer and every register is the one that the rows require. The usable number of a slot for a size is given; that
+-- Every answer and every register is the one that the rows require. The usable number of a slot for a size is given, and that
 -- of a slot is the one in the first record that made it.
 abbrev pub AreRegisters : (ℕ → ℕ) → (ℕ → List CellEntry) → List Played → Type 0
 AreRegisters usable_of cells ps =

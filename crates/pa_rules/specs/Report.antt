@@ -1,8 +1,8 @@
 -- The report: the heap of each partition after each phase.
 use Rattle.std.specs.Prelude.{◌≡◌, ◌≢◌, ℕ, zero, suc, ◌+◌, ◌*◌, ◌<◌, ◌≤◌, ◌↔◌, ◌⊎◌, nat_le, List, [], ◌∷◌, ◌++◌, map, length, Contains, All, AllPairs, filter, sum}
 use Rattle.std.specs.List.{AllZip}
-use Rattle.pa_machine.specs.declared.word.SlotName.{SlotName}
-use Rattle.pa_machine.specs.Run.{IsRunFrom, IsLive, IsQuarantined}
+use Rattle.pa_slot.specs.declared.word.SlotName.{SlotName}
+use Rattle.pa_slot.specs.Run.{IsRunFrom, IsLive, IsQuarantined}
 use Rattle.pa_buckets.specs.Limits.{class_count}
 use Rattle.pa_buckets.specs.Table.{slot_of}
 use Rattle.pa_record.specs.declared.pool.PoolEntry.{PoolEntry}
@@ -44,13 +44,13 @@ pub record AreSlots (P : ℕ → Type 0) (roots : Journals) (ps : List Played) (
   pub all : (s : SlotName) → Contains slots s ↔ ((len w : ℕ) × HasSize roots p s len × HasWord ps s w × P w)
   pub sized : AllZip (HasSize roots p) slots sizes
 
--- how many they are, and their bytes
+-- the tally has the number of these slots of partition p, and their bytes
 abbrev pub IsTally : (ℕ → Type 0) → Journals → List Played → ℕ → Tally → Type 0
 IsTally P roots ps p tally =
     (slots : List SlotName) × (sizes : List ℕ) × AreSlots P roots ps p slots sizes × (tally.slots ≡ length slots)
     × (tally.bytes ≡ sum sizes)
 
--- the slots and the bytes of a thread's lists of one partition; of the first threads'
+-- how many bytes the slots of `n` classes from one on have, by how many slots each class has
 abbrev pub listed_bytes : (ℕ → ℕ) → ℕ → ℕ → ℕ
 listed_bytes counts class zero = 0
 listed_bytes counts class (suc n) = slot_of class * counts class + listed_bytes counts (class + 1) n
@@ -60,7 +60,7 @@ abbrev pub cached_slots : Caches → ℕ → ℕ → ℕ
 cached_slots all p zero = 0
 cached_slots all p (suc t) = listed_slots (all t p) 0 class_count + cached_slots all p t
 
--- how many bytes those slots have, each as many as its class says
+-- how many bytes the lists of partition p have, of all classes, of the threads below a number
 abbrev pub cached_bytes : Caches → ℕ → ℕ → ℕ
 cached_bytes all p zero = 0
 cached_bytes all p (suc t) = listed_bytes (λ class. length (all t p class)) 0 class_count + cached_bytes all p t
@@ -71,7 +71,7 @@ IsCached partitions threads roots ps p tally =
     (all : Caches) × CachesTo partitions roots no_caches ps all × (tally.slots ≡ cached_slots all p threads)
     × (tally.bytes ≡ cached_bytes all p threads)
 
--- the entries of a journal up to the end of a phase
+-- the entry's record is in this phase or an earlier one
 abbrev pub InPhases : List Played → ℕ → RootEntry → Type 0
 InPhases ps phase e = (x : Played) × IsOfLine ps e.line x × (x.phase ≤ phase)
 
@@ -79,7 +79,7 @@ InPhases ps phase e = (x : Played) × IsOfLine ps e.line x × (x.phase ≤ phase
 abbrev pub PastPhases : List Played → ℕ → RootEntry → Type 0
 PastPhases ps phase e = (x : Played) × IsOfLine ps e.line x × (phase < x.phase)
 
--- `before` is the front of the journal, up to the end of the phase; the rest of it is of later phases
+-- the journal is `before`, which is its entries up to the end of the phase, and then entries of later phases
 pub record AreUntil (ps : List Played) (phase : ℕ) (journal before : List RootEntry) : Type 0 where
   pub rest : List RootEntry
   pub parts : journal ≡ before ++ rest
@@ -112,7 +112,7 @@ pub record IsReportLine (partitions threads : ℕ) (ps : List Played) (pools : L
   pub cached : IsCached partitions threads roots (until l.phase ps) l.partition l.cached
   pub root : HasCensus ps pools roots l.phase l.partition (census_of l)
 
--- the partitions of a phase, and those of all phases, in order
+-- the pairs of this phase and each of `n` partitions from p on, in order
 abbrev pub partitions_of : ℕ → ℕ → ℕ → List (ℕ × ℕ)
 partitions_of phase p zero = []
 partitions_of phase p (suc n) = (phase, p) ∷ partitions_of phase (p + 1) n

@@ -1,6 +1,6 @@
 -- The journals of the roots and the pool's entries, beside the records of the run.
 use Rattle.std.specs.Prelude.{◌≡◌, ℕ, ◌+◌, ◌<◌, ◌≤◌, ◌⊎◌, max, List, [], Option, Some, None, Contains, slice_get, slice_index_or}
-use Rattle.pa_machine.specs.declared.title.Title.{Title}
+use Rattle.pa_slot.specs.declared.title.Title.{Title}
 use Rattle.pa_buckets.specs.Classes.{IsClassOf}
 use Rattle.pa_direct.specs.Shapes.{shape_of, IsDirectSize}
 use Rattle.pa_trace.specs.declared.script.Op.{Op}
@@ -24,8 +24,7 @@ Journals = ℕ → List RootEntry
 abbrev pub IsEntry : Journals → ℕ → ℕ → RootEntry → Type 0
 IsEntry roots p j e = slice_get (roots p) j ≡ Some e
 
--- the op asks partition p for a slot of the class; for a direct map of that many bytes. A size above 33,521,656 is of no
--- class and for no direct map.
+-- the op is an allocation from partition p, and its size gets a slot of this class
 abbrev pub AsksForClass : Op → ℕ → ℕ → Type 0
 AsksForClass op p class = (reg size : ℕ) × (op ≡ ops.Alloc reg p size) × IsClassOf (max size 1 + 8) class
 
@@ -33,18 +32,18 @@ AsksForClass op p class = (reg size : ℕ) × (op ≡ ops.Alloc reg p size) × I
 abbrev pub AsksForMap : Op → ℕ → ℕ → Type 0
 AsksForMap op p size = (reg : ℕ) × (op ≡ ops.Alloc reg p size) × IsDirectSize size
 
--- ops that give slots back
+-- the op is a free or a reset, the ops that may give a slot back
 abbrev pub IsFreeing : Op → Type 0
 IsFreeing op = ((reg : ℕ) × (op ≡ ops.Free reg)) ⊎ ((reg : ℕ) × (op ≡ ops.Reset reg))
 
--- the op asks for a slot of the class; without a class for a direct map, and the pool's entry `asked` found no room for its
--- super pages
+-- if a class is named, the op asks for a slot of it, and else for a direct map for whose super pages the pool's entry `asked`
+-- found no room
 abbrev pub MakesFull : List PoolEntry → ℕ → Option ℕ → ℕ → Op → Type 0
 MakesFull pools p None asked op = (size : ℕ) × AsksForMap op p size × FoundNone pools asked (shape_of size).supers
 MakesFull pools p (Some class) asked op = AsksForClass op p class
 
--- The op makes this entry of partition p's journal: an allocation fills from its class, maps the shape of its size or
--- finds no room for them; a free or a reset gives back; a purge gives back and purges.
+-- The op makes this entry of partition p's journal. An allocation fills from its class, maps the shape of its size or finds no
+-- room for them. A free or a reset gives back. A purge gives back and purges.
 abbrev pub MakesEntry : List PoolEntry → ℕ → RootAct → Op → Type 0
 MakesEntry pools p (Fill class asked slots) op = AsksForClass op p class
 MakesEntry pools p (Map asked slot len) op = (size : ℕ) × AsksForMap op p size × (len ≡ (shape_of size).slot)
@@ -53,7 +52,7 @@ MakesEntry pools p (Give slots) op = IsFreeing op ⊎ (op ≡ ops.Purge)
 MakesEntry pools p (Unmap asked slot) op = IsFreeing op
 MakesEntry pools p Purge op = op ≡ ops.Purge
 
--- a Full
+-- the act is a Full
 abbrev pub IsFull : RootAct → Type 0
 IsFull act = (class : Option ℕ) × (asked : ℕ) × (act ≡ Full class asked)
 

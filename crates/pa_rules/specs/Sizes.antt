@@ -5,15 +5,15 @@ use Rattle.pa_buckets.specs.Table.{rows, slot_of}
 use Rattle.pa_buckets.specs.Classes.{IsClassOf}
 use Rattle.pa_direct.specs.Shapes.{shape_of, IsDirectSize}
 
--- the slot of a request: that of the first class whose slots are large enough, and of a direct map if there is none
+-- the size of a request's slot: that of the first class whose slots are large enough, or of a direct map if there is none
 unfoldable pub slot_size_for : ℕ → ℕ
 slot_size_for size = option_map_or (λ r. r.slot) (find (λ r. nat_le (max size 1 + 8) r.slot) rows) (shape_of size).slot
 
--- all but the count word
+-- how many bytes of a request's slot are usable: all but the count word
 abbrev pub usable_of : ℕ → ℕ
 usable_of size = slot_size_for size - 8
 
--- it is the slot of the request's class, or of its direct map
+-- a request's slot has the size of its class's slots, or of its direct map
 pub record SizesFit : Type 0 where
   pub class : (size class : ℕ) → IsClassOf (max size 1 + 8) class → slot_size_for size ≡ slot_of class
   pub direct : (size : ℕ) → IsDirectSize size → slot_size_for size ≡ (shape_of size).slot

@@ -20,10 +20,10 @@ pub record Told : Type 0 where
   pub cells : ℕ → List CellEntry
   pub report : List ReportLine
 
--- the lists of a run; a journal or history that isn't there is empty
+-- the lists of a run, in which a journal or history that isn't there is empty
 abbrev pub told_by : Run → Told
 told_by r = record { entries = r.entries.items; roots = journal_of r; pools = r.pool.items; cells = history_of r; report = r.report.items }
 
--- its records with the ops of the trace
+-- a run's records with the ops of the trace
 abbrev pub records_of : Trace → Told → List Played
 records_of t r = played t.lines r.entries

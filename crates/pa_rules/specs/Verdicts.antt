@@ -33,14 +33,15 @@ Demand clauses.Report t r place = ReportDemand (phases_in t.lines) t.partitions 
 abbrev pub Holds : Clause → Trace → Run → Type 0
 Holds c t r = (place : Place) → Demand c t (told_by r) place
 
--- line n is the first at which it fails: a place of the line doesn't meet its demand, and each place of a line before does
+-- line n is the first at which the clause fails: a place of the line doesn't meet its demand, and each place of a line before
+-- does
 pub record FailsAt (c : Clause) (t : Trace) (r : Run) (n : ℕ) : Type 0 where
   pub place : Place
   pub line : n ≡ line_at r place
   pub unmet : Demand c t (told_by r) place → ⊥
   pub before : (other : Place) → line_at r other < n → Demand c t (told_by r) other
 
--- the clauses in their order
+-- the clause's place in the order of the clauses
 abbrev pub turn : Clause → ℕ
 turn clauses.Lines = 0
 turn clauses.Cells = 1
@@ -55,7 +56,7 @@ turn clauses.Caches = 9
 turn clauses.Seen = 10
 turn clauses.Report = 11
 
--- the clauses before it hold, and line n is the first at which it fails
+-- the clauses before this one hold, and line n is the first at which it fails
 abbrev pub IsFirstFailing : Clause → ℕ → Trace → Run → Type 0
 IsFirstFailing c n t r = ((d : Clause) → turn d < turn c → Holds d t r) × FailsAt c t r n
 

@@ -42,7 +42,7 @@ pub fn places_add_up()
     ensures { PlacesAddUp }
 {}
 
-/// The law that they add up in every line of a legal run's report.
+/// The law that the four places, in slots, add up in every line of a legal run's report.
 pub fn report_adds_up()
     ensures { ReportAddsUp }
 {}

@@ -2,8 +2,8 @@
 ghost use Rattle.std.specs.Prelude.{◌≡◌};
 ghost use Rattle.pa_rules.specs.Nexts.{looked_free, looked_read, looked_write};
 
-use pa_machine::held;
 use pa_record::{Answer, Seen};
+use pa_slot::held;
 
 /// The answer of a free through a `raw_ptr`: a second free if the slot was freed before, else a free by a non-owner.
 pub fn looked_free(seen: Seen) -> Answer

@@ -41,7 +41,7 @@ impl<H: Copy> Clone for Register<H> {
 }
 
 impl<H: Copy> Register<H> {
-    /// Whether it has a handle, so that it can get no other.
+    /// Whether the register has a handle, so that it can get no other.
     pub fn has_handle(self) -> bool
         ensures { IsTrue result ↔ HasSomeHandle self }
     {
@@ -75,7 +75,7 @@ impl<H: Copy> Register<H> {
         }
     }
 
-    /// What a free of it does.
+    /// What a free of the register does.
     pub fn for_free(self) -> Next<H>
         ensures { result ≡ free_next self }
     {
@@ -88,7 +88,7 @@ impl<H: Copy> Register<H> {
         }
     }
 
-    /// What a write through it does. If a `raw_ptr` points to the slot, its step is refused too.
+    /// What a write through the register does. If a `raw_ptr` points to the slot, its step is refused too.
     pub fn for_write(self) -> Next<H>
         ensures { result ≡ write_next self }
     {

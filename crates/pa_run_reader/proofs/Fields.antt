@@ -4,7 +4,7 @@ use Rattle.std.specs.Prelude.{nat_eq, nat_lt}
 use Rattle.std.specs.Cmp.Lexicographic.{pointwise}
 use Rattle.std.specs.Fmt.{decimal}
 use Rattle.std.proofs.lemmas.Bool.{lt-ltb, ltb-true}
-use Rattle.pa_machine.specs.declared.word.SlotName.{SlotName}
+use Rattle.pa_slot.specs.declared.word.SlotName.{SlotName}
 use Rattle.pa_text.specs.Hex.{hex, slot_text, SlotFits}
 use Rattle.pa_text.specs.Reading.{◌>>=◌, IsStop, number_at, hexes_at}
 use Rattle.pa_text.proofs.Fronts.{front_parts, front_found}

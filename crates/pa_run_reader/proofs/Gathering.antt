@@ -15,19 +15,21 @@ use Rattle.pa_run_reader.proofs.Grown.{flat_push, lines_push, nested_none, neste
 
 -- ---- what is nowhere yet
 
--- the journal of partition q has nothing at this place; nor has the pool, the history of cell q, the report
+-- the journal of partition q has nothing at this place yet
 abbrev pub IsBeforeRoot : Place → ℕ → Type 0
 IsBeforeRoot Head q = Unit {0}
 IsBeforeRoot Record q = Unit {0}
 IsBeforeRoot (Root p j) q = p < q
 IsBeforeRoot other q = ⊥
 
+-- the pool has nothing at this place yet
 abbrev pub IsBeforePool : Place → Type 0
 IsBeforePool Head = Unit {0}
 IsBeforePool Record = Unit {0}
 IsBeforePool (Root p j) = Unit {0}
 IsBeforePool other = ⊥
 
+-- the history of cell q has nothing at this place yet
 abbrev pub IsBeforeCell : Place → ℕ → Type 0
 IsBeforeCell Head q = Unit {0}
 IsBeforeCell Record q = Unit {0}
@@ -36,6 +38,7 @@ IsBeforeCell (Pool j) q = Unit {0}
 IsBeforeCell (Cell k j) q = k < q
 IsBeforeCell other q = ⊥
 
+-- the report has nothing at this place yet
 abbrev pub IsBeforeReport : Place → Type 0
 IsBeforeReport Report = ⊥
 IsBeforeReport End = ⊥

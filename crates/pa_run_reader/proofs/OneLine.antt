@@ -2,7 +2,7 @@
 use Rattle.std.proofs.Common.{◌≡◌, ℕ, zero, suc, ◌+◌, ◌/◌, ◌%◌, true, false, eqb, List, [], ◌∷◌, ◌++◌, codes, Option, Some, None, inl, inr, refl, arith}
 use Rattle.std.specs.Fmt.{decimal, digits, digits_onto, digit_glyph}
 use Rattle.std.proofs.lemmas.Bool.{cases_lt, cases_Bool, lt-ltb, le-ltb}
-use Rattle.pa_machine.specs.declared.word.SlotName.{SlotName}
+use Rattle.pa_slot.specs.declared.word.SlotName.{SlotName}
 use Rattle.pa_text.specs.Hex.{hex, slot_text}
 use Rattle.pa_trace.specs.Cut.{IsOneLine}
 use Rattle.pa_trace.proofs.Cuts.{has_no_lf, word_line, one_line_append, hex_line}

@@ -16,8 +16,8 @@ use Rattle.pa_run_reader.proofs.FirstBad.{next_index, not_read, misplaced, follo
 use Rattle.pa_run_reader.proofs.Gathering.{Stands, told, told_to, told_more}
 use Rattle.pa_run_reader.proofs.Keeping.{Kept, stands_next, kept_next, stands_first, kept_first, told_first, run_told}
 
--- Line n begins the rest. The lines after the head up to there tell what is gathered, and the last of them is an item's at this
--- place; the bad line of the rest is that of all.
+-- Line n begins the rest. The lines after the head up to there are those of what is gathered, and the last of them is an item's
+-- at this place. The bad line of the rest is that of all.
 pub record IsReadTo (l : Place) (n : ℕ) (g : Gathered) (rest bytes : List ℕ) : Type 0 where
   pub item : Item
   pub place : item_place item ≡ l

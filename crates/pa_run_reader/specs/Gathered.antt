@@ -19,7 +19,7 @@ pub record Gathered : Type 0 where
   pub cells : List (List CellEntry)
   pub report : List ReportLine
 
--- with the item appended to its list
+-- what was gathered, with the item appended to its list
 abbrev pub gathered_with : Item → Gathered → Gathered
 gathered_with Head g = g
 gathered_with (Record entry) g = record g { entries = g.entries ++ entry ∷ [] }

@@ -17,7 +17,8 @@ item_text (Cell cell index entry) = cell_text cell index entry
 item_text (Report line) = report_text line
 item_text End = codes "end\n"
 
--- each number but the index has the bits of its type; there are 4 partitions and 64 cells; a fill and a give name 1 to 16 slots
+-- An item fits if each of its numbers but the index has the bits of its type, its partition is below 4 and its cell below 64,
+-- and a fill or a give names 1 to 16 slots.
 abbrev pub FitsItem : Item → Type 0
 FitsItem Head = Unit {0}
 FitsItem (Record entry) = EntryInBits entry

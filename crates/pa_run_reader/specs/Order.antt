@@ -27,7 +27,7 @@ kind (Cell cell index) = 4
 kind Report = 5
 kind End = 6
 
--- it may be the first of its kind: an index is 0
+-- an item at this place may be the first of its kind: its index, if it has one, is 0
 abbrev pub Begins : Place → Type 0
 Begins Head = Unit {0}
 Begins Record = Unit {0}
@@ -54,7 +54,7 @@ Continues last next = ⊥
 abbrev pub StandsBehind : Place → Place → Type 0
 StandsBehind last next = ((kind last < kind next) × Begins next) ⊎ Continues last next
 
--- the item may come right after the last one; the head comes first
+-- the item may come right after the last one, and without a last one it is the head
 abbrev pub Follows : Option Item → Item → Type 0
 Follows None next = next ≡ items.Head
 Follows (Some last) next = StandsBehind (item_place last) (item_place next)

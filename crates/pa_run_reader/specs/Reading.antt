@@ -1,7 +1,7 @@
 -- Reading from left to right: each reader returns what the bytes begin with, and the bytes after it.
 use Rattle.std.specs.Prelude.{◌≡◌, ℕ, nat_eq, nat_lt, if◌then◌else◌, List, length, take, drop, codes, Option, Some, None}
 use Rattle.std.specs.Cmp.Lexicographic.{pointwise}
-use Rattle.pa_machine.specs.declared.word.SlotName.{SlotName}
+use Rattle.pa_slot.specs.declared.word.SlotName.{SlotName}
 use Rattle.pa_text.specs.Reading.{◌>>=◌, number_at, hexes_at}
 
 -- what a function returned, seen by view, is what reading yields
@@ -27,7 +27,7 @@ first_read (Some x) second = Some x
 abbrev pub narrowed : ℕ × List ℕ → Option (ℕ × List ℕ)
 narrowed x = if nat_lt x.0 18446744073709551616 then Some x else None
 
--- the number at the start, if it has at most 64 bits; if it is below the limit
+-- the number at the start, if it has at most 64 bits
 unfoldable pub wide_at : List ℕ → Option (ℕ × List ℕ)
 wide_at bytes = do
   x ← number_at bytes
@@ -39,7 +39,7 @@ below_at limit bytes = do
   x ← wide_at bytes
   if nat_lt x.0 limit then Some x else None
 
--- a word and the number after it
+-- a word and the number after it, if that is below the limit
 unfoldable pub below_in : List ℕ → ℕ → List ℕ → Option (ℕ × List ℕ)
 below_in word limit bytes = do
   rest ← after_word word bytes

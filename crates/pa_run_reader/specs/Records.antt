@@ -9,7 +9,7 @@ use Rattle.pa_run_reader.specs.Reading.{after_word, either, first_read, below_at
 
 -- ---- answers
 
--- ` SLOT FOUND`, and the same or nothing
+-- ` SLOT FOUND`: a slot's name and the word that was found
 unfoldable pub seen_in : List ℕ → Option (Seen × List ℕ)
 seen_in bytes = do
   rest ← after_word (codes " ") bytes
@@ -27,7 +27,7 @@ some_seen_in bytes = do
 unfoldable pub seen_if_in : List ℕ → Option (Option Seen × List ℕ)
 seen_if_in bytes = either (after_word (codes " ") bytes) (λ rest. some_seen_in bytes) (Some (None, bytes))
 
--- after the answer's name: its fields
+-- after `made`: ` SLOT USABLE FOUND`
 unfoldable pub made_in : List ℕ → Option (Answer × List ℕ)
 made_in bytes = do
   rest ← after_word (codes " ") bytes
@@ -80,7 +80,7 @@ shared_in bytes = do
   seen ← seen_in bytes
   Some (Shared seen.0, seen.1)
 
--- the answers that name a slot, those that are a word, and those that have a number
+-- an answer that names a slot, or may name one
 unfoldable pub slot_answer_in : List ℕ → Option (Answer × List ℕ)
 slot_answer_in bytes =
     either (after_word (codes "made") bytes) made_in (either (after_word (codes "done") bytes) done_in

@@ -10,7 +10,7 @@ use Rattle.pa_run_reader.specs.declared.item.Item.{Item}
 use Rattle.pa_run_reader.specs.declared.item.Item.TheVariants as items
 use Rattle.pa_run_reader.specs.Reading.{after_word, either, below_at, below_in, wide_in, slot_in}
 
--- a word in place of a number, or a number below the limit
+-- a number below the limit, as one that may be absent
 abbrev pub some_below_at : ℕ → List ℕ → Option (Option ℕ × List ℕ)
 some_below_at limit bytes = do
   x ← below_at limit bytes
@@ -27,7 +27,7 @@ numbered_in bytes = do
   number ← wide_in (codes "@") slot.1
   Some (record { slot = slot.0; number = number.0 }, number.1)
 
--- a slot before others
+-- a slot before those that were read after it
 abbrev pub slot_before : Numbered → Option (List Numbered × List ℕ) → Option (List Numbered × List ℕ)
 slot_before slot None = None
 slot_before slot (Some x) = Some (slot ∷ x.0, x.1)
@@ -38,7 +38,7 @@ slots_in zero bytes = Some ([], bytes)
 slots_in (suc k) bytes =
     either (after_word (codes " ") bytes) (λ rest. numbered_in rest >>= λ slot. slot_before slot.0 (slots_in k slot.1)) (Some ([], bytes))
 
--- at least one of them
+-- the slots that were read, if there is at least one
 abbrev pub if_any : List Numbered × List ℕ → Option (List Numbered × List ℕ)
 if_any x = if length x.0 == 0 then None else Some x
 
@@ -48,7 +48,7 @@ batch_in bytes = do
   x ← slots_in 16 bytes
   if_any x
 
--- after the act's name: its fields
+-- after `fill `: the class, the pool's entry or `-`, and 1 to 16 slots
 unfoldable pub fill_in : List ℕ → Option (RootAct × List ℕ)
 fill_in bytes = do
   class ← below_at class_count bytes

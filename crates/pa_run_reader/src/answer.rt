@@ -8,8 +8,8 @@ ghost use Rattle.pa_run_reader.specs.Reading.{Yields};
 ghost use Rattle.pa_run_reader.specs.Records.{seen_in, seen_if_in, made_in, value_in, dangling_in, done_in, second_free_in, not_owner_in, stale_use_in, shared_in, slot_answer_in, plain_answer_in, counted_answer_in, answer_in, record_in};
 
 use crate::field::{NUMBERS, behind, field, slot, small, word};
-use pa_machine::Word;
 use pa_record::{Answer, Entry, Seen};
+use pa_slot::Word;
 
 // ` SLOT FOUND`.
 #[tactic(auto, unfolding(crate::specs::Records::seen_in))]

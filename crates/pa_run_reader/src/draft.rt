@@ -3,8 +3,8 @@ ghost use Rattle.pa_run_reader.specs.Gathered.{gathered_with, HasListOf, IsUngat
 
 use crate::Item;
 use pa_dense::{DenseJournal, DenseRun, journals_of};
-use pa_machine::OutOfMemory;
 use pa_record::{Entry, History, PoolEntry, ReportLine, Run};
+use pa_slot::OutOfMemory;
 use pa_trace::{CELLS, MOST_PARTITIONS};
 use std::alloc::Global;
 use std::marker::Model;
@@ -34,7 +34,7 @@ impl Model for Draft {
 }
 
 impl Draft {
-    // Nothing yet.
+    // A draft of a run of which nothing was read yet.
     pub fn new(alloc: Global) -> Result<Draft, OutOfMemory>
         ensures { IfOk result IsUngathered }
     {
@@ -89,7 +89,7 @@ impl Draft {
         })
     }
 
-    // The same, with its journals kept densely.
+    // The run that was read, with its journals kept densely.
     pub fn into_dense(self) -> DenseRun
         ensures { TellsGathered self result }
     {

@@ -1,7 +1,7 @@
 ghost use Rattle.std.specs.Prelude.{◌≡◌};
 ghost use Rattle.pa_run_reader.specs.declared.fault.RunFault.TheVariants as faults;
 
-use pa_machine::OutOfMemory;
+use pa_slot::OutOfMemory;
 use std::error::Error;
 use std::fmt;
 

@@ -1,12 +1,12 @@
 ghost use Rattle.std.specs.Prelude.{◌≡◌, ℕ, ◌<◌, ◌≤◌, ◌^◌, List, ◌++◌, codes, IfSome};
 ghost use Rattle.std.specs.Fmt.{decimal};
-ghost use Rattle.pa_machine.specs.declared.word.SlotName.{SlotName};
+ghost use Rattle.pa_slot.specs.declared.word.SlotName.{SlotName};
 ghost use Rattle.pa_text.specs.Hex.{hex, slot_text, SlotFits};
 ghost use Rattle.pa_record.specs.Text.{field_text};
 ghost use Rattle.pa_run_reader.specs.Reading.{Yields, after_word, below_at, wide_at, below_in, wide_in, hexes_in, slot_in};
 
 use crate::digits::{below, hexes, number};
-use pa_machine::SlotName;
+use pa_slot::SlotName;
 
 // One more than the greatest number of 32 bits.
 pub const NUMBERS: u64 = 1 << 32;
@@ -20,7 +20,7 @@ pub fn behind<'a>(word: &[u8], bytes: &'a [u8]) -> Option<&'a [u8]>
     rest_behind(word, bytes)
 }
 
-// The same, byte by byte.
+// The bytes after a word with which they begin, compared byte by byte.
 #[tactic(auto, unfolding(crate::specs::Reading::after_word), using(pa_text::proofs::Fronts::front_found, pa_text::proofs::Fronts::front_none))]
 fn rest_behind<'a>(word: &[u8], bytes: &'a [u8]) -> Option<&'a [u8]>
     ensures { Yields (λ x. x.now) result (after_word word.now bytes.now) }

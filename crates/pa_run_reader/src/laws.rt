@@ -9,7 +9,7 @@ ghost use Rattle.pa_run_reader.specs.Item.{item_text};
 ghost use Rattle.pa_run_reader.specs.Order.{IsFirstBad, AreInOrder, items_of};
 ghost use Rattle.pa_run_reader.specs.Gathered.{Gathered, TellsGathered};
 
-/// No text is both: the text of a run has no bad line.
+/// The law that the text of a run has no bad line, so no text is both read and refused.
 pub fn one_reading()
     ensures { (r : Run) (bytes : List ℕ) (m : ℕ) → IsRunText r bytes → IsFirstBad 1 None (lines_of bytes) m → ⊥ }
 {}

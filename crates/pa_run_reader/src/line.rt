@@ -22,7 +22,7 @@ pub fn line_at(bytes: &[u8]) -> Option<(Item, &[u8])>
     item(bytes)
 }
 
-// The same, as the list is read.
+// The item whose line comes first in the bytes, and the bytes after it, read as `item_in` reads them as a list.
 #[tactic(auto, unfolding(crate::specs::Lines::item_in))]
 fn item(bytes: &[u8]) -> Option<(Item, &[u8])>
     ensures read { Yields {Y = Item × List ℕ} (λ x. (x.0, x.1.now)) result (item_in bytes.now) }

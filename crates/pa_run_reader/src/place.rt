@@ -40,7 +40,7 @@ pub fn place_of(item: &Item) -> Place
     }
 }
 
-// The rank of the kind in their order.
+// The rank of the place's kind in the order of the kinds.
 fn kind(place: Place) -> u32
     ensures { result ≡ kind place }
 {
@@ -55,7 +55,7 @@ fn kind(place: Place) -> u32
     }
 }
 
-// Whether it may be the first of its kind.
+// Whether an item at this place may be the first of its kind.
 fn begins(place: Place) -> bool
     ensures { IsTrue result ↔ Begins place }
 {

@@ -29,7 +29,7 @@ pub fn read_run(alloc: Global, bytes: &[u8]) -> Result<Run, RunFault>
     Ok(draft.into_run(alloc)?)
 }
 
-/// The same run, with its journals kept densely.
+/// Reads a run from its text as `read_run` does, with its journals kept densely.
 pub fn read_dense_run(alloc: Global, bytes: &[u8]) -> Result<DenseRun, RunFault>
     requires { length bytes.now < 2 ^ 32 - 1 }
     ensures found { IfOk result (λ r. IsRunText r bytes.now) }
@@ -54,7 +54,7 @@ fn read_draft(alloc: Global, bytes: &[u8]) -> Result<Draft, RunFault>
     read_items(alloc, rest)
 }
 
-// The same, after the head, which is line 1.
+// What the run contains whose text the bytes end, after its head, which is line 1.
 fn read_items(alloc: Global, bytes: &[u8]) -> Result<Draft, RunFault>
     requires { length bytes.now < 2 ^ 32 - 2 }
     ensures found { IfOk result (λ d. (r : Told) → TellsGathered d r → IsRunText r (codes "run 1\n" ++ bytes.now)) }

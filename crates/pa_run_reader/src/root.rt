@@ -79,7 +79,7 @@ fn slots(bytes: &[u8]) -> Option<(Batch, &[u8])>
     Some((batch, rest))
 }
 
-// The same for at least one slot.
+// ` SLOT@K` for each of 1 to 16 slots.
 #[tactic(auto, unfolding(crate::specs::Roots::batch_in))]
 fn batch(bytes: &[u8]) -> Option<(Batch, &[u8])>
     ensures read { Yields {Y = List Numbered × List ℕ} (λ x. (x.0, x.1.now)) result (batch_in bytes.now) }

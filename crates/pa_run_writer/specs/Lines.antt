@@ -22,7 +22,7 @@ pub record IsJournalText (journal : OneJournal) (len : ℕ) (bytes : List ℕ) :
   pub count : length journal.entries ≡ len
   pub text : bytes ≡ journal_text journal.partition journal.entries
 
--- the journals are those of the partitions from P on
+-- the journals are those of the partitions from p on, in order
 abbrev pub AreFrom : ℕ → List OneJournal → Type 0
 AreFrom p [] = Unit {0}
 AreFrom p (j ∷ js) = (j.partition ≡ p) × AreFrom (p + 1) js

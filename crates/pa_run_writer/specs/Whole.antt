@@ -17,7 +17,7 @@ pub record HasLists (records : List Entry) (journals : List (List RootEntry)) (t
   pub cells : r.cells.items ≡ histories
   pub report : r.report.items ≡ lines
 
--- the bytes are the text of a run that has them
+-- the bytes are the text of a run that has these lists
 pub record IsTextOfLists (records : List Entry) (journals : List (List RootEntry)) (turns : List PoolEntry) (histories : List (List CellEntry)) (lines : List ReportLine)
     (bytes : List ℕ) : Type 0 where
   pub run : Run

@@ -5,8 +5,8 @@ ghost use Rattle.std.specs.List.{AllByRecursion};
 ghost use Rattle.pa_record.specs.Bits.{RootInBits};
 
 use crate::lines::Lines;
-use pa_machine::OutOfMemory;
 use pa_record::LentEntry;
+use pa_slot::OutOfMemory;
 use pa_text::Text;
 use std::alloc::Global;
 use std::marker::Model;
@@ -31,7 +31,7 @@ impl Model for Journals {
 }
 
 impl Journals {
-    /// That many journals with no entries.
+    /// This many journals with no entries.
     pub fn new(alloc: Global, partitions: u32) -> Result<Journals, OutOfMemory>
         ensures none { IfOk result (λ journals. journals ≡ replicate partitions []) }
     {

@@ -4,8 +4,8 @@ ghost use Rattle.pa_record.specs.Bits.{RootInBits};
 ghost use Rattle.pa_record.specs.Text.{journal_text};
 
 use crate::past::and_lent;
-use pa_machine::OutOfMemory;
 use pa_record::{LentEntry, RootEntry, push_root, root_fits};
+use pa_slot::OutOfMemory;
 use pa_text::{Past, Text};
 use std::alloc::Global;
 use std::marker::Model;
@@ -67,7 +67,7 @@ impl Lines {
         }
     }
 
-    // The lines.
+    // The text of the journal's lines.
     pub(crate) fn text(&self) -> &[u8]
         ensures text { result.now ≡ journal_text self.now.partition self.now.entries }
         ensures fits { AllByRecursion RootInBits self.now.entries }

@@ -1,8 +1,8 @@
 ghost use Rattle.std.specs.Prelude.{◌≡◌, [], ◌∷◌, ◌++◌, IfOk, OnOk, OnErr};
 ghost use Rattle.pa_run_writer.specs.Lines.{IsRecordsText};
 
-use pa_machine::OutOfMemory;
 use pa_record::{Entry, entry_fits, push_entry};
+use pa_slot::OutOfMemory;
 use pa_text::{Past, Text, push_bytes};
 use std::alloc::Global;
 use std::marker::Model;

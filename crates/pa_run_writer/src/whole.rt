@@ -4,11 +4,11 @@ ghost use Rattle.pa_record.specs.RunText.{IsPrintable};
 ghost use Rattle.pa_run_writer.specs.Whole.{HasLists, IsTextOfLists};
 
 use crate::{Journals, Records};
-use pa_machine::OutOfMemory;
 use pa_record::{
     History, PoolEntry, ReportLine, histories_fit, pool_fits, push_cells, push_pool, push_report,
     report_fits,
 };
+use pa_slot::OutOfMemory;
 use pa_text::push_bytes;
 
 /// The text of the run with these records, journals, entries of the pool, histories of the cells and lines of the report. Each

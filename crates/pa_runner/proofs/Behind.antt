@@ -1,4 +1,4 @@
--- The workers of a phase from one thread on: the first one, and those behind it.
+-- The workers of a phase from one thread on: the first one, and those after it.
 use Rattle.std.proofs.Common.{◌≡◌, ℕ, zero, suc, ◌+◌, ◌<◌, List, ◌∷◌, length, sym, ◌∙◌, subst, arith}
 use Rattle.pa_op_specs.specs.Workers.{WorkerValue}
 use Rattle.pa_runner.specs.declared.thread_lines.LineOp.{LineOp}
@@ -18,7 +18,7 @@ module _ (first : ℕ) (queues others : List (List LineOp)) (workers rest : List
   pub ready_first : (lines : List LineOp) → lines ≡ queue → CanPlay lines worker
   ready_first lines same = subst (λ (ls : List LineOp). CanPlay ls worker) (sym same) (all.each zero (omega arith))
 
-  -- those behind it are ready from the next thread on
+  -- those after it are ready from the next thread on
   pub ready_behind : AreReadyFrom (first + 1) others rest
   ready_behind = record {
     count = (let c = all.count in omega arith);
@@ -27,7 +27,7 @@ module _ (first : ℕ) (queues others : List (List LineOp)) (workers rest : List
     settled = λ k low. all.settled (suc k) (omega arith);
   }
 
--- if the first one played its lines and those behind it theirs, all did
+-- if the first one played its lines and those after it theirs, all did
 played_both : (queue : List LineOp) (others : List (List LineOp)) (worker now : WorkerValue) (rest then : List WorkerValue) → IsPlayed queue worker now → ArePlayed others rest then →
     ArePlayed (queue ∷ others) (worker ∷ rest) (now ∷ then)
 played_both queue others worker now rest then first behind zero low = first

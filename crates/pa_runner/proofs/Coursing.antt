@@ -1,4 +1,4 @@
--- A phase that passed is one more of the execution; and when all workers have their stakes back, the next one begins.
+-- A phase that passed is one more of the execution. When all workers have their stakes back, the next one begins.
 use Rattle.std.proofs.Common.{◌≡◌, ℕ, ◌+◌, ◌<◌, ◌≤◌, List, length, map, sym, ◌∙◌, ap, subst, arith}
 use Rattle.pa_region.specs.declared.view.View.{View}
 use Rattle.pa_region.specs.Views.{stake_of}

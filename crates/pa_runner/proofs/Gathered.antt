@@ -24,7 +24,7 @@ at_place ws k w low = get_or-set_same ws k w no_worker low
 beside : (ws : List WorkerValue) (k j : ℕ) (w : WorkerValue) → (j ≡ k → ⊥) → worker_in (set ws k w) j ≡ worker_in ws j
 beside ws k j w ne = get_or-set_other ws k j w no_worker ne
 
--- ---- tell
+-- ---- stakes are lent
 
 pub record IsTelling (k : ℕ) (before now : List WorkerValue) (first seat : View) : Type 0 where
   pub count : length now ≡ length before
@@ -78,7 +78,7 @@ tell_ready k before now first seat d telling few has =
     let here : get_or now k d ≡ worker_in now k = (let long = telling.count in get_or_default now k d no_worker (omega arith)) in
     subst (λ (z : WorkerValue). 0 < stake_of z.stock.view z.stock.thread) (sym (here ∙ telling.told.others k (omega arith))) (has.each k few)
 
--- ---- hear
+-- ---- stakes come back
 
 pub record IsHearing (k : ℕ) (before now : List WorkerValue) (whole seat : View) : Type 0 where
   pub count : length now ≡ length before

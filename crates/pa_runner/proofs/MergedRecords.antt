@@ -28,7 +28,7 @@ keys_are n phase [] = refl
 keys_are n phase (Phase ∷ ls) = keys_are (n + 1) (phase + 1) ls
 keys_are n phase (Do thread op ∷ ls) = ap (λ ks. (n, thread) ∷ ks) (keys_are (n + 1) phase ls)
 
--- The records of the lines before index i were merged; and for each thread it is known how many of its records that took.
+-- The records of the lines before index i were merged. For each thread it is known how many of its records that took.
 pub record IsMerging (i : ℕ) (ls : List Line) (next : List ℕ) (merged es : List Entry) : Type 0 where
   pub rest : List Entry
   pub is : es ≡ merged ++ rest

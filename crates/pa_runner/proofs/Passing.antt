@@ -110,7 +110,7 @@ module _ (queues : List (List LineOp)) (before after : List WorkerValue) (first 
   pub passed_every : HasEveryStake seat
   passed_every = heard_every (length before) (worker_in over.ends) first seat over.heard
 
-  -- and no worker has more records than it had room for
+  -- no worker has more records than it had room for
   pub passed_few : AreReady queues before → ((k : ℕ) → k < length before → (worker_in before k).room ≤ 65536) → (k : ℕ) → k < length before → length (worker_in after k).records ≤ 65536
   passed_few ready few k low =
       let can = (ready.each k low).room in

@@ -84,7 +84,7 @@ place_start t k queue w begins none = subst (λ (q : List LineOp). IsAtPlace t 0
   lines = refl;
 })
 
--- it can play its lines
+-- a worker at its place can play its lines
 pub place_ready : (t : Trace) (i k : ℕ) (queue : List LineOp) (w : WorkerValue) → IsAtPlace t i k queue w → CanPlay queue w
 place_ready t i k queue w at = record {
   going = at.going;

@@ -3,12 +3,13 @@ use Rattle.std.proofs.Common.{◌≡◌, Bool, true, false, ℕ, zero, suc, ◌+
 use Rattle.std.proofs.Common.{take, drop, get_or}
 use Rattle.std.proofs.Math.Seq.{take_all}
 use Rattle.std.proofs.lemmas.Bool.{eqb-true}
+use Rattle.std.proofs.lemmas.Option.{slice_get-get_or}
 use Rattle.std.proofs.lemmas.List.{map-append, length-map, length-append, take_more}
 use Rattle.pa_trace.specs.declared.script.Op.{Op}
 use Rattle.pa_trace.specs.declared.script.Op.TheVariants.{Purge}
-use Rattle.std.specs.Prelude.{Contains, OnOk}
+use Rattle.std.specs.Prelude.{Contains, OnOk, OnErr}
 use Rattle.std.specs.declared.result.Result.{Result}
-use Rattle.std.specs.declared.result.Result.TheVariants.{Ok}
+use Rattle.std.specs.declared.result.Result.TheVariants.{Ok, Err}
 use Rattle.std.specs.List.{AllByRecursion}
 use Rattle.pa_trace.specs.Limits.{IsOpWithin}
 use Rattle.pa_record.specs.declared.entry.Answer.{Answer}
@@ -27,6 +28,7 @@ use Rattle.pa_op_specs.proofs.Following.{composes}
 use Rattle.pa_execution.proofs.Playing.{stays}
 use Rattle.pa_runner.specs.declared.thread_lines.LineOp.{LineOp}
 use Rattle.pa_runner.specs.Playing.{in_phase, AreBefore, EndsWith, CanPlay, PlaysLines, IsPlayed}
+use Rattle.pa_runner.specs.Stopped.{StopsOp}
 
 -- ---- records of lines before a line
 
@@ -191,6 +193,11 @@ stopped_owes w v same = ap (λ (z : WorkerValue). z.owed) same
 pub stopped_records : (w v : WorkerValue) {s : StockValue} {n : ℕ} → v ≡ record w { stock = s; room = n; stopped = true; owed = none_owed } → v.records ≡ w.records
 stopped_records w v same = ap (λ (z : WorkerValue). z.records) same
 
+-- of an error both are said
+pub both_on_err : {T E : Type 0} (r : Result T E) (P Q : Type 0) → OnErr r P → OnErr r Q → OnErr r (P × Q)
+both_on_err (Ok x) P Q p q = tt
+both_on_err (Err e) P Q p q = (p, q)
+
 -- ---- whether there are lines
 
 pub none_there : (n : ℕ) (b : Bool) → b ≡ (n == 0) → b ≡ true → n ≡ 0
@@ -248,14 +255,24 @@ back_settled ends ds i u v w past some played kept is stake =
     let whole = all_lines ds i u v past played in
     subst (IsPlayed ds u) (sym is) (back_whole ds u (settled_worker v) (settled_lines ends ds u v some kept whole (subst (λ (z : WorkerValue). HasItsStake z.stock) is stake)) refl)
 
-pub back_stopped : (ds : List LineOp) (i : ℕ) (u w v : WorkerValue) → i < length ds → PlaysLines (take i ds) u w → KeepsItsStake w.stock v.stock → v.stopped ≡ true → v.owed ≡ none_owed →
-    v.records ≡ w.records → IsPlayed ds u v
-back_stopped ds i u w v low played keeps stopped settled records =
+pub back_stopped : (ds : List LineOp) (i : ℕ) (d : LineOp) (u w v : WorkerValue) → i < length ds → PlaysLines (take i ds) u w → KeepsItsStake w.stock v.stock → v.stopped ≡ true →
+    v.owed ≡ none_owed → v.records ≡ w.records → StopsOp (get_or ds i d).line (get_or ds i d).op w v → IsPlayed ds u v
+back_stopped ds i d u w v low played keeps stopped settled records left =
     record {
       keeps = record { thread = keeps.thread ∙ same_thread played; stake = keeps.stake };
       settled = settled;
       played = λ going. let no : true ≡ false = sym stopped ∙ going in absurd cc;
-      stopped = λ is. record { count = i; more = low; last = w; played = played; keeps = keeps; records = records };
+      stopped = λ is. record {
+        count = i;
+        more = low;
+        due = get_or ds i d;
+        at = slice_get-get_or ds i d low;
+        last = w;
+        played = played;
+        keeps = keeps;
+        records = records;
+        left = left;
+      };
     }
 
 -- after the next line was played, without running out of memory

@@ -1,10 +1,10 @@
 -- The entries of a legal run's journals have a text: each fill and each give names a slot.
-use Rattle.std.proofs.Common.{◌≡◌, ℕ, zero, suc, ◌+◌, ◌<◌, Bool, List, [], ◌∷◌, length, take, drop, get_or, Option, Some, None, sym, ◌∙◌, ap, subst, arith, inl, inr}
+use Rattle.std.proofs.Common.{◌≡◌, ℕ, zero, suc, ◌+◌, ◌<◌, Bool, List, [], ◌∷◌, length, get_or, Option, Some, None, sym, ◌∙◌, ap, subst, arith, inl, inr}
 use Rattle.std.specs.Prelude.{Contains, ◌==◌, filter}
 use Rattle.std.specs.List.{AllByRecursion}
 use Rattle.std.proofs.lemmas.Bool.{cases_eq, cases_lt, eq-eqb}
 use Rattle.std.proofs.lemmas.List.Elements.{All-from_get_or, recursion_from_All, Contains-append_cases, Contains-get_or}
-use Rattle.pa_machine.specs.declared.word.Step.{Step}
+use Rattle.pa_slot.specs.declared.word.Step.{Step}
 use Rattle.pa_trace.specs.declared.script.Trace.{Trace}
 use Rattle.pa_record.specs.declared.entry.Seen.{Seen}
 use Rattle.pa_record.specs.declared.entry.Answer.{Answer}
@@ -12,36 +12,26 @@ use Rattle.pa_record.specs.declared.entry.Answer.TheVariants as answers
 use Rattle.pa_record.specs.declared.numbered.Numbered.{Numbered}
 use Rattle.pa_record.specs.declared.root.RootEntry.{RootEntry}
 use Rattle.pa_record.specs.declared.root.RootAct.{RootAct}
-use Rattle.pa_record.specs.declared.root.RootAct.TheVariants.{Fill, Map, Full, Give, Purge}
+use Rattle.pa_record.specs.declared.root.RootAct.TheVariants.{Fill, Map, Full, Purge}
 use Rattle.pa_record.specs.RunText.{NamesSlots}
 use Rattle.pa_lists.proofs.Joined.{map_in, filter_in}
 use Rattle.pa_lists.proofs.Members.{not_in_none, in_cases}
 use Rattle.pa_rules.specs.declared.played.Played.{Played}
 use Rattle.pa_rules.specs.Played.{step_of}
 use Rattle.pa_rules.specs.Roots.{Journals}
-use Rattle.pa_rules.specs.Caches.{Cache, acts_of, OnlyActs, FilledFirst, MadeRow, FullRow, ReturnRow, DoneRow, PurgedRow, CacheRow, batches, gives, spilled, unmap_at, purge_acts}
+use Rattle.pa_rules.specs.Caches.{Cache, acts_of, OnlyActs, FilledFirst, MadeRow, FullRow, ReturnRow, DoneRow, PurgedRow, CacheRow, gives, spilled, unmap_at, purge_acts}
 use Rattle.pa_rules.specs.Told.{Told, records_of}
 use Rattle.pa_rules.specs.Legal.{IsLegalTold}
+use Rattle.pa_rules.proofs.Batches.{gives_names}
 use Rattle.pa_legal.proofs.holders.Records.{row_of}
 use Rattle.pa_logs.proofs.Filters.{place_at}
 
 -- ---- the acts of gives and of purges
 
-in_batches : (n : ℕ) (xs : List Numbered) (a : RootAct) → Contains (batches n xs) a → NamesSlots a
-in_batches zero xs a among = absurd (not_in_none a among)
-in_batches (suc n) [] a among = absurd (not_in_none a among)
-in_batches (suc n) (x ∷ xs) a among = elim (in_cases (Give (take 16 (x ∷ xs))) a (batches n (drop 16 (x ∷ xs))) among) [
-  | inl e ↦ let some : 0 < length (take 16 (x ∷ xs)) = omega arith in subst NamesSlots e some
-  | inr rest ↦ in_batches n (drop 16 (x ∷ xs)) a rest
-]
-
-in_gives : (xs : List Numbered) (a : RootAct) → Contains (gives xs) a → NamesSlots a
-in_gives xs a among = in_batches (length xs) xs a among
-
 in_purge : (lists : ℕ → List Numbered) (class n : ℕ) (a : RootAct) → Contains (purge_acts lists class n) a → NamesSlots a
 in_purge lists class zero a among = elim (in_cases Purge a [] among) [ inl e ↦ subst NamesSlots e tt | inr none ↦ absurd (not_in_none a none) ]
 in_purge lists class (suc n) a among = elim (Contains-append_cases (gives (lists class)) (purge_acts lists (class + 1) n) a among) [
-  | inl here ↦ in_gives (lists class) a here
+  | inl here ↦ gives_names (lists class) a here
   | inr later ↦ in_purge lists (class + 1) n a later
 ]
 
@@ -77,7 +67,7 @@ module _ (partitions : ℕ) (roots : Journals) (x : Played) (p : ℕ) (a : RootA
 
   by_return : (slot : Numbered) (cache after : Cache) → ReturnRow roots x slot cache after → NamesSlots a
   by_return slot cache after (inl (q, class, of, only, becomes)) =
-      of_acts q (gives (spilled class (slot ∷ cache q class))) only (in_gives (spilled class (slot ∷ cache q class)))
+      of_acts q (gives (spilled class (slot ∷ cache q class))) only (gives_names (spilled class (slot ∷ cache q class)))
   by_return slot cache after (inr (q, asked, number, direct, only, becomes)) = of_one q (unmap_at asked slot.slot number) only tt
 
   by_done : (step : Option Step) (seen : Seen) (cache after : Cache) → DoneRow roots x step seen cache after → NamesSlots a

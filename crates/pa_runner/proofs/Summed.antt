@@ -38,7 +38,7 @@ count_at ws i p d w counts e is low kept same small =
 
 -- ---- counts
 
--- So many slots the first i workers counted; they are few, since each counted at most one step for each of its records.
+-- The first i workers counted this many slots. They are few, since each counted at most one step for each of its records.
 pub record IsAdding (part : Count → ℕ) (p i : ℕ) (ws : List WorkerValue) (slots : ℕ) : Type 0 where
   pub by : IsCountedBy part p i (worker_in ws) slots
   pub few : slots ≤ 65536 * i
@@ -80,7 +80,7 @@ module _ (p i : ℕ) (ws : List WorkerValue) (n more : Count) (is : more ≡ cou
 abbrev pub together : Tally → Tally → Tally
 together a b = record { slots = a.slots + b.slots; bytes = a.bytes + b.bytes }
 
--- The tally is what the lists of the first i workers have; it is small, since no list is long.
+-- The tally is what the lists of the first i workers have. It is small, since no list is long.
 pub record IsCaching (p i : ℕ) (ws : List WorkerValue) (t : Tally) : Type 0 where
   pub by : IsCachedBy p i (worker_in ws) t
   pub few : t.slots ≤ 3776 * i

@@ -11,7 +11,7 @@ use Rattle.pa_trace.specs.declared.script.Line.TheVariants.{Phase, Do}
 use Rattle.pa_trace.specs.declared.script.Op.{Op}
 use Rattle.pa_rules.specs.Played.{OpLine, op_lines}
 use Rattle.pa_rules.specs.Legal.{phases_in}
-use Rattle.pa_rules.proofs.Lined.{phase_after, lines_push, phases_are}
+use Rattle.pa_rules.proofs.Lined.{phase_after, lines_push, phases_are, phase_on}
 use Rattle.pa_execution.specs.Courses.{is_line_of, lines_in}
 use Rattle.pa_runner.specs.Tracing.{is_by, lines_by}
 use Rattle.pa_rules.proofs.Lined.{lines_phase}
@@ -46,16 +46,11 @@ none_before n phase m k (Phase ∷ ls) low = none_before (n + 1) (phase + 1) m k
 none_before n phase m k (Do thread op ∷ ls) low =
     rw (other_phase m k (record { line = n; thread = thread; phase = phase; op = op }) (λ e. omega arith)) (none_before (n + 1) phase m k ls low)
 
-grows : (phase : ℕ) (ls : List Line) → phase ≤ phase_after phase ls
-grows phase [] = omega arith
-grows phase (Phase ∷ ls) = let again = grows (phase + 1) ls in omega arith
-grows phase (Do thread op ∷ ls) = grows phase ls
-
 none_behind : (n phase m k : ℕ) (ls : List Line) → phase_after phase ls < m → filter (is_line_of m k) (op_lines n phase ls) ≡ []
 none_behind n phase m k [] high = refl
 none_behind n phase m k (Phase ∷ ls) high = none_behind (n + 1) (phase + 1) m k ls high
 none_behind n phase m k (Do thread op ∷ ls) high =
-    let up = grows phase ls in
+    let up = phase_on phase ls in
     rw (other_phase m k (record { line = n; thread = thread; phase = phase; op = op }) (λ e. omega arith)) (none_behind (n + 1) phase m k ls high)
 
 -- ---- up to a place of the trace
@@ -92,7 +87,7 @@ module _ (ls : List Line) (i : ℕ) (low : i < length ls) where
           after phase (Phase ∷ zs) = after (phase + 1) zs
           after phase (Do thread op ∷ zs) = after phase zs
 
-  -- and none of the next one
+  -- a thread has no line yet of a phase that begins
   pub phase_new : (k : ℕ) → get_or ls i Phase ≡ Phase → lines_in (take (i + 1) ls) (phase_at (i + 1) ls) k ≡ []
   phase_new k is =
       let more : take (i + 1) ls ≡ take i ls ++ Phase ∷ [] = take_more ls i Phase low ∙ ap (λ l. take i ls ++ l ∷ []) is in

@@ -1,3 +1,4 @@
+pub mod Stopped
 pub mod Playing
 pub mod Phases
 pub mod Tracing

@@ -13,7 +13,7 @@ use Rattle.pa_execution.specs.Gathering.{HasHeardSome, HasAnswered, told_worker}
 use Rattle.pa_runner.specs.declared.thread_lines.LineOp.{LineOp}
 use Rattle.pa_runner.specs.Playing.{CanPlay, PlaysLines, IsPlayed}
 
--- the worker to use if there is none; the worker of a thread, and its lines
+-- the worker to use if there is none: it has stopped and has nothing
 abbrev pub no_worker : WorkerValue
 no_worker = record {
   stock = record { thread = 0; partitions = 0; view = first_view 0 0; registers = []; caches = [] };
@@ -24,11 +24,11 @@ no_worker = record {
   owed = none_owed;
 }
 
--- the worker at place k; one that has stopped and has nothing if there is none
+-- the worker at place k, or one that has stopped and has nothing if there is none
 abbrev pub worker_in : List WorkerValue → ℕ → WorkerValue
 worker_in workers k = slice_index_or workers k no_worker
 
--- the queue of lines at place k; empty if there is none
+-- the queue of lines at place k, empty if there is none
 abbrev pub queue_in : List (List LineOp) → ℕ → List LineOp
 queue_in queues k = slice_index_or queues k []
 
@@ -40,7 +40,7 @@ pub record AreReadyFrom (first : ℕ) (queues : List (List LineOp)) (workers : L
   pub each : (k : ℕ) → k < length workers → CanPlay (queue_in queues k) (worker_in workers k)
   pub settled : (k : ℕ) → k < length workers → (worker_in workers k).owed ≡ none_owed
 
--- all workers are
+-- all workers, from thread 0 on, can play the lines of their queues, and owe nothing to the totals words
 abbrev pub AreReady : List (List LineOp) → List WorkerValue → Type 0
 AreReady queues workers = AreReadyFrom 0 queues workers
 
@@ -57,7 +57,7 @@ pub record HaveStakes (workers : List WorkerValue) : Type 0 where
   pub thread : (k : ℕ) → k < length workers → (worker_in workers k).stock.thread ≡ k
   pub each : (k : ℕ) → k < length workers → HasItsStake (worker_in workers k).stock
 
--- each worker has handed its stake over, and has none; and it owes nothing to the totals words
+-- each worker has handed its stake over, has none, and owes nothing to the totals words
 pub record HaveNone (workers : List WorkerValue) : Type 0 where
   pub thread : (k : ℕ) → k < length workers → (worker_in workers k).stock.thread ≡ k
   pub each : (k : ℕ) → k < length workers → (j : ℕ) → stake_of (worker_in workers k).stock.view j ≡ 0
@@ -76,13 +76,13 @@ pub record HeardFrom (threads k : ℕ) (whole : View) (before after : WorkerValu
   pub heard : after ≡ worker_with_view (united before.stock.view (given_after (stake_parcel k) seat)) before
   pub lists : SameLists (listed_in after.stock) (listed_in before.stock)
 
--- so did the first `count` workers, and the others are as they were
+-- the first `count` workers got their stakes back from the main seat, and the others are as they were
 pub record HaveHeard (threads count : ℕ) (whole : View) (before after : List WorkerValue) : Type 0 where
   pub heard : (k : ℕ) → k < count → HeardFrom threads k whole (worker_in before k) (worker_in after k)
   pub others : (k : ℕ) → count ≤ k → worker_in after k ≡ worker_in before k
 
--- All workers are back from a phase with these lines: each was as `ends` then, whether it played its own or is stopped; and all
--- handed their stake to the main seat, which was `first` before.
+-- All workers are back from a phase with these lines. Each was as `ends` then, whether it played its own or is stopped. All handed
+-- their stake to the main seat, which was `first` before.
 pub record HaveReturned (queues : List (List LineOp)) (before after : List WorkerValue) (first seat : View) : Type 0 where
   pub ends : List WorkerValue
   pub count : length ends ≡ length before

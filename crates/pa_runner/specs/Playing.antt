@@ -1,5 +1,5 @@
 -- The lines of one thread in one phase, and what the worker that played them did.
-use Rattle.std.specs.Prelude.{◌≡◌, ℕ, ◌+◌, ◌<◌, ◌≤◌, List, [], ◌∷◌, ◌++◌, true, false, map, length, take, Contains}
+use Rattle.std.specs.Prelude.{◌≡◌, ℕ, ◌+◌, ◌<◌, ◌≤◌, List, [], ◌∷◌, ◌++◌, Some, true, false, map, length, take, slice_get, Contains}
 use Rattle.std.specs.List.{AllByRecursion}
 use Rattle.pa_trace.specs.Limits.{IsOpWithin}
 use Rattle.pa_record.specs.declared.entry.Entry.{Entry}
@@ -10,6 +10,7 @@ use Rattle.pa_op_specs.specs.Workers.{WorkerValue, HasItsStake}
 use Rattle.pa_op_specs.specs.Plays.{PlaysAll}
 use Rattle.pa_thread_state.specs.Stopping.{KeepsItsStake}
 use Rattle.pa_runner.specs.declared.thread_lines.LineOp.{LineOp}
+use Rattle.pa_runner.specs.Stopped.{StopsOp}
 
 -- the op line that this is, of a thread in a phase
 abbrev pub in_phase : (phase thread : ℕ) → LineOp → OpLine
@@ -28,7 +29,7 @@ AreBefore n es = (e : Entry) → Contains es e → e.line < n
 abbrev pub EndsWith : Entry → List Entry → Type 0
 EndsWith e es = (rest : List Entry) × (es ≡ rest ++ e ∷ [])
 
--- A worker can play these lines: it isn't stopped, has its stake and room for their records; each line is within the limits; and
+-- A worker can play these lines. It isn't stopped, has its stake and room for their records. Each line is within the limits, and
 -- their numbers rise, after those of its records.
 pub record CanPlay (lines : List LineOp) (w : WorkerValue) : Type 0 where
   pub going : w.stopped ≡ false
@@ -37,8 +38,8 @@ pub record CanPlay (lines : List LineOp) (w : WorkerValue) : Type 0 where
   pub limits : AllByRecursion (λ (due : LineOp). IsOpWithin w.stock.partitions due.op) lines
   pub rise : (n : ℕ) × AreBefore n w.records × RiseFrom n lines
 
--- It played them, in order, in whatever phase they are. It has one more record for each, isn't stopped, has its stake, and room for
--- as many records in all as before.
+-- The worker played these lines, in order, in whatever phase they are. It has one more record for each, isn't stopped, has its stake,
+-- and room for as many records in all as before.
 pub record PlaysLines (lines : List LineOp) (before after : WorkerValue) : Type 0 where
   pub plays : (phase : ℕ) → (xs : List ToldRecord) × PlaysAll before xs after
       × (map op_line_of (played_in xs) ≡ map (in_phase phase before.stock.thread) lines)
@@ -49,14 +50,17 @@ pub record PlaysLines (lines : List LineOp) (before after : WorkerValue) : Type 
   pub room : after.room ≡ before.room
 
 -- Memory ran out at one of these lines: the worker played those before it, and was as `last` then. It has its stake still, and the
--- records that it had, so none of that line.
+-- records that it had, so none of that line; its registers, lists and counts are what the line's op leaves then.
 pub record StopsAt (lines : List LineOp) (before after : WorkerValue) : Type 0 where
   pub count : ℕ
   pub more : count < length lines
+  pub due : LineOp
+  pub at : slice_get lines count ≡ Some due
   pub last : WorkerValue
   pub played : PlaysLines (take count lines) before last
   pub keeps : KeepsItsStake last.stock after.stock
   pub records : after.records ≡ last.records
+  pub left : StopsOp due.line due.op last after
 
 -- A worker is back from these lines: it has its stake still, and owes nothing to the totals words. If it isn't stopped, it played them,
 -- and if it is, it stopped at one.

@@ -12,11 +12,11 @@ use Rattle.pa_thread_state.specs.Censuses.{TellsCensus, HasSameLists}
 use Rattle.pa_op_specs.specs.Workers.{WorkerValue}
 use Rattle.pa_execution.specs.Lines.{sum_over, IsLiveOf, IsQuarantinedOf, IsCachedBy}
 
--- So many slots of partition p the first `threads` workers counted.
+-- The first `threads` workers counted this many slots of partition p.
 abbrev pub IsCountedBy : (part : Count → ℕ) → (p threads : ℕ) → (workers : ℕ → WorkerValue) → (slots : ℕ) → Type 0
 IsCountedBy part p threads workers slots = slots ≡ sum_over (λ k. part (counted_in (workers k).counts p)) threads
 
--- each of four counts is so
+-- each of the four counts is what the first `threads` workers counted of partition p
 pub record AreCountedBy (p threads : ℕ) (workers : ℕ → WorkerValue) (count : Count) : Type 0 where
   pub issued : IsCountedBy (λ (n : Count). n.issued) p threads workers count.issued
   pub freed : IsCountedBy (λ (n : Count). n.freed) p threads workers count.freed

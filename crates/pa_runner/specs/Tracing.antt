@@ -3,7 +3,7 @@ use Rattle.std.specs.Prelude.{ℕ, Bool, false, ◌==◌, List, count_by}
 use Rattle.pa_trace.specs.declared.script.Line.{Line}
 use Rattle.pa_trace.specs.declared.script.Line.TheVariants.{Phase, Do}
 
--- the line is thread k's; how many there are
+-- the line is thread k's
 abbrev pub is_by : ℕ → Line → Bool
 is_by k Phase = false
 is_by k (Do thread op) = thread == k

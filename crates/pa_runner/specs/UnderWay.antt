@@ -47,7 +47,7 @@ pub record IsReportOf (t : Trace) (phases : ℕ) (course : Course) (report : Lis
   pub within : (l : ReportLine) → Contains report l → (1 ≤ l.phase) × (l.phase ≤ phases)
   pub right : (l : ReportLine) → Contains report l → IsLineFor l.phase t.threads (course.ends l.phase) (course.seats l.phase) l
 
--- At line index i of the trace this is the phase; those before are over, and all workers have their stakes back since.
+-- At line index i of the trace this is the phase. The phases before are over, and all workers have their stakes back since.
 pub record IsUnderWay (t : Trace) (i phase : ℕ) (workers : List WorkerValue) (queues : List (List LineOp)) (seat : View)
     (report : List ReportLine) : Type 0 where
   pub over : ℕ
@@ -62,8 +62,9 @@ pub record IsUnderWay (t : Trace) (i phase : ℕ) (workers : List WorkerValue) (
   pub each : (k : ℕ) → k < t.threads → IsAtPlace t i k (queue_in queues k) (worker_in workers k)
   pub reported : IsReportOf t over course report
 
--- Memory ran out when a trace was under way to some line index, in some phase. Either no line of that phase was played, and workers and
--- main seat are as they were; or all workers are back from the phase, with or without having stopped, and the main seat has every stake.
+-- Memory ran out when a trace was under way to some line index, in some phase. Either no line of that phase was played, and workers
+-- and main seat are as they were, or all workers are back from the phase, with or without having stopped, and the main seat has every
+-- stake.
 pub record StopsIn (t : Trace) (workers : List WorkerValue) (seat : View) : Type 0 where
   pub index : ℕ
   pub phase : ℕ

@@ -20,7 +20,8 @@ use Rattle.pa_runner.specs.Recorded.{HasSpanRecords}
 use Rattle.pa_runner.specs.Reporting.{IsLineFor}
 
 -- All phases of a trace were played by new workers, and this is how:
---   ends, ended, told: the workers were as `ends` when the last phase was over; then each handed its stake to the main seat
+--   ends, ended: the workers were as `ends` when the last phase was over
+--   told: then each handed its stake to the main seat
 --   main: the main seat has every other stake besides, and no unclean Own
 --   places, right: the report has one line for each phase and partition in order, and each is right at the end of its phase
 pub record HasPlayed (t : Trace) (workers : List WorkerValue) (seat : View) (report : List ReportLine) : Type 0 where

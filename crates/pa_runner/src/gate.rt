@@ -11,7 +11,7 @@ use std::thread::Threads;
 /// What is called around each line that a worker plays, on the thread that plays it. A test can hold a thread there. It changes
 /// nothing that a contract sees.
 pub trait Gate: Sync {
-    /// Called before a line; the worker has no record of it yet, and all records that it has are of lines before.
+    /// Called before a line. The worker has no record of it yet, and all records that it has are of lines before.
     fn pass<R: Threads + Wait + Sync, N: Name>(
         &self,
         rt: &R,
@@ -22,7 +22,7 @@ pub trait Gate: Sync {
         requires thread { worker.now.stock.thread ≡ thread }
         requires new { AreBefore line worker.now.records };
 
-    /// Called after a line; the worker's last record is that line's. If the op ran out of memory, this isn't called.
+    /// Called after a line. The worker's last record is that line's. If the op ran out of memory, this isn't called.
     fn answered<R: Threads + Wait + Sync, N: Name>(
         &self,
         rt: &R,

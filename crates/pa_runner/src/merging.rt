@@ -6,9 +6,9 @@ ghost use Rattle.pa_record.specs.declared.entry.Entry.{Entry};
 ghost use Rattle.pa_runner.specs.Merging.{IsMergeOf};
 
 use pa_heap::Worker;
-use pa_machine::OutOfMemory;
 use pa_record::Entry;
 use pa_region::Name;
+use pa_slot::OutOfMemory;
 use pa_trace::{Line, MOST_THREADS};
 use std::alloc::Global;
 

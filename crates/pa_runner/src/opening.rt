@@ -13,8 +13,8 @@ ghost use Rattle.pa_runner.specs.Opening.{IsNewFor, AreNew, after_opening};
 
 use crate::counting::count_lines;
 use pa_heap::Worker;
-use pa_machine::OutOfMemory;
 use pa_region::{Mark, Name, Seat};
+use pa_slot::OutOfMemory;
 use pa_thread_state::Heap;
 use pa_trace::Trace;
 use std::alloc::Global;

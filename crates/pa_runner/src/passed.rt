@@ -13,17 +13,17 @@ use crate::phase::tell_all;
 use crate::phases::Playing;
 use crate::queue::Queue;
 use pa_heap::Worker;
-use pa_machine::OutOfMemory;
 use pa_record::ReportLine;
 use pa_region::{Name, Seat};
+use pa_slot::OutOfMemory;
 use std::marker::{Send, Sync};
 use std::sync::Wait;
 use std::thread::Threads;
 
 impl<R: Threads + Wait + Sync, N: Name + Send + Sync, G: Gate> Playing<'_, R, N, G> {
     /// Each worker plays its lines of a phase, and when all are back, each hands its stake to the main seat. If none ran out of
-    /// memory, the phase's lines are appended to the report then. The only error is out of memory, after all have handed over; the
-    /// report then has the lines of the first partitions, or none.
+    /// memory, the phase's lines are appended to the report then. The only error is out of memory, after all have handed over.
+    /// The report then has the lines of the first partitions, or none.
     pub fn pass_phase(
         &self,
         workers: &mut [Worker<N>],

@@ -1,4 +1,4 @@
-//! One phase: the workers play their lines, beside each other; then they lend their stakes to the main seat.
+//! One phase: the workers play their lines, beside each other, and then they lend their stakes to the main seat.
 ghost use Rattle.std.specs.Prelude.{◌≡◌, ◌↔◌, ℕ, ◌+◌, ◌<◌, ◌≤◌, Any, IsTrue, length};
 ghost use Rattle.std.specs.Thread.{IsSync};
 ghost use Rattle.pa_trace.specs.Limits.{most_threads};
@@ -38,8 +38,8 @@ impl<R: Threads + Wait + Sync, N: Name + Send + Sync, G: Gate> Playing<'_, R, N,
         self.play_from(0, workers, queues);
     }
 
-    // The workers from this thread on play their lines. If the first of them has lines and one after it too, they play beside each
-    // other; else all that the first one does is done here, before the others play.
+    // The workers from this thread on play their lines. If the first of them has lines and one after it too, they play beside
+    // each other. Else all that the first one does is done here, before the others play.
     #[cycle(playing)]
     fn play_from(&self, first: u32, workers: &mut [Worker<N>], queues: &[Queue])
         requires few { first + length workers.old ≤ most_threads }

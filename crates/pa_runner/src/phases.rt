@@ -13,9 +13,9 @@ use crate::phase::hear_all;
 use crate::queue::Queue;
 use crate::thread_lines::LineOp;
 use pa_heap::Worker;
-use pa_machine::OutOfMemory;
 use pa_record::ReportLine;
 use pa_region::{Name, Seat};
+use pa_slot::OutOfMemory;
 use pa_thread_state::Heap;
 use pa_trace::{Line, Trace};
 use std::alloc::Global;
@@ -37,9 +37,9 @@ pub struct Playing<'a, R, N: Name, G> {
 }
 
 impl<R: Threads + Wait + Sync, N: Name + Send + Sync, G: Gate> Playing<'_, R, N, G> {
-    /// Plays the lines of the trace phase after phase, and returns the report. In each phase each worker plays its own lines; then
-    /// all hand their stakes to the main seat, and if another phase follows they get them back from it. If memory runs out, the phases
-    /// before are over, and all workers are back from this one, or have played none of its lines.
+    /// Plays the lines of the trace phase after phase, and returns the report. In each phase each worker plays its own lines.
+    /// Then all hand their stakes to the main seat, and if another phase follows they get them back from it. If memory runs
+    /// out, the phases before are over, and all workers are back from this one, or have played none of its lines.
     pub fn play_phases(
         &self,
         alloc: Global,
@@ -75,8 +75,8 @@ impl<R: Threads + Wait + Sync, N: Name + Send + Sync, G: Gate> Playing<'_, R, N,
         Ok(report)
     }
 
-    // The lines of a phase are played, and the next phase begins: all workers have their stakes back, and their queues are empty. If
-    // memory runs out, all are back from the phase, and have handed over.
+    // Plays the lines of a phase, after which the next phase begins: all workers have their stakes back, and their queues are
+    // empty. If memory runs out, all are back from the phase, and have handed over.
     fn next_phase(
         &self,
         workers: &mut [Worker<N>],

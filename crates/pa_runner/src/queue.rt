@@ -1,5 +1,5 @@
 use crate::thread_lines::LineOp;
-use pa_machine::OutOfMemory;
+use pa_slot::OutOfMemory;
 use std::alloc::Global;
 use std::marker::Model;
 

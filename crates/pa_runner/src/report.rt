@@ -11,10 +11,10 @@ ghost use Rattle.pa_runner.specs.Reporting.{AreCountedBy, HasAsked, IsBalance, I
 
 use crate::phases::Playing;
 use pa_heap::Worker;
-use pa_machine::OutOfMemory;
 use pa_op_specs::Count;
 use pa_record::{Census, ReportLine, Tally};
 use pa_region::{Name, Seat};
+use pa_slot::OutOfMemory;
 use std::sync::Wait;
 
 impl<R: Wait, N: Name, G> Playing<'_, R, N, G> {

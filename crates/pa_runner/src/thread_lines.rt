@@ -6,20 +6,21 @@ ghost use Rattle.pa_op_specs.specs.Workers.{CanPlayOp, KeepsOn};
 ghost use Rattle.pa_op_specs.specs.Plays.{PlaysOp};
 ghost use Rattle.pa_thread_state.specs.Stopping.{KeepsItsStake};
 ghost use Rattle.pa_runner.specs.Playing.{AreBefore, CanPlay, PlaysLines, IsPlayed};
+ghost use Rattle.pa_runner.specs.Stopped.{StopsOp};
 
 use crate::gate::Gate;
 use crate::phases::Playing;
 use pa_heap::Worker;
-use pa_machine::OutOfMemory;
 use pa_op_specs::settlings_end_phases;
 use pa_record::Answer;
 use pa_region::Name;
+use pa_slot::OutOfMemory;
 use pa_thread_state::Heap;
 use pa_trace::Op;
 use std::sync::Wait;
 use std::thread::Threads;
 
-/// An op of a thread, and the number of its line in the trace; the trace's head is line 1.
+/// An op of a thread, and the number of its line in the trace. The trace's head is line 1.
 #[derive(Clone, Copy, Debug, PartialEq, Eq)]
 pub struct LineOp {
     pub line: u32,
@@ -27,8 +28,9 @@ pub struct LineOp {
 }
 
 impl<R: Threads + Wait + Sync, N: Name, G: Gate> Playing<'_, R, N, G> {
-    /// Plays a thread's lines in their order, and adds the bytes of its steps to the totals words then. If an op runs out of memory the
-    /// worker is stopped, and plays no more; it has no record of that op, but has its stake all the same, and owes nothing.
+    /// Plays a thread's lines in their order, and adds the bytes of its steps to the totals words then. If an op runs out of
+    /// memory the worker is stopped, and plays no more. It has no record of that op, but has its stake all the same, and owes
+    /// nothing.
     pub fn play_lines(&self, worker: &mut Worker<N>, thread: u32, lines: &[LineOp])
         requires thread { worker.old.stock.thread ≡ thread }
         requires ready { CanPlay lines.now worker.old }
@@ -61,6 +63,7 @@ impl<R: Threads + Wait + Sync, N: Name, G: Gate> Playing<'_, R, N, G> {
         ensures stake { OnErr result (KeepsItsStake worker.old.stock worker.new.stock) }
         ensures settled { OnErr result (worker.new.owed ≡ none_owed) }
         ensures records { OnErr result (worker.new.records ≡ worker.old.records) }
+        ensures left { OnErr result (StopsOp due.line due.op worker.old worker.new) }
     {
         self.gate.pass(self.rt, worker, thread, due.line);
         let answer = play_op(self.rt, self.heap, worker, due)?;
@@ -85,6 +88,7 @@ fn play_op<R: Wait, N: Name>(
     ensures stake { OnErr result (KeepsItsStake worker.old.stock worker.new.stock) }
     ensures settled { OnErr result (worker.new.owed ≡ none_owed) }
     ensures records { OnErr result (worker.new.records ≡ worker.old.records) }
+    ensures left { OnErr result (StopsOp due.line due.op worker.old worker.new) }
 {
     let line = due.line;
     match due.op {

@@ -11,9 +11,9 @@ use crate::opening::open_workers;
 use crate::phases::Playing;
 use pa_cells::slots_stay_seen;
 use pa_heap::{Left, Worker, close};
-use pa_machine::OutOfMemory;
 use pa_record::{ReportLine, Run};
 use pa_region::{Closed, Name, Region, Seat};
+use pa_slot::OutOfMemory;
 use pa_thread_state::Heap;
 use pa_trace::Trace;
 use std::alloc::Global;
@@ -22,8 +22,9 @@ use std::sync::Wait;
 use std::thread::Threads;
 
 /// Plays a trace within the limits, each thread's lines of a phase on a thread of its own if it gets one, and returns the run
-/// and the region's words at the end. The run is a legal run of the trace, and those words hold it. Which of the legal runs it is
-/// depends on how the threads interleaved; with one thread there is one. The only error is out of memory, with all threads joined.
+/// and the region's words at the end. The run is a legal run of the trace, and those words hold it. Which of the legal runs it
+/// is depends on how the threads interleaved. With one thread there is one. The only error is out of memory, with all threads
+/// joined.
 pub fn run_trace<R: Threads + Wait + Sync, G: Gate>(
     rt: &R,
     alloc: Global,

@@ -1,6 +1,6 @@
 -- What is read of a line of a script is what is spelled and within the limits.
 use Rattle.std.proofs.Common.{◌≡◌, ℕ, ◌<◌, ◌≤◌, Bool, true, false, cond, ltb, ◌&&◌, List, [], Result, Ok, Err, codes, refl, sym, subst, ◌∙◌, ap, arith}
-use Rattle.std.proofs.lemmas.Bool.{ltb-true, lt-ltb, and_parts, and_from}
+use Rattle.std.proofs.lemmas.Bool.{ltb-true, lt-ltb, and_parts, and_from, both_ways}
 use Rattle.pa_trace.specs.declared.field.LineFault.{LineFault}
 use Rattle.pa_trace.specs.declared.field.LineFault.TheVariants.{Outside, Past}
 use Rattle.pa_trace.specs.declared.line.Head.{Head}
@@ -12,7 +12,7 @@ use Rattle.pa_trace.specs.Limits.{IsHeadWithin}
 use Rattle.pa_trace.specs.Reading.{◌>>=◌, below, within, line_in}
 use Rattle.pa_trace.proofs.Fields.{bind_ok, three_at, three_takes, three_again, three_handed, three_is}
 use Rattle.pa_trace.proofs.Limits.{tested, below_fit, within_fit, head_ok, checked_head, head_with, head_cases, head_within, within_head}
-use Rattle.pa_trace.proofs.Limits.{let_through, kept_out, not_both, IsNotRead, line_read, line_not_read}
+use Rattle.pa_trace.proofs.Limits.{let_through, kept_out, IsNotRead, line_read, line_not_read}
 use Rattle.pa_trace.proofs.Shapes.{three_shape, shape_of}
 use Rattle.pa_script.specs.declared.script.ScriptLine.{ScriptLine}
 use Rattle.pa_script.specs.declared.script.ScriptLine.TheVariants.{Plain, Resize}
@@ -117,7 +117,7 @@ module _ (partitions threads : ℕ) (few_threads : threads ≤ 4294967296) where
   resize_refused bytes (Ok x) d same e =
       let t = kept_out (resize_ok threads x) (resize_with x) d e in
       let past : IsNotResize partitions threads Past bytes =
-      (resize_with x, resize_takes bytes x same, λ h. not_both (resize_ok threads x) (within_resize threads few_threads x h) t.0) in
+      (resize_with x, resize_takes bytes x same, λ h. both_ways (resize_ok threads x) t.0 (within_resize threads few_threads x h)) in
       subst (λ (k : LineFault). IsNotResize partitions threads k bytes) (sym t.1) past
   resize_refused bytes (Err f) d same e =
       let out : IsNotResize partitions threads Outside bytes =
@@ -162,7 +162,7 @@ module _ (partitions threads : ℕ) (few : partitions ≤ 4294967296) (few_threa
   plain_refused bytes (Ok l) d none same e =
       let t = kept_out (names_few l) (Plain l) d e in
       let read = line_read partitions threads few few_threads bytes l same in
-      let past : IsScriptNotRead partitions threads Past bytes = (Plain l, read.0, λ h. not_both (names_few l) (names_are_few l h.1) t.0) in
+      let past : IsScriptNotRead partitions threads Past bytes = (Plain l, read.0, λ h. both_ways (names_few l) t.0 (names_are_few l h.1)) in
       subst (λ (k : LineFault). IsScriptNotRead partitions threads k bytes) (sym t.1) past
   plain_refused bytes (Err f) d none same e =
       let is : f ≡ d = cc in
@@ -221,7 +221,7 @@ head_refused : (bytes : List ℕ) (r : Result (ℕ × ℕ × ℕ) LineFault) (d 
 head_refused bytes (Ok x) d same e =
     let t = kept_out (head_ok x) (head_with x.0 x.1 x.2) d e in
     let takes = three_takes bytes (codes "script 1 region ") (codes " partitions ") (codes " threads ") x same in
-    let past : IsScriptHeadNotRead Past bytes = (x.0, x.1, x.2, takes, λ h. not_both (head_ok x) (within_head x.0 x.1 x.2 h) t.0) in
+    let past : IsScriptHeadNotRead Past bytes = (x.0, x.1, x.2, takes, λ h. both_ways (head_ok x) t.0 (within_head x.0 x.1 x.2 h)) in
     subst (λ (k : LineFault). IsScriptHeadNotRead k bytes) (sym t.1) past
 head_refused bytes (Err f) d same e =
     let out : IsScriptHeadNotRead Outside bytes =

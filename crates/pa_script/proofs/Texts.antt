@@ -1,9 +1,8 @@
 -- A line of a script and its head have no LF, and a text belongs to one line, and to one head.
-use Rattle.std.proofs.Common.{◌≡◌, ◌∙◌, ℕ, List, [], ◌∷◌, ◌++◌, codes, Option, Some, None, Result, Ok, refl, ap, sym, subst, append_assoc, arith}
+use Rattle.std.proofs.Common.{◌≡◌, ◌∙◌, ℕ, List, [], ◌∷◌, ◌++◌, codes, Option, Some, None, Ok, refl, ap, sym, subst, append_assoc, arith}
 use Rattle.pa_text.specs.Numeral.{IsNumeral}
 use Rattle.pa_text.specs.Reading.{number_at}
 use Rattle.pa_text.proofs.Numerals.{number_again}
-use Rattle.pa_trace.specs.declared.field.LineFault.{LineFault}
 use Rattle.pa_trace.specs.declared.script.Line.{Line}
 use Rattle.pa_trace.specs.declared.script.Line.TheVariants.{Phase, Do}
 use Rattle.pa_trace.specs.declared.script.Op.{Op}
@@ -12,7 +11,7 @@ use Rattle.pa_trace.specs.Grammar.{IsOpText, IsLineText}
 use Rattle.pa_trace.specs.Cut.{IsOneLine}
 use Rattle.pa_trace.proofs.Cuts.{word_line, three_line, line_line}
 use Rattle.pa_trace.proofs.Fields.{three_at, three_again}
-use Rattle.pa_trace.proofs.Texts.{one_line_of}
+use Rattle.pa_trace.proofs.Texts.{one_line_of, ok_head}
 use Rattle.pa_script.specs.declared.script.ScriptLine.{ScriptLine}
 use Rattle.pa_script.specs.declared.script.ScriptLine.TheVariants.{Plain, Resize}
 use Rattle.pa_script.specs.Grammar.{IsScriptHeadText, IsScriptLineText}
@@ -78,9 +77,6 @@ plain_apart (Do t op) thread reg size text h g =
 
 -- ---- a text belongs to one line, and to one head
 
-ok_numbers : (x y : ℕ × ℕ × ℕ) → ◌≡◌ {A = Result (ℕ × ℕ × ℕ) LineFault} (Ok x) (Ok y) → x ≡ y
-ok_numbers x y e = cc
-
 resize_numbers : (thread reg size : ℕ) (text : List ℕ) → IsScriptLineText (Resize thread reg size) text
     → three_at text [] (codes " S r") (codes " ") ≡ Ok (thread, reg, size)
 resize_numbers thread reg size text h =
@@ -99,8 +95,8 @@ one_script_line (Plain k) (Resize thread reg size) text h g = absurd (plain_apar
 one_script_line (Resize thread reg size) (Plain l) text h g = absurd (plain_apart l thread reg size text g h)
 one_script_line (Resize thread reg size) (Resize t r s) text h g =
     ap (λ (x : ℕ × ℕ × ℕ). Resize x.0 x.1 x.2)
-    (ok_numbers (thread, reg, size) (t, r, s) (sym (resize_numbers thread reg size text h) ∙ resize_numbers t r s text g))
+    (ok_head (thread, reg, size) (t, r, s) (sym (resize_numbers thread reg size text h) ∙ resize_numbers t r s text g))
 
 pub one_script_head : (r p t s q u : ℕ) (text : List ℕ) → IsScriptHeadText r p t text → IsScriptHeadText s q u text
     → ◌≡◌ {A = ℕ × ℕ × ℕ} (r, p, t) (s, q, u)
-one_script_head r p t s q u text h g = ok_numbers (r, p, t) (s, q, u) (sym (head_numbers r p t text h) ∙ head_numbers s q u text g)
+one_script_head r p t s q u text h g = ok_head (r, p, t) (s, q, u) (sym (head_numbers r p t text h) ∙ head_numbers s q u text g)

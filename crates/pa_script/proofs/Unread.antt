@@ -17,7 +17,7 @@ use Rattle.pa_script.specs.Unread.{script_with, IsScriptReadUpTo, IsScriptLineRe
 use Rattle.pa_script.proofs.Lines.{script_head_read, script_head_not_read, script_line_read, script_line_not_read}
 use Rattle.pa_script.proofs.Behind.{first_past, first_unread, first_later, first_end, first_is_fault, head_unread, head_later, over_room, in_room, under_room}
 
--- line n, which has so many bytes, and so many may still come, is one line or one byte too many
+-- line n, of `len` bytes when `left` may still come, is one line or one byte too many
 abbrev IsOver : ℕ → ℕ → ℕ → Type 0
 IsOver n len left = (10000 < n) ⊎ (left < len)
 

@@ -12,7 +12,7 @@ use Rattle.pa_script.specs.Limits.{IsScriptLineWithin, most_script_lines}
 abbrev pub IsPastScript : ℕ → ℕ → List ℕ → Type 0
 IsPastScript n before line = (most_script_lines < n) ⊎ (most_bytes < before + length line)
 
--- the line is a head's text and an LF; it is the text of a line after the head, and an LF
+-- the line is the text of a script's head, and an LF
 abbrev pub IsScriptHeadLine : ℕ → ℕ → ℕ → List ℕ → Type 0
 IsScriptHeadLine region partitions threads line =
     (text : List ℕ) × IsScriptHeadText region partitions threads text × (line ≡ text ++ 10 ∷ [])
@@ -21,7 +21,7 @@ IsScriptHeadLine region partitions threads line =
 abbrev pub IsScriptBodyLine : ScriptLine → List ℕ → Type 0
 IsScriptBodyLine l line = (text : List ℕ) × IsScriptLineText l text × (line ≡ text ++ 10 ∷ [])
 
--- the line is outside the grammar or has no LF, as a head and as a line after a head
+-- as a head, the line is outside the grammar or has no LF
 abbrev pub IsBadScriptHead : List ℕ → Type 0
 IsBadScriptHead line = (region partitions threads : ℕ) → IsScriptHeadLine region partitions threads line → ⊥
 
@@ -29,7 +29,7 @@ IsBadScriptHead line = (region partitions threads : ℕ) → IsScriptHeadLine re
 abbrev pub IsBadScriptLine : List ℕ → Type 0
 IsBadScriptLine line = (l : ScriptLine) → IsScriptBodyLine l line → ⊥
 
--- the line is in the grammar and a number passes its limit, as a head and as a line after a head
+-- as a head, the line is in the grammar and a number passes its limit
 abbrev pub IsScriptHeadOverLimit : List ℕ → Type 0
 IsScriptHeadOverLimit line =
     (region partitions threads : ℕ) × IsScriptHeadLine region partitions threads line × (IsHeadWithin region partitions threads → ⊥)
@@ -39,8 +39,8 @@ abbrev pub IsScriptLineOverLimit : ℕ → ℕ → List ℕ → Type 0
 IsScriptLineOverLimit partitions threads line =
     (l : ScriptLine) × IsScriptBodyLine l line × (IsScriptLineWithin partitions threads l → ⊥)
 
--- the first faulty one of the lines after a head, of which the first is line n and comes after this many bytes:
--- it is faulty itself, or it is in the grammar and the limits and a later one is the first faulty one
+-- The first fault of the lines after a head, of which the first is line n and comes after this many bytes. That line is faulty
+-- itself, or it is in the grammar and the limits and a later one is the first faulty one.
 abbrev pub IsFirstScriptBehind : ℕ → ℕ → ℕ → ℕ → List (List ℕ) → TraceFault → Type 0
 IsFirstScriptBehind partitions threads n before [] e = ⊥
 IsFirstScriptBehind partitions threads n before (line ∷ lines) e =
@@ -48,7 +48,7 @@ IsFirstScriptBehind partitions threads n before (line ∷ lines) e =
     ⊎ ((l : ScriptLine) × IsScriptBodyLine l line × IsScriptLineWithin partitions threads l × (IsPastScript n before line → ⊥)
     × IsFirstScriptBehind partitions threads (n + 1) (before + length line) lines e)
 
--- the first faulty one of all lines; if there is none, line 1 is bad
+-- the fault of the first faulty one of all lines, which is at line 1 if there is no line at all
 abbrev pub IsFirstScriptOf : List (List ℕ) → TraceFault → Type 0
 IsFirstScriptOf [] e = e ≡ BadLine 1
 IsFirstScriptOf (line ∷ lines) e =

@@ -30,7 +30,7 @@ NamesFewIn (Read reg place) = reg < named_count
 NamesFewIn (Swap cell reg) = (cell < named_count) × (reg < named_count)
 NamesFewIn Purge = Unit {0}
 
--- a line of a trace names only those
+-- a line of a trace names only registers and cells 0 to 62
 abbrev pub NamesFew : Line → Type 0
 NamesFew Phase = Unit {0}
 NamesFew (Do thread op) = NamesFewIn op

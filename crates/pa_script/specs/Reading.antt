@@ -27,7 +27,7 @@ resize_in threads bytes = do
   size ← within numbers.2
   Ok (Resize thread reg size)
 
--- the test that an op, and a line, names only registers and cells of a script
+-- the test that an op names only registers and cells of a script
 abbrev pub names_few_in : Op → Bool
 names_few_in (Alloc reg partition size) = nat_lt reg named_count
 names_few_in (Copy from to) = nat_lt from named_count && nat_lt to named_count

@@ -40,6 +40,6 @@ pub record IsScriptEndRead (u v : Unread) : Type 0 where
   pub stays : v ≡ u
   pub read : (bytes : List ℕ) (ls : List ScriptLine) → IsScriptReadUpTo bytes ls u → IsScriptInput (script_with u.head ls) bytes
 
--- a fault was read: it is that of the bytes
+-- a fault was read, which is the fault of the bytes
 abbrev pub IsScriptFaultRead : Unread → TraceFault → Type 0
 IsScriptFaultRead u e = (bytes : List ℕ) (ls : List ScriptLine) → IsScriptReadUpTo bytes ls u → IsScriptFault e bytes

@@ -1,4 +1,4 @@
-ghost use Rattle.std.specs.Prelude.{◌≡◌, ◌<◌, ◌≤◌, ◌⊎◌, ◌↔◌, [], IsTrue, IfOk, IfErr, MatchOption};
+ghost use Rattle.std.specs.Prelude.{◌≡◌, ◌≢◌, ◌<◌, ◌≤◌, ◌⊎◌, ◌↔◌, [], IsTrue, IfOk, IfErr, OnErr, MatchOption};
 ghost use Rattle.pa_trace.specs.declared.fault.TraceFault.TheVariants as faults;
 ghost use Rattle.pa_script.specs.Limits.{most_script_lines};
 ghost use Rattle.pa_script.specs.Faults.{IsScriptFault};
@@ -30,10 +30,11 @@ impl<'a> Model for ScriptReader<'a> {
 }
 
 impl<'a> ScriptReader<'a> {
-    /// Reads the head, which is line 1.
+    /// Reads the head, which is line 1. It needs no memory.
     pub fn of(bytes: &'a [u8]) -> Result<ScriptReader<'a>, TraceFault>
         ensures head { IfOk result (IsScriptReadUpTo bytes.now []) }
         ensures fault { IfErr result (λ e. IsScriptFault e bytes.now) }
+        ensures never { IfErr result (λ e. e ≢ faults.OutOfMemory) }
     {
         let Some((first, rest)) = cut_line(bytes) else {
             return Err(without_end(1, bytes.len(), MOST_BYTES));
@@ -60,11 +61,13 @@ impl<'a> ScriptReader<'a> {
         self.head
     }
 
-    /// Reads the next line. `None` is the end: the bytes are a script.
+    /// Reads the next line. `None` is the end: the bytes are a script. It needs no memory, and after a fault the reader is as it was.
     pub fn next(&mut self) -> Result<Option<ScriptLine>, TraceFault>
         ensures line { IfOk result (λ found. MatchOption found
             (IsScriptEndRead self.old self.new) (λ l. IsScriptLineRead self.old l self.new)) }
         ensures fault { IfErr result (IsScriptFaultRead self.old) }
+        ensures never { IfErr result (λ e. e ≢ faults.OutOfMemory) }
+        ensures same { OnErr result (self.new ≡ self.old) }
     {
         let n = self.number;
         let rest = self.rest;
@@ -101,6 +104,7 @@ fn is_past(n: u32, length: usize, room: usize) -> bool
 fn without_end(n: u32, length: usize, room: usize) -> TraceFault
     ensures past { (most_script_lines < n) ⊎ (room < length) → result ≡ faults.Limit n }
     ensures bad { n ≤ most_script_lines → length ≤ room → result ≡ faults.BadLine n }
+    ensures never { result ≢ faults.OutOfMemory }
 {
     if is_past(n, length, room) {
         TraceFault::Limit(n)

@@ -19,7 +19,7 @@ use Rattle.pa_shelf.specs.Adding.{record_of_class, IsAddedAs}
 use Rattle.pa_shelf.specs.Shelves.{ShelfParts, StartsAtZero, RecordsRoot}
 use Rattle.pa_shelf.proofs.Moves.{there_is, elsewhere_is}
 
--- it can stand in the place of a record that isn't in use
+-- a record of the class can stand in the place of a record that isn't in use
 pub can_stand : (x y : SpanRecord) (class : ℕ) → y ≡ record_of_class class → IsOutside x → StartsAtZero x → StaysListed x y
 can_stand x y class is outside zero = subst (StaysListed x) (sym is)
     (record { class = inr outside.0; state = sym outside.0; turn = sym (zero outside.0); previous = sym outside.1; next = sym outside.2 })

@@ -4,8 +4,8 @@ use Rattle.std.specs.Prelude.{◌≢◌, AllPairs, All}
 use Rattle.pa_lists.proofs.Elements.{all_from_members}
 use Rattle.pa_lists.proofs.Members.{not_in_none, first_in, later_in, in_cases}
 use Rattle.pa_lists.proofs.Pairs.{pairs_head, pairs_tail}
-use Rattle.pa_machine.specs.declared.title.Title.{Title}
-use Rattle.pa_machine.specs.declared.word.SlotName.{SlotName}
+use Rattle.pa_slot.specs.declared.title.Title.{Title}
+use Rattle.pa_slot.specs.declared.word.SlotName.{SlotName}
 use Rattle.pa_record.specs.Spans.{Span, title_at, name_of}
 use Rattle.pa_record.specs.Root.{Root, returned, IsOut}
 use Rattle.pa_record.specs.Sound.{IsSound, IsMade}
@@ -59,7 +59,7 @@ still_slot r t u sound gone out differ =
     let one = one_slot r z x k i sound member inside (omega arith) (omega arith) (ap (λ (a : SlotName). a.born) names) (ap (λ (a : SlotName). a.start) names) in
     (y, among, j, still, is ∙ (ap (λ (s : Span). title_at s k) one.span ∙ (ap (title_at x) one.number ∙ sym same)))
 
--- so the rest of the slots can come back after the first
+-- once the first slot came back, the rest of the slots can
 pub rest_back : (v w : View) (l m : ShelfParts) (t : Title) (ts : List Title) (r : Root) → AreBack v l (t ∷ ts) r → Rewritten v w →
     ShowsRoot w m (returned (name_of t) r) → AreBack w m ts (returned (name_of t) r)
 rest_back v w l m t ts r b wrote shown =
@@ -75,7 +75,7 @@ rest_back v w l m t ts r b wrote shown =
       free = λ u inside. subst (λ (x : View). 0 < free_of x u) (sym wrote.rest) (b.free u (later_in t u ts inside));
     }
 
--- and the first one can
+-- the first slot of those that can come back can
 pub first_back : (v : View) (l : ShelfParts) (t : Title) (ts : List Title) (r : Root) → AreBack v l (t ∷ ts) r →
     (s : Span) × (n : ℕ) × IsBackAt v l s.place t r s n
 first_back v l t ts r b =

@@ -4,8 +4,8 @@ use Rattle.std.specs.Prelude.{AllPairs, slice_index_or}
 use Rattle.std.proofs.lemmas.Bool.{cases_Bool}
 use Rattle.std.proofs.lemmas.List.Elements.{All-contains}
 use Rattle.pa_lists.proofs.Elements.{all_from_members}
-use Rattle.pa_machine.specs.declared.title.Title.{Title}
-use Rattle.pa_machine.specs.Links.{first_word}
+use Rattle.pa_slot.specs.declared.title.Title.{Title}
+use Rattle.pa_slot.specs.Links.{first_word}
 use Rattle.pa_buckets.specs.declared.spans.State.{State}
 use Rattle.pa_record.specs.declared.taken.SuperPage.{SuperPage}
 use Rattle.pa_record.specs.Spans.{Span, name_of, same_place, same_state, put}

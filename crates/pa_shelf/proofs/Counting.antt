@@ -184,7 +184,7 @@ pages_had v l r at sound k inside =
     page_less : (page n class : ℕ) → class < 59 → n ≡ pages_of class → page + n ≤ 127 → page < 127
     page_less page n class real is last = let some = (IsRow-of class real).some_pages in omega arith
 
--- and its numbers are those that were added up
+-- the sums are the numbers of the root's census
 pub record AreCensus (r : Root) (a : Sums) : Type 0 where
   pub slots : a.slots ≡ sum_by kept_of r.spans
   pub bytes : a.bytes ≡ sum_by (λ (s : Span). slot_of s.class * kept_of s) r.spans

@@ -1,7 +1,7 @@
--- The slots that are cut before a take, as the record tells them.
+-- The slots that are cut before a take, by the record of the span.
 use Rattle.std.proofs.Common.{◌≡◌, ℕ, ◌+◌, ◌-◌, ◌*◌, ◌<◌, ◌≤◌, inl, inr, max, length, sym, ◌∙◌, ap, arith}
 use Rattle.std.proofs.Math.Nat.{mul-le-mul_left}
-use Rattle.pa_machine.specs.declared.title.Title.{Title}
+use Rattle.pa_slot.specs.declared.title.Title.{Title}
 use Rattle.pa_buckets.specs.Table.{slot_of, slots_of}
 use Rattle.pa_record.specs.Spans.{Span, title_at, more_slots}
 use Rattle.pa_record.specs.Root.{Root}

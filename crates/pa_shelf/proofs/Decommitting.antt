@@ -1,13 +1,10 @@
 -- The oldest empty span is decommitted: what is shown then.
-use Rattle.std.proofs.Common.{◌≡◌, ℕ, ◌≤◌, inl, inr, Bool, ◌==◌, if◌then◌else◌, List, length, [], ◌∷◌, Option, Some, None, refl, sym, ◌∙◌, ap, subst, arith}
+use Rattle.std.proofs.Common.{◌≡◌, ℕ, ◌≤◌, inl, inr, Bool, if◌then◌else◌, List, length, [], ◌∷◌, Option, Some, None, refl, sym, ◌∙◌, ap, subst, arith}
 use Rattle.std.specs.Prelude.{All, Contains}
 use Rattle.std.proofs.lemmas.Bool.{cases_Bool}
 use Rattle.std.proofs.lemmas.Bool.Decides.{eqb_tells}
-use Rattle.std.proofs.lemmas.List.Sums.{length-filter, count_by-le-length}
-use Rattle.std.specs.Prelude.{not}
 use Rattle.pa_lists.proofs.Members.{not_some}
 use Rattle.pa_lists.proofs.Pairs.{pairs_none}
-use Rattle.pa_buckets.specs.declared.spans.State.{State}
 use Rattle.pa_buckets.specs.declared.spans.State.TheVariants as state
 use Rattle.pa_record.specs.declared.taken.SuperPage.{SuperPage}
 use Rattle.pa_record.specs.Spans.{Span, same_state, without_pages, is_in, earliest}
@@ -17,7 +14,8 @@ use Rattle.pa_record.proofs.SpanSteps.{size_some}
 use Rattle.pa_region.specs.declared.view.View.{View}
 use Rattle.pa_region.specs.Aware.{IsAware}
 use Rattle.pa_spans.specs.declared.span.Span.{Span as SpanRecord}
-use Rattle.pa_spans.specs.Lists.{SpanListParts, Stand, StaysListed, lists_without, lists_with, lists_entered, ring_without, first_of_ring}
+use Rattle.pa_spans.specs.Lists.{SpanListParts, Stand, StaysListed, lists_without, lists_with, lists_entered, first_of_ring}
+use Rattle.pa_spans.proofs.Rings.{ring_shrinks}
 use Rattle.pa_records.specs.Words.{record_word, IsRecordAt, spans_in}
 use Rattle.pa_records.specs.Records.{record_with, titles_free}
 use Rattle.pa_records.specs.Stored.{alone}
@@ -64,14 +62,6 @@ pub without_stays : (x y z : SpanRecord) → x ≡ z → y ≡ without_pages_of 
 without_stays x y z e f = subst (λ (u : SpanRecord). StaysListed u y) e (subst (StaysListed x) (sym f)
     (record { class = inl refl; state = refl; turn = refl; previous = refl; next = refl }))
 
--- a ring without a member is no longer
-pub ring_shrinks : (at : ℕ) (a : State) (ring : List ℕ) → length (ring_without at a ring) ≤ length ring
-ring_shrinks at state.None ring = omega arith
-ring_shrinks at state.Active ring = omega arith
-ring_shrinks at state.Empty ring = omega (arith, length-filter (λ u. not (u == at)) ring, count_by-le-length (λ u. not (u == at)) ring)
-ring_shrinks at state.Decommitted ring = omega arith
-ring_shrinks at state.Full ring = omega arith
-
 pub few_left : (at : ℕ) (l : SpanListParts) (x : SpanRecord) → length l.ring ≤ 17 → length (lists_entered at state.Decommitted l x).ring ≤ 17
 few_left at l x few = elim (cases_Bool (same_state x.state state.Decommitted)) [
   | inl same ↦ subst (λ (b : Bool). length (if b then l else lists_with at x.class state.Decommitted (lists_without at x l)).ring ≤ 17) (sym same) few
@@ -112,7 +102,7 @@ decommit_shown v w l after at x y r aware wrote first x_is y_is moved sound show
           (entered_chain w state.Decommitted r.turn t (empty_chain w t refl));
     })
 
--- and if none is empty
+-- if no span is empty, the root is shown with its oldest empty span decommitted
 pub none_shown : (v : View) (l : ShelfParts) (r : Root) → first_of_ring l.lists.ring ≡ None → ShowsRoot v l r → ShowsRoot v l (oldest_decommitted r)
 none_shown v l r none shown =
     let k = shown.kept in

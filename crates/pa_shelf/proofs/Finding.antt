@@ -4,7 +4,7 @@ use Rattle.std.specs.Prelude.{AllPairs, Contains}
 use Rattle.std.proofs.lemmas.Bool.{cases_Bool, both_ways, cases_lt}
 use Rattle.pa_lists.proofs.Members.{not_in_none, in_cases}
 use Rattle.pa_lists.proofs.Pairs.{pairs_head, pairs_tail}
-use Rattle.pa_machine.specs.declared.title.Title.{Title}
+use Rattle.pa_slot.specs.declared.title.Title.{Title}
 use Rattle.pa_buckets.specs.declared.spans.State.TheVariants as state
 use Rattle.pa_buckets.specs.Table.{slot_of, pages_of, slots_of}
 use Rattle.pa_buckets.proofs.SpanRule.{FollowsRule-of}
@@ -102,7 +102,7 @@ none_behind v l r s t sound k among inside low high =
         u < s + 16384 * n → a ≡ b
     same_super a b p q n m s u is too first second low high = omega arith
 
--- so the pages after its first have records of no state, and the first has one of some state
+-- between a span's first page and the slot, pages have records of no state, and the first has one of some state
 pub none_between : (v : View) (l : ShelfParts) (t : Title) (r : Root) (s : Span) (n at : ℕ) → IsBackAt v l s.place t r s n → at % 16384 ≡ 0 →
     s.place < at → at ≤ t.start → same_state (spans_in v.words at).state state.None ≡ true
 none_between v l t r s n at b aligned low high = elim (cases_Bool (same_state (spans_in v.words at).state state.None)) [
@@ -124,7 +124,7 @@ some_first v l t r s n b none =
     let some = b.some in
     omega arith
 
--- so a page that has no span is after the first
+-- a page with a record of no state is after the span's first one
 pub goes_on : (v : View) (l : ShelfParts) (t : Title) (r : Root) (s : Span) (n at : ℕ) → IsBackAt v l s.place t r s n → at % 16384 ≡ 0 →
     s.place ≤ at → same_state (spans_in v.words at).state state.None ≡ true → s.place + 16384 ≤ at
 goes_on v l t r s n at b aligned low none =
@@ -138,7 +138,7 @@ goes_on v l t r s n at b aligned low none =
       | inr above ↦ absurd (differ (omega arith))
     ]
 
--- and a page that has one is the first
+-- a page with a record of some state is the span's first one
 pub is_first : (v : View) (l : ShelfParts) (t : Title) (r : Root) (s : Span) (n at : ℕ) → IsBackAt v l s.place t r s n → at % 16384 ≡ 0 →
     s.place ≤ at → at ≤ t.start → same_state (spans_in v.words at).state state.None ≡ false → at ≡ s.place
 is_first v l t r s n at b aligned low high some = elim (cases_lt s.place at) [

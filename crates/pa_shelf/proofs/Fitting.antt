@@ -3,6 +3,7 @@ use Rattle.std.proofs.Common.{◌≡◌, ℕ, ◌+◌, ◌*◌, ◌/◌, ◌<◌
 use Rattle.std.proofs.Math.Nat.{mul-le-mul_left}
 use Rattle.pa_buckets.specs.Table.{slot_of, slots_of}
 use Rattle.pa_buckets.proofs.Facts.{IsRow-of}
+use Rattle.pa_record.proofs.SpanSteps.{pages_most}
 
 pub record AreSmall (class committed provisioned : ℕ) : Type 0 where
   pub some : 0 < slot_of class
@@ -10,9 +11,6 @@ pub record AreSmall (class committed provisioned : ℕ) : Type 0 where
   pub product : slot_of class * (provisioned + 1) ≤ 917504
   pub before : slot_of class * provisioned ≤ slot_of class * slots_of class
   pub pages : max (committed + 1) ((slot_of class * (provisioned + 1) + 4095) / 4096) ≤ 225
-
-most : (committed bytes : ℕ) → committed ≤ 224 → bytes ≤ 917504 → max (committed + 1) ((bytes + 4095) / 4096) ≤ 225
-most committed bytes low less = omega arith
 
 pub are_small : (class committed provisioned : ℕ) → class < 59 → committed ≤ 224 → provisioned < slots_of class → AreSmall class committed provisioned
 are_small class committed provisioned real low below =
@@ -25,5 +23,5 @@ are_small class committed provisioned real low below =
       few = row.few_slots;
       product = omega arith;
       before = omega arith;
-      pages = most committed (slot_of class * (provisioned + 1)) low (omega arith);
+      pages = pages_most committed (slot_of class * (provisioned + 1)) low (omega arith);
     }

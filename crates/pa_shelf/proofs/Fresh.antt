@@ -152,7 +152,7 @@ pub none_listed : (class : ℕ) (r : Root) (o : Option Span) → None ≡ start_
 none_listed class r None e = refl
 none_listed class r (Some s) e = let no : Some s.place ≡ None = sym e in absurd (cc)
 
--- so it is told whether one is found
+-- if a listed span was found, so is a span that is found or new
 some_found : (class : ℕ) (r : Root) (o : Option Span) → is_some (start_of o) ≡ true → true ≡ is_some (found_or_new class r o)
 some_found class r None e = absurd (true≢false (sym e))
 some_found class r (Some s) e = refl

@@ -5,8 +5,8 @@ use Rattle.std.specs.List.{position_from}
 use Rattle.std.proofs.lemmas.Bool.{cases_Bool}
 use Rattle.std.proofs.lemmas.Iterator.Adapters.{position_from-zero}
 use Rattle.pa_lists.proofs.Members.{of_some, not_some}
-use Rattle.pa_machine.specs.declared.title.Title.{Title}
-use Rattle.pa_machine.specs.declared.word.SlotName.{SlotName}
+use Rattle.pa_slot.specs.declared.title.Title.{Title}
+use Rattle.pa_slot.specs.declared.word.SlotName.{SlotName}
 use Rattle.pa_record.specs.Root.{Root, mapped, unmapped, without_map}
 use Rattle.pa_region.specs.declared.view.View.{View}
 use Rattle.pa_shelf.specs.Shelves.{ShelfParts, ShowsRoot}

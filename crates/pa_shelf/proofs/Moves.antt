@@ -8,7 +8,7 @@ use Rattle.pa_buckets.specs.declared.spans.State.TheVariants as state
 use Rattle.pa_record.specs.Spans.{Span, same_place, same_state, put}
 use Rattle.pa_record.specs.Root.{Root, in_state, turn_after, entered}
 use Rattle.pa_record.proofs.Places.{place_from, place_sym, place_trans, put_there}
-use Rattle.pa_record.proofs.Entering.{same_state-true, in_state_like, like_place}
+use Rattle.pa_record.proofs.Entering.{in_state_like, like_place, in_state_is}
 use Rattle.pa_region.specs.declared.view.View.{View}
 use Rattle.pa_spans.specs.declared.span.Span.{Span as SpanRecord}
 use Rattle.pa_spans.specs.Lists.{SpanListParts, Stand, unheaded, with_head, lists_without, lists_with, lists_entered, spans_entered}
@@ -62,12 +62,6 @@ first_stored spans mid has ss s t at x st among is_for put_in =
       others = λ u other. ap alone (put_in u ∙ elsewhere_is u at (spans u) x (λ same. other (same ∙ sym is_for.here)));
     })
 
-enters : (to : State) (turn : ℕ) (t : Span) → (in_state to turn t).state ≡ to
-enters to turn t = elim (cases_Bool (same_state t.state to)) [
-  | inl same ↦ rw same (same_state-true t.state to same)
-  | inr other ↦ rw other refl
-]
-
 -- records that aren't in use are as before
 pub change_unused : (l : SpanListParts) (spans mid after : ℕ → SpanRecord) (has : ℕ → Type 0) (ss : List Span) (s t : Span) (at : ℕ) (x : SpanRecord) (to : State) →
     AreStored spans has ss → Contains ss s → IsRecordFor at x s t → ((u : ℕ) → mid u ≡ (if u == at then x else spans u)) →
@@ -82,7 +76,7 @@ change_unused l spans mid after has ss s t at x to st among is_for put_in moved 
       | inl w ↦
           let is : (after u).state ≡ (in_state to l.turn t).state =
           ap (λ p. (after p).state) (w.1 ∙ sym at_is) ∙ ap (λ (y : SpanRecord). y.state) e.is in
-          absurd (used (sym (enters to l.turn t) ∙ (sym is ∙ none)))
+          absurd (used (sym (in_state_is to l.turn t) ∙ (sym is ∙ none)))
       | inr w ↦
           let same : alone (after u) ≡ alone (spans u) = e.others u (λ p. w.1 (p ∙ at_is)) ∙ ap alone (put_in u ∙ elsewhere_is u at (spans u) x w.1) in
           ap (λ (y : SpanRecord). y.turn) same ∙ unused u h (sym (ap (λ (y : SpanRecord). y.state) same) ∙ none)

@@ -49,7 +49,7 @@ in_found class r (Some s) f sound real is e =
 pub found_ready : (class : ℕ) (r : Root) (f : Found) → IsSound r → class < 59 → span_for class r ≡ Some f → HasSlot f
 found_ready class r f sound real is = in_found class r (listed class r.spans) f sound real refl is
 
--- so that is where a slot is taken
+-- a slot is taken from the span that was found, at its start
 taken_at : (v : View) (l : ShelfParts) (at : ℕ) (r : Root) (o : Option Found) → ((f : Found) → o ≡ Some f → HasSlot f) → found_start o ≡ Some at →
     ShowsRoot v l (found_root o r) → (s : Span) × HasSlotAt v l at (found_root o r) s × (take_of s (found_root o r) ≡ taken_from o r)
 taken_at v l at r None ready e shown = absurd (not_some at e)

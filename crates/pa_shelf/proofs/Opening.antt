@@ -47,7 +47,7 @@ more_blank words number page blank reads p first below = elim (cases_lt p page) 
       subst (λ k. IsRecordAt (with_record words (record_word (page_place number page)) unused_span) (record_word (page_place number k)) unused_span) e reads
 ]
 
--- so does a step of the loop that clears
+-- a step of the loop that clears keeps what the loop keeps
 pub clear_step : (at : SuperPage) (page place : ℕ) (x : SpanRecord) (v u w : View) → 1 ≤ page → page ≤ 126 → place ≡ page_place at.number page → x ≡ unused_span →
     w ≡ after_record place x u → IsRecordAt w.words (record_word place) x → Rerecorded (at ∷ []) v u → AreBlankBelow u.words at.number page →
     Rerecorded (at ∷ []) v w × AreBlankBelow w.words at.number (page + 1)
@@ -171,7 +171,7 @@ opened_kept v w l r at k low new wrote raw blank =
       };
     }
 
--- and what is shown
+-- the root is shown with the super page
 pub opened_shown : (v w : View) (l : ShelfParts) (r : Root) (at : SuperPage) → IsAware v → IsSound r → ShowsRoot v l r → at.number < most_supers →
     IsNewNumber at.number l.supers →
     Rerecorded (at ∷ []) v w → HasRawRecords v at.number → AreBlankBelow w.words at.number 127 →

@@ -7,9 +7,9 @@ use Rattle.pa_lists.specs.Numbers.{numbers}
 use Rattle.pa_lists.proofs.Different.{numbers_length, numbers_in}
 use Rattle.pa_lists.proofs.Joined.{map_cases}
 use Rattle.pa_lists.proofs.Tests.{times_whole}
-use Rattle.pa_machine.specs.declared.title.Title.{Title}
-use Rattle.pa_machine.specs.Links.{front_of}
-use Rattle.pa_machine.proofs.Same.{title_is}
+use Rattle.pa_slot.specs.declared.title.Title.{Title}
+use Rattle.pa_slot.specs.Links.{front_of}
+use Rattle.pa_slot.proofs.Same.{title_is}
 use Rattle.pa_layout.specs.Pages.{super_page_at}
 use Rattle.pa_buckets.specs.Table.{slot_of, pages_of, slots_of}
 use Rattle.pa_buckets.proofs.Facts.{IsRow-of}
@@ -156,7 +156,7 @@ push_chains v w l r s from count shown among real listed one p z member y inside
           omega arith),
     )
 
--- so the root is shown, and a slot can be taken
+-- after more slots were provisioned the root is shown, and a slot can be taken
 pub ready_more : (v w : View) (l : ShelfParts) (x y : SpanRecord) (t : Title) (r : Root) (s : Span) → IsTakeOf v l x t r s → x.provisioned ≤ x.allocated →
     IsAware v → y ≡ with_more t.start x → Relinked v w →
     SameBeside (slots_beside t x.provisioned (y.provisioned - x.provisioned)) v.words w.words →
@@ -270,7 +270,7 @@ first_is v l at r s x t number b read start len number_is born =
 pub take_had : (v : View) (l : ShelfParts) (at : ℕ) (r : Root) (s : Span) → HasSlotAt v l at r s → HasSpanAt v l.supers at
 take_had v l at r s b = subst (HasSpanAt v l.supers) b.here (b.shown.kept.stored.had s b.among)
 
--- and so the record that was read is that of the span, with its first slot
+-- the record that was read is that of the span, with its first slot
 pub slot_is : (y z : Share) (l : ShelfParts) (at : ℕ) (r : Root) (s : Span) (x : SpanRecord) (t : Title) → HasSlotAt z.view l at r s → y ≡ z →
     ((a : SpanRecord) → IsRecordAt z.view.words (record_word at) a → x ≡ a) → (x ≡ spans_in z.view.words at → t ≡ first_title s) → HasSlotOf y.view l x t r s
 slot_is y z l at r s x t b seat read first_if =

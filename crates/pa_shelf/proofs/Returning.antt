@@ -7,10 +7,10 @@ use Rattle.std.proofs.lemmas.List.{length-append}
 use Rattle.std.proofs.lemmas.List.Elements.{All-contains}
 use Rattle.pa_lists.proofs.Elements.{all_from_members}
 use Rattle.pa_lists.proofs.Joined.{map_cases}
-use Rattle.pa_machine.specs.declared.title.Title.{Title}
-use Rattle.pa_machine.specs.declared.word.SlotName.{SlotName}
-use Rattle.pa_machine.specs.Titles.{IsWellFormed}
-use Rattle.pa_machine.specs.Links.{first_word, front_of}
+use Rattle.pa_slot.specs.declared.title.Title.{Title}
+use Rattle.pa_slot.specs.declared.word.SlotName.{SlotName}
+use Rattle.pa_slot.specs.Titles.{IsWellFormed}
+use Rattle.pa_slot.specs.Links.{first_word, front_of}
 use Rattle.pa_buckets.specs.declared.spans.State.{State}
 use Rattle.pa_buckets.specs.declared.spans.State.TheVariants as state
 use Rattle.pa_buckets.specs.Table.{slot_of}
@@ -24,6 +24,7 @@ use Rattle.pa_region.specs.Views.{free_of}
 use Rattle.pa_region.specs.Aware.{IsAware}
 use Rattle.pa_spans.specs.declared.span.Span.{Span as SpanRecord}
 use Rattle.pa_spans.specs.Lists.{SpanListParts, StaysListed, lists_without, lists_with, lists_entered, ring_with}
+use Rattle.pa_spans.proofs.Rings.{ring_shrinks}
 use Rattle.pa_records.specs.Words.{spans_in}
 use Rattle.pa_records.specs.Records.{front_start, record_with, titles_free}
 use Rattle.pa_records.specs.Stored.{alone}
@@ -35,7 +36,6 @@ use Rattle.pa_link.proofs.Chains.{stay, elsewhere}
 use Rattle.pa_shelf.specs.Moving.{IsRecordFor, parts_of_record, pushed_parts, with_front_of, state_with}
 use Rattle.pa_shelf.specs.Shelves.{ShelfParts, chain_of, AreChained, RecordsRoot, ShowsRoot, KeepsRecords, IsBackAt}
 use Rattle.pa_shelf.proofs.Chained.{chain_stays, entered_chain, chains_changed}
-use Rattle.pa_shelf.proofs.Decommitting.{ring_shrinks}
 use Rattle.pa_shelf.proofs.Staying.{spans_kept, records_stay, link_keeps}
 
 -- the record of a span that is shown
@@ -43,7 +43,7 @@ pub record_is : (v : View) (l : ShelfParts) (r : Root) (s : Span) (at : ℕ) (x 
     x ≡ spans_in v.words at → alone x ≡ record_with s 0 0
 record_is v l r s at x k among here x_is = ap alone (x_is ∙ ap (spans_in v.words) (sym here)) ∙ k.stored.numbers s among
 
--- its page has a span
+-- the page of a span whose slot comes back has a record
 pub back_had : (v : View) (l : ShelfParts) (at : ℕ) (t : Title) (r : Root) (s : Span) (n : ℕ) → IsBackAt v l at t r s n → HasSpanAt v l.supers at
 back_had v l at t r s n b = subst (HasSpanAt v l.supers) b.here (b.shown.kept.stored.had s b.among)
 

@@ -1,6 +1,6 @@
 -- Views of which only words are others.
 use Rattle.std.proofs.Common.{ℕ, ◌<◌, List, refl, ◌∙◌, ap}
-use Rattle.pa_machine.specs.declared.title.Title.{Title}
+use Rattle.pa_slot.specs.declared.title.Title.{Title}
 use Rattle.pa_record.specs.declared.taken.SuperPage.{SuperPage}
 use Rattle.pa_region.specs.declared.view.View.{View}
 use Rattle.pa_region.specs.Views.{free_of}

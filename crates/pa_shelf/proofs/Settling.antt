@@ -7,12 +7,12 @@ use Rattle.std.proofs.lemmas.Bool.Decides.{eqb_tells}
 use Rattle.std.proofs.lemmas.List.Elements.{All-contains}
 use Rattle.std.proofs.lemmas.List.Kept.{AllPairs-filter}
 use Rattle.std.proofs.lemmas.List.Sums.{length-filter}
-use Rattle.pa_lists.proofs.Members.{not_in_none, in_cases, not_some, has, has_not}
+use Rattle.pa_lists.proofs.Members.{not_in_none, in_cases, not_some, has, has_not, has-true}
 use Rattle.pa_lists.proofs.Different.{has_some, length_is, passing_same}
 use Rattle.pa_lists.proofs.Elements.{length_map}
 use Rattle.pa_lists.proofs.Tests.{one_more}
 use Rattle.pa_lists.proofs.Joined.{map_cases, map_in, filter_cases, filter_in, pairs_map}
-use Rattle.pa_machine.specs.declared.title.Title.{Title}
+use Rattle.pa_slot.specs.declared.title.Title.{Title}
 use Rattle.pa_buckets.specs.declared.spans.State.TheVariants as state
 use Rattle.pa_record.specs.Spans.{Span, name_of, is_in, same_state, same_place}
 use Rattle.pa_record.specs.Root.{Root, put_back, returned, settled, empties, oldest_decommitted, decommitted_times}
@@ -40,12 +40,6 @@ bound (x ∷ xs) =
       ],
     )
 
-has_in : (k : ℕ) (xs : List ℕ) → Contains xs k → has k xs ≡ true
-has_in k xs among = elim (cases_Bool (has k xs)) [
-  | inl hit ↦ hit
-  | inr miss ↦ absurd (has_not k xs miss among)
-]
-
 has_none : (k : ℕ) (xs : List ℕ) → (Contains xs k → ⊥) → has k xs ≡ false
 has_none k xs never = elim (cases_Bool (has k xs)) [
   | inl hit ↦ absurd (never (has_some k xs hit))
@@ -58,7 +52,7 @@ equally_long : (xs ys : List ℕ) → AllPairs ◌≢◌ xs → AllPairs ◌≢�
 equally_long xs ys once too to from =
     let (n, below) = bound xs in
     let same : (k : ℕ) → k < n → has k xs ≡ has k ys = λ k less. elim (cases_Bool (has k xs)) [
-      | inl hit ↦ hit ∙ sym (has_in k ys (to k (has_some k xs hit)))
+      | inl hit ↦ hit ∙ sym (has-true k ys (to k (has_some k xs hit)))
       | inr miss ↦ miss ∙ sym (has_none k ys (λ among. has_not k xs miss (from k among)))
     ] in
     length_is xs n once below

@@ -58,14 +58,14 @@ sum_but h (x ∷ xs) p once among =
           omega arith
     ]
 
--- Each member of the second list is in a place of the first of its own, where its number stands; other places have 0.
+-- Each member of the second list is in a place of the first of its own, and its number is there. Other places have 0.
 pub record ArePlaced {S : Type 0} (place : S → ℕ) (g : S → ℕ) (h : ℕ → ℕ) (ps : List ℕ) (ss : List S) : Type 0 where
   pub once : AllPairs ◌≢◌ ps
   pub apart : AllPairs ◌≢◌ (map place ss)
   pub here : (s : S) → Contains ss s → Contains ps (place s) × (h (place s) ≡ g s)
   pub each : (p : ℕ) → Contains ps p → (h p ≡ 0) ⊎ ((s : S) × Contains ss s × (place s ≡ p))
 
--- so the sums are equal
+-- sums over members and over their places are equal
 pub sums_placed : {S : Type 0} (place : S → ℕ) (g : S → ℕ) (h : ℕ → ℕ) (ps : List ℕ) (ss : List S) → ArePlaced place g h ps ss → sum_by h ps ≡ sum_by g ss
 sums_placed place g h ps [] are = sum_none h ps (λ p among. elim (are.each p among) [
   | inl none ↦ none

@@ -6,8 +6,8 @@ use Rattle.std.proofs.lemmas.Bool.Decides.{eqb_tells}
 use Rattle.std.proofs.lemmas.List.Elements.{All-tail}
 use Rattle.pa_lists.proofs.Elements.{length_map}
 use Rattle.pa_lists.proofs.Pairs.{pairs_tail}
-use Rattle.pa_machine.specs.declared.title.Title.{Title}
-use Rattle.pa_machine.specs.Links.{front_of}
+use Rattle.pa_slot.specs.declared.title.Title.{Title}
+use Rattle.pa_slot.specs.Links.{front_of}
 use Rattle.pa_buckets.specs.declared.spans.State.{State}
 use Rattle.pa_buckets.specs.declared.spans.State.TheVariants as state
 use Rattle.pa_buckets.specs.Table.{slot_of, slots_of}
@@ -21,6 +21,7 @@ use Rattle.pa_region.specs.Aware.{IsAware}
 use Rattle.pa_spans.specs.declared.span.Span.{Span as SpanRecord}
 use Rattle.pa_spans.specs.Lists.{SpanListParts, StaysListed, lists_without, lists_with, lists_entered}
 use Rattle.pa_spans.proofs.Staying.{same_listed}
+use Rattle.pa_spans.proofs.Rings.{ring_shrinks}
 use Rattle.pa_records.specs.Words.{spans_in}
 use Rattle.pa_records.specs.Records.{front_start, record_with, titles_free}
 use Rattle.pa_records.specs.Stored.{alone}
@@ -32,7 +33,6 @@ use Rattle.pa_shelf.specs.Moving.{IsRecordFor, parts_of_record}
 use Rattle.pa_shelf.specs.Shelves.{ShelfParts, chain_of, RecordsRoot, ShowsRoot}
 use Rattle.pa_shelf.specs.Taking.{name_start, without_front_of, state_out, IsTakeOf, IsReadyAt, take_of}
 use Rattle.pa_shelf.proofs.Chained.{chain_stays, entered_chain, chains_changed}
-use Rattle.pa_shelf.proofs.Decommitting.{ring_shrinks}
 use Rattle.pa_shelf.proofs.Returning.{record_is, list_parts}
 
 -- provisioning leaves its place, its class and its `born`
@@ -48,7 +48,7 @@ free_like s = by_list s.free s
     by_list [] s = record { place = refl; born = refl; class = refl }
     by_list (x ∷ xs) s = record { place = refl; born = refl; class = refl }
 
--- its list has a front once it is ready
+-- the list of a span that is ready has a front
 pub front : (v : View) (l : ShelfParts) (x : SpanRecord) (t : Title) (r : Root) (s : Span) → IsReadyAt v l x t r s → HasFront (with_free s)
 front v l x t r s b = with_free_front s (b.sound.spans s b.among).counted b.less
 
@@ -134,7 +134,7 @@ state_out_used class n = elim (eqb_tells n (slots_of class)) [
   )
 ]
 
--- so the ring doesn't grow
+-- the ring doesn't grow if a span enters a state other than Empty
 pub few_out : (at : ℕ) (to : State) (l : SpanListParts) (x : SpanRecord) → same_state to state.Empty ≡ false → length l.ring ≤ 17 →
     length (lists_entered at to l x).ring ≤ 17
 few_out at to l x other few = elim (cases_Bool (same_state x.state to)) [

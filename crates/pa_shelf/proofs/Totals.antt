@@ -84,7 +84,7 @@ pages_more f words number page n some =
     ∙ (sum_by-append g (numbers 1 (page - 1)) (numbers (1 + (page - 1)) n)
     ∙ ap (λ k. sum_by g (numbers 1 (page - 1)) + sum_by g (numbers k n)) next))
 
--- where no span starts
+-- a page at which no span starts adds nothing
 pub past_none : (words : List ℕ) (number page : ℕ) (a b : Sums) → 1 ≤ page → (spans_in words (page_place number page)).state ≡ state.None →
     AreAdded (λ f. sum_of_pages f words number (page - 1)) a b → AreAdded (λ f. sum_of_pages f words number (page + 1 - 1)) a b
 past_none words number page a b some is first =
@@ -98,7 +98,7 @@ past_none words number page a b some is first =
     let one = sum_by-cons g page [] in
     omega arith)
 
--- where one starts
+-- the span that starts at a page adds its own numbers, and its other pages nothing
 pub past_span : (v : View) (number page : ℕ) (a b c : Sums) → HasPagesOf v number → 1 ≤ page → page ≤ 126 →
     IsInUse (spans_in v.words (page_place number page)) → 1 ≤ pages_of (spans_in v.words (page_place number page)).class →
     AreAdded (λ f. sum_of_pages f v.words number (page - 1)) a b → AreAdded (λ f. f (spans_in v.words (page_place number page))) b c →

@@ -8,12 +8,12 @@ use Rattle.pa_spans.specs.declared.span.Span.{Span as SpanRecord}
 use Rattle.pa_records.specs.Words.{unused_span}
 use Rattle.pa_records.specs.Records.{record_with}
 
--- where the new span starts, if there was room for it; and the root with it
+-- where the new span starts, if there was room for it
 abbrev pub found_start : Option Found → Option ℕ
 found_start None = None
 found_start (Some f) = Some f.span.place
 
--- the root with the new span; as it was if there was no room for one
+-- the root with the new span, or as it was if there was no room for one
 abbrev pub found_root : Option Found → Root → Root
 found_root None r = r
 found_root (Some f) r = f.root

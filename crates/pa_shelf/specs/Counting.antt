@@ -18,7 +18,7 @@ use Rattle.pa_shelf.specs.declared.counts.Sums.{Sums}
 abbrev pub IsSmall : SpanRecord → Type 0
 IsSmall x = (x.allocated ≤ x.made) × (x.made ≤ 1024) × (x.committed ≤ 224)
 
--- The payload pages of a super page have records; after one that is in use, up to the end of its span, none is.
+-- The payload pages of a super page have records. After a page that is in use, up to the end of its span, no page is in use.
 pub record HasPagesOf (v : View) (number : ℕ) : Type 0 where
   pub raw : HasRawRecords v number
   pub readable : (page : ℕ) → 1 ≤ page → page ≤ 126 →
@@ -31,7 +31,7 @@ pub record HasPagesOf (v : View) (number : ℕ) : Type 0 where
       page < other → other < page + pages_of (spans_in v.words (page_place number page)).class →
       IsInUse (spans_in v.words (page_place number other)) → ⊥
 
--- what is counted of a record: the slots that were made and aren't out, their bytes, and whether the span is in a state
+-- how many slots of a record were made and aren't out
 abbrev pub kept_in : SpanRecord → ℕ
 kept_in x = x.made - x.allocated
 

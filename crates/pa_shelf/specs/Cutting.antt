@@ -1,8 +1,8 @@
 -- The slots of a span that are cut before one is taken from it.
 use Rattle.std.specs.Prelude.{◌≡◌, ℕ, ◌+◌, ◌-◌, ◌*◌, ◌<◌, ◌≤◌, List, [], ◌∷◌, Contains, slice_index}
-use Rattle.pa_machine.specs.declared.title.Title.{Title}
-use Rattle.pa_machine.specs.Titles.{Covers}
-use Rattle.pa_machine.specs.Holdings.{RawByte}
+use Rattle.pa_slot.specs.declared.title.Title.{Title}
+use Rattle.pa_slot.specs.Titles.{Covers}
+use Rattle.pa_slot.specs.Holdings.{RawByte}
 use Rattle.pa_buckets.specs.Table.{slots_of}
 use Rattle.pa_record.specs.declared.taken.SuperPage.{SuperPage}
 use Rattle.pa_record.specs.Spans.{Span, title_at, more_slots}
@@ -18,12 +18,13 @@ use Rattle.pa_shelf.specs.declared.cuts.NewSlots.{NewSlots}
 use Rattle.pa_shelf.specs.Shelves.{ShelfParts, KeepsRecords, ShowsRoot}
 use Rattle.pa_shelf.specs.Taking.{HasSlotAt, IsTakeAt}
 
--- How many: if its list is empty, those that are provisioned then and were never made; else none.
+-- How many slots are cut before one is taken from s. If its list is empty, those that are provisioned then and were never made are
+-- cut, else none.
 abbrev pub count_cut : List ℕ → Span → ℕ
 count_cut [] s = more_slots s - s.made
 count_cut (n ∷ rest) s = 0
 
--- the slots that are cut before one is taken from s: so many, from the first one on that was never made
+-- the slots that are cut before one is taken from s, from the first one on that was never made
 abbrev pub cut_before : Span → NewSlots
 cut_before s = record { first = title_at s s.made; count = count_cut s.free s }
 

@@ -20,6 +20,6 @@ AreBlankBelow words number below =
 abbrev pub IsNewNumber : ℕ → List SuperPage → Type 0
 IsNewNumber number supers = (at : SuperPage) → Contains supers at → at.number ≢ number
 
--- with a super page that is the current one now
+-- the root's parts with a super page more, which is the current one now
 abbrev pub with_super : SuperPage → ShelfParts → ShelfParts
 with_super at l = record l { supers = l.supers ++ at ∷ []; page = 1 }

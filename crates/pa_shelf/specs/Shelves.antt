@@ -1,7 +1,7 @@
 -- The spans of a root in records and chains: what is kept beside its seat, and which root that shows with the seat's view.
 use Rattle.std.specs.Prelude.{◌≡◌, ◌≢◌, ℕ, ◌+◌, ◌<◌, ◌≤◌, List, [], length, AllPairs, Contains, slice_index}
-use Rattle.pa_machine.specs.declared.title.Title.{Title}
-use Rattle.pa_machine.specs.Links.{first_word, front_of}
+use Rattle.pa_slot.specs.declared.title.Title.{Title}
+use Rattle.pa_slot.specs.Links.{first_word, front_of}
 use Rattle.pa_buckets.specs.Table.{slot_of}
 use Rattle.pa_buckets.specs.declared.spans.State.TheVariants as state
 use Rattle.pa_record.specs.declared.taken.SuperPage.{SuperPage}
@@ -27,7 +27,7 @@ pub record ShelfParts : Type 0 where
   pub page : ℕ
   pub lists : SpanListParts
 
--- at the start there are none
+-- the root's parts at the start: no super page, no direct map, and empty lists
 abbrev pub no_shelf : ShelfParts
 no_shelf = record { supers = []; maps = []; page = 0; lists = no_lists }
 
@@ -39,8 +39,8 @@ chain_of s = record { slot_len = slot_of s.class; head = front_of (slot_names (t
 abbrev pub StartsAtZero : SpanRecord → Type 0
 StartsAtZero x = x.state ≡ state.None → x.turn ≡ 0
 
--- The records keep the root: it has these super pages, which lie in a region and differ in number, direct maps and turn; each payload
--- page has a record of its own, of turn 0 if it isn't in use; the lists are those of the spans that the words have, and these are the
+-- The records keep the root. It has these super pages, which lie in a region and differ in number, direct maps and turn. Each payload
+-- page has a record of its own, of turn 0 if it isn't in use. The lists are those of the spans that the words have, and these are the
 -- root's spans.
 pub record RecordsRoot (v : View) (l : ShelfParts) (r : Root) : Type 0 where
   pub supers : r.supers ≡ l.supers
@@ -70,17 +70,17 @@ pub record KeepsRecords (supers : List SuperPage) (v w : View) : Type 0 where
       slice_index w.words q ≡ slice_index v.words q
   pub raw : (u : ℕ) → IsPayloadOf supers u → HasRawRecord v u → HasRawRecord w u
 
--- and it holds the free slots, with the same first words
+-- the view w holds the free slots of these spans, with the same first words as in v
 abbrev pub KeepsChains : View → View → List Span → Type 0
 KeepsChains v w ss = (s : Span) → Contains ss s → (t : Title) → Contains (titles_free s) t →
     (0 < free_of w t) × (first_word w.words (name_of t) ≡ first_word v.words (name_of t))
 
--- then it shows the root too
+-- if a view shows a root, so does another view with the same records and chains
 abbrev pub ShownStays : Type 0
 ShownStays = (v w : View) (l : ShelfParts) (r : Root) → KeepsRecords l.supers v w → KeepsChains v w r.spans →
     ShowsRoot v l r → ShowsRoot w l r
 
--- The title is slot n of the span s of a sound root that is shown, and it is out of the root; the span starts at the offset.
+-- The title is slot n of the span s of a sound root that is shown, and it is out of the root. The span starts at the offset.
 pub record IsBackAt (v : View) (l : ShelfParts) (at : ℕ) (t : Title) (r : Root) (s : Span) (n : ℕ) : Type 0 where
   pub sound : IsSound r
   pub shown : ShowsRoot v l r
@@ -94,7 +94,7 @@ pub record IsBackAt (v : View) (l : ShelfParts) (at : ℕ) (t : Title) (r : Root
 abbrev pub IsSlotOut : Root → Title → Type 0
 IsSlotOut r t = (s : Span) × Contains r.spans s × (n : ℕ) × IsOutOf s (name_of t) n × (t ≡ title_at s n)
 
--- Slots are out of a sound root that is shown and has at most 16 empty spans; they have different names, and the view has them free.
+-- Slots are out of a sound root that is shown and has at most 16 empty spans. They have different names, and the view has them free.
 pub record AreBack (v : View) (l : ShelfParts) (ts : List Title) (r : Root) : Type 0 where
   pub sound : IsSound r
   pub settled : IsSettled r

@@ -1,8 +1,8 @@
 -- Slots that are taken from a span.
 use Rattle.std.specs.Prelude.{◌≡◌, ℕ, ◌+◌, ◌*◌, ◌/◌, ◌<◌, ◌≤◌, ◌==◌, max, min, if◌then◌else◌, List, [], map, Option, Some, None, Contains}
 use Rattle.pa_lists.specs.Numbers.{numbers}
-use Rattle.pa_machine.specs.declared.title.Title.{Title}
-use Rattle.pa_machine.specs.declared.word.SlotName.{SlotName}
+use Rattle.pa_slot.specs.declared.title.Title.{Title}
+use Rattle.pa_slot.specs.declared.word.SlotName.{SlotName}
 use Rattle.pa_buckets.specs.declared.spans.State.{State}
 use Rattle.pa_buckets.specs.declared.spans.State.TheVariants as state
 use Rattle.pa_buckets.specs.Limits.{class_count}
@@ -26,7 +26,7 @@ abbrev pub first_some : Option ℕ → Option ℕ → Option ℕ
 first_some None o = o
 first_some (Some n) o = Some n
 
--- where the span starts, if there is one; and the slot, 0 if there is none
+-- where the span starts, if there is one
 abbrev pub start_of : Option Span → Option ℕ
 start_of None = None
 start_of (Some s) = Some s.place
@@ -36,7 +36,7 @@ abbrev pub name_start : Option SlotName → ℕ
 name_start None = 0
 name_start (Some s) = s.start
 
--- the first slot of a span; and the slots that are side by side with it: the one with a number, and a range of them from a number on
+-- the title of the first slot of a span
 abbrev pub first_title : Span → Title
 first_title s = record { start = s.place; len = slot_of s.class; born = s.born }
 
@@ -48,7 +48,7 @@ slot_beside first n = record { start = first.start + first.len * n; len = first.
 abbrev pub slots_beside : Title → ℕ → ℕ → List Title
 slots_beside first from count = map (slot_beside first) (numbers from count)
 
--- the record of a span once the front of its list was taken; the next slot starts there
+-- The record of a span once the front of its list was taken. Its list begins at `head` then.
 abbrev pub without_front_of : ℕ → SpanRecord → SpanRecord
 without_front_of head x = record x { allocated = x.allocated + 1; head = head }
 
@@ -56,16 +56,18 @@ without_front_of head x = record x { allocated = x.allocated + 1; head = head }
 abbrev pub state_out : ℕ → ℕ → State
 state_out class allocated = if allocated == slots_of class then state.Full else state.Active
 
--- The record of a span that starts there, once more of its slots were provisioned: as many pages are committed as one slot more
--- needs, at least one, and its slots are those that fit into them.
+-- How many pages of a span with this record are committed once more of its slots were provisioned: as many as one slot more needs,
+-- and at least one more than before.
 abbrev pub pages_more : SpanRecord → ℕ
 pages_more x = max (x.committed + 1) ((slot_of x.class * (x.provisioned + 1) + 4095) / 4096)
 
--- the slots that are provisioned then: as many as fit into those pages of 4096 bytes, and no more than the class has
+-- how many slots of a span with this record are provisioned then: as many as fit into its committed pages of 4096 bytes, and no more
+-- than the class has
 abbrev pub slots_more : SpanRecord → ℕ
 slots_more x = min (4096 * pages_more x / slot_of x.class) (slots_of x.class)
 
--- the record of a span that starts there, with those slots and pages: its list begins at the first slot that wasn't provisioned before
+-- the record of a span that starts at `at`, with more slots and pages: its list begins at the first slot that wasn't provisioned
+-- before
 abbrev pub with_more : ℕ → SpanRecord → SpanRecord
 with_more at x = record x {
   provisioned = slots_more x;
@@ -82,17 +84,18 @@ pub record HasSlotAt (v : View) (l : ShelfParts) (at : ℕ) (r : Root) (s : Span
   pub here : s.place ≡ at
   pub less : s.allocated < slots_of s.class
 
--- and x is the record that the words have of it, and t its first slot
+-- A slot can be taken from the span s of a sound root that is shown. x is the record that the words have of s, and t is the first
+-- slot of s.
 pub record HasSlotOf (v : View) (l : ShelfParts) (x : SpanRecord) (t : Title) (r : Root) (s : Span) : Type 0 where
   pub at : HasSlotAt v l t.start r s
   pub read : x ≡ spans_in v.words t.start
   pub first : t ≡ first_title s
 
--- if its list is empty, the view has the slots free that are provisioned next
+-- if the span's list is empty, the view has the slots free that are provisioned next
 abbrev pub HoldsMore : View → Span → Type 0
 HoldsMore v s = s.free ≡ [] → (n : ℕ) → s.provisioned ≤ n → n < more_slots s → 0 < free_of v (title_at s n)
 
--- A slot can be taken from it, and the seat holds what is provisioned then.
+-- A slot can be taken from the span s, which starts at the offset, and the seat holds what is provisioned then.
 pub record IsTakeAt (v : View) (l : ShelfParts) (at : ℕ) (r : Root) (s : Span) : Type 0 where
   pub slot : HasSlotAt v l at r s
   pub held : HoldsMore v s
@@ -102,8 +105,8 @@ pub record IsTakeOf (v : View) (l : ShelfParts) (x : SpanRecord) (t : Title) (r 
   pub slot : HasSlotOf v l x t r s
   pub held : HoldsMore v s
 
--- Its list isn't empty now: the view has the chain of it, and x is the record of the span with that list. The record in the words
--- is still the one that it was.
+-- The list of the span s isn't empty now. The view has the chain of it, and x is the record of the span with that list. The record in
+-- the words is still the one that it was.
 pub record IsReadyAt (v : View) (l : ShelfParts) (x : SpanRecord) (t : Title) (r : Root) (s : Span) : Type 0 where
   pub sound : IsSound r
   pub shown : ShowsRoot v l r

@@ -45,8 +45,8 @@ impl Shelf {
         self.add_span(region, own, class)
     }
 
-    /// Starts a span of the class on the next free page of the current super page: none of its slots is provisioned. It answers
-    /// where the span starts, `None` exactly if there is no room for it. It allocates nothing.
+    /// Starts a span of the class on the next free page of the current super page: none of its slots is provisioned. It returns
+    /// the offset at which the span starts, `None` exactly if there is no room for it. It allocates nothing.
     pub fn add_span(&mut self, region: &Region, own: &mut Seat, class: Class) -> Option<u32>
         requires region { own.old.region ≡ region.now }
         requires able { (r : Root) × IsSound r × ShowsRoot own.old.view self.old r }

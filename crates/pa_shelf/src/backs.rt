@@ -1,7 +1,7 @@
 //! Slots that come back.
 ghost use Rattle.std.specs.Prelude.{◌≡◌, ◌↔◌, ℕ, ◌+◌, ◌-◌, ◌^◌, ◌<◌, ◌≤◌, List, ◌∷◌, length, Contains, Some, IsNone};
-ghost use Rattle.pa_machine.specs.declared.title.Title.{Title};
-ghost use Rattle.pa_machine.specs.Links.{link_to};
+ghost use Rattle.pa_slot.specs.declared.title.Title.{Title};
+ghost use Rattle.pa_slot.specs.Links.{link_to};
 ghost use Rattle.pa_record.specs.Spans.{Span as RootSpan, name_of};
 ghost use Rattle.pa_record.specs.Root.{Root, put_back, returned, all_returned};
 ghost use Rattle.pa_region.specs.Views.{free_of};
@@ -13,9 +13,9 @@ ghost use Rattle.pa_shelf.specs.Shelves.{ShowsRoot, IsBackAt, AreBack};
 use crate::shelf::Shelf;
 use pa_buckets::State;
 use pa_link::{Chain, ChainParts};
-use pa_machine::{SlotName, Title};
 use pa_meta::read_meta;
 use pa_region::{Region, Seat};
+use pa_slot::{SlotName, Title};
 use pa_spans::Span;
 
 impl Shelf {

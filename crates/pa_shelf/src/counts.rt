@@ -19,7 +19,8 @@ use pa_record::{Census, SuperPage, Tally, mapped_of};
 use pa_region::{Region, Seat};
 use pa_spans::Span;
 
-// The slots of spans that were made and aren't out, and their bytes; the committed system pages; and how many spans are in each state.
+// How many slots of spans were made and aren't out, and their bytes, the committed system pages, and how many spans are in each
+// state.
 #[derive(Clone, Copy)]
 pub(crate) struct Sums {
     slots: u64,

@@ -1,6 +1,6 @@
 //! Slots that are cut before one is taken.
 ghost use Rattle.std.specs.Prelude.{◌≡◌};
-ghost use Rattle.pa_machine.specs.declared.title.Title.{Title};
+ghost use Rattle.pa_slot.specs.declared.title.Title.{Title};
 ghost use Rattle.pa_record.specs.Spans.{Span as RootSpan};
 ghost use Rattle.pa_record.specs.Root.{Root};
 ghost use Rattle.pa_region.specs.declared.view.View.{View};
@@ -13,9 +13,9 @@ use crate::shelf::Shelf;
 use crate::takes::{born_in, has_list, with_more};
 use pa_buckets::slot_size;
 use pa_layout::super_page_of;
-use pa_machine::Title;
 use pa_meta::read_meta;
 use pa_region::{Region, Seat};
+use pa_slot::Title;
 use pa_spans::Span;
 
 /// Slots of a span that lie side by side: this many, from this one on.

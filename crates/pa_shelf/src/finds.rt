@@ -1,6 +1,6 @@
 //! Where spans start.
 ghost use Rattle.std.specs.Prelude.{◌≡◌, ℕ};
-ghost use Rattle.pa_machine.specs.declared.title.Title.{Title};
+ghost use Rattle.pa_slot.specs.declared.title.Title.{Title};
 ghost use Rattle.pa_buckets.specs.declared.spans.State.TheVariants as state;
 ghost use Rattle.pa_record.specs.Spans.{Span as RootSpan, same_state, listed};
 ghost use Rattle.pa_record.specs.Root.{Root};
@@ -15,9 +15,9 @@ ghost use Rattle.pa_shelf.specs.Taking.{start_of, first_some};
 use crate::shelf::Shelf;
 use pa_buckets::{Class, State};
 use pa_layout::PARTITION_PAGE;
-use pa_machine::Title;
 use pa_meta::read_state;
 use pa_region::{Region, Seat};
+use pa_slot::Title;
 
 impl Shelf {
     /// Where the span starts in which the slot lies, which is out of the root. From the page on which the slot starts it goes back, at

@@ -6,7 +6,7 @@ ghost use Rattle.pa_region.specs.declared.view.View.{View};
 ghost use Rattle.pa_shelf.specs.Shelves.{ShowsRoot};
 
 use crate::shelf::Shelf;
-use pa_machine::{SlotName, Title};
+use pa_slot::{SlotName, Title};
 
 impl Shelf {
     /// A direct map joins, after the others. It allocates nothing.
@@ -18,7 +18,7 @@ impl Shelf {
         self.maps.push_reserved(title);
     }
 
-    /// The direct map of this name goes; nothing changes if there is none.
+    /// Removes the direct map of this name. Nothing changes if there is none.
     pub fn unmap(&mut self, name: SlotName)
         ensures parts { self.new ≡ record self.old { maps = without_map name self.old.maps } }
         ensures shown { (v : View) (r : Root) → ShowsRoot v self.old r → ShowsRoot v self.new (unmapped name r) }

@@ -13,10 +13,10 @@ ghost use Rattle.pa_shelf.specs.Shelves.{no_shelf, RecordsRoot, ShowsRoot};
 
 use crate::changes::change_in;
 use pa_buckets::State;
-use pa_machine::{OutOfMemory, Title};
 use pa_meta::{MetaStore, read_meta};
 use pa_record::SuperPage;
 use pa_region::{Region, Seat};
+use pa_slot::{OutOfMemory, Title};
 use pa_spans::{Span, SpanLists};
 use std::alloc::Global;
 use std::marker::Model;
@@ -25,8 +25,8 @@ use std::marker::Model;
 const SUPERS: usize = 16;
 
 /// The super pages of a root, its direct maps and the heads of its lists of spans. The spans' records are in the metadata
-/// pages, and their free slots in chains: the root's seat has both. Contracts see it as the record `ShelfParts`; which root it shows,
-/// `ShowsRoot` says.
+/// pages, and their free slots in chains: the root's seat has both. Contracts see it as the record `ShelfParts`. Which root it
+/// shows, `ShowsRoot` says.
 #[derive(Drop)]
 pub struct Shelf {
     pub(crate) supers: Vec<SuperPage>,

@@ -1,7 +1,7 @@
 //! Slots that are taken from a span.
 ghost use Rattle.std.specs.Prelude.{◌≡◌, ℕ, ◌+◌, ◌*◌, ◌^◌, ◌<◌, ◌≤◌, nat_lt, List, ◌∷◌, Some, AllPairs, Contains, ◌≢◌};
-ghost use Rattle.pa_machine.specs.declared.title.Title.{Title};
-ghost use Rattle.pa_machine.specs.Links.{front_of};
+ghost use Rattle.pa_slot.specs.declared.title.Title.{Title};
+ghost use Rattle.pa_slot.specs.Links.{front_of};
 ghost use Rattle.pa_buckets.specs.Table.{slot_of, slots_of};
 ghost use Rattle.pa_record.specs.declared.taken.SuperPage.{SuperPage};
 ghost use Rattle.pa_record.specs.Spans.{Span as RootSpan};
@@ -17,10 +17,10 @@ use crate::shelf::Shelf;
 use pa_buckets::{Class, State, slot_size, span_of};
 use pa_layout::SYSTEM_PAGE;
 use pa_link::Chain;
-use pa_machine::Title;
 use pa_meta::read_meta;
 use pa_record::SuperPage;
 use pa_region::{Region, Seat};
+use pa_slot::Title;
 use pa_spans::Span;
 
 impl Shelf {
@@ -102,7 +102,7 @@ fn start_in(chain: &Chain) -> u32
     }
 }
 
-// The span once the front of its list was taken; the next slot starts there.
+// The span once the front of its list was taken. The next slot starts at `next`.
 fn without_front(span: Span, next: u32) -> Span
     requires { span.allocated < 1024 }
     ensures { result ≡ without_front_of next span }

@@ -1,13 +1,13 @@
 -- What the records so far say of the contents of the slots, kept by each line.
 use Rattle.std.proofs.Common.{◌≡◌, ℕ, ◌+◌, ◌<◌, ◌≤◌, ◌⊎◌, inl, inr, List, [], ◌∷◌, ◌++◌, Some, None, Contains, refl, sym, ap, ◌∙◌, subst, arith}
 use Rattle.std.proofs.lemmas.List.Elements.{Contains-append_left, Contains-push, Contains-push_cases}
-use Rattle.pa_machine.specs.declared.word.SlotName.{SlotName}
-use Rattle.pa_machine.specs.declared.word.Step.{Step}
-use Rattle.pa_machine.specs.declared.word.Step.TheVariants as steps
-use Rattle.pa_machine.specs.Count.{number_of, held_of, CanStep, stepped}
-use Rattle.pa_machine.specs.Run.{Mark}
-use Rattle.pa_machine.specs.Runs.{HasRuns}
-use Rattle.pa_machine.proofs.Runs.{number_stepped, same_slot_cases, some_is}
+use Rattle.pa_slot.specs.declared.word.SlotName.{SlotName}
+use Rattle.pa_slot.specs.declared.word.Step.{Step}
+use Rattle.pa_slot.specs.declared.word.Step.TheVariants as steps
+use Rattle.pa_slot.specs.Count.{number_of, held_of, CanStep, stepped}
+use Rattle.pa_slot.specs.Run.{Mark}
+use Rattle.pa_slot.specs.Runs.{HasRuns}
+use Rattle.pa_slot.proofs.Runs.{number_stepped, same_slot_cases, some_is}
 use Rattle.pa_trace.specs.declared.script.Op.TheVariants as ops
 use Rattle.pa_record.specs.declared.entry.Seen.{Seen}
 use Rattle.pa_record.specs.declared.entry.Answer.{Answer}

@@ -2,11 +2,11 @@
 use Rattle.std.proofs.Common.{◌≡◌, ℕ, ◌+◌, ◌<◌, ◌≤◌, inl, inr, List, [], ◌∷◌, length, Bool, true, false, cond, is_some, Contains, refl, sym, ap, ◌∙◌, arith, ltb, zero, suc}
 use Rattle.std.proofs.lemmas.Bool.{cases_Bool, cases_lt, lt-ltb, le-ltb, and_left, and_right, and_from}
 use Rattle.std.proofs.lemmas.List.Sums.{sum_by-cons}
-use Rattle.pa_machine.specs.declared.word.SlotName.{SlotName}
-use Rattle.pa_machine.specs.Count.{number_of}
-use Rattle.pa_machine.specs.Run.{Mark, same_slot}
-use Rattle.pa_machine.specs.Runs.{IsPath}
-use Rattle.pa_machine.proofs.Runs.{run_of_path, runs_end, slots_of_runs, same_slot_yes}
+use Rattle.pa_slot.specs.declared.word.SlotName.{SlotName}
+use Rattle.pa_slot.specs.Count.{number_of}
+use Rattle.pa_slot.specs.Run.{Mark, same_slot}
+use Rattle.pa_slot.specs.Runs.{IsPath}
+use Rattle.pa_slot.proofs.Runs.{run_of_path, runs_end, slots_of_runs, same_slot_yes}
 use Rattle.pa_trace.specs.declared.script.Line.{Line}
 use Rattle.pa_record.specs.declared.entry.Answer.{Answer}
 use Rattle.pa_record.specs.declared.entry.Answer.TheVariants.{Made, Done, Value, Dangling, SecondFree, NotOwner, StaleReset, StaleUse, Nothing, Filled, NotRef, Shared, OutOfRange, TooLarge, Full, Swapped, Purged}
@@ -31,6 +31,7 @@ use Rattle.pa_slot_effects.proofs.Lines.{played_phases}
 use Rattle.pa_slot_effects.proofs.Rows.{rows_end, usable_made}
 use Rattle.pa_slot_effects.proofs.Words.{used_made}
 use Rattle.pa_rules.proofs.Phases.{mark_in}
+use Rattle.pa_rules.proofs.Rising.{steps_rise}
 
 -- one mark's part of how many steps come before a line
 one : SlotName → ℕ → Mark → ℕ
@@ -59,10 +60,6 @@ one_on s l k m le = elim (cases_lt m.line l) [
   | inr ge ↦ omega (arith, none_before s l m ge)
 ]
 
-steps_on : (s : SlotName) (l k : ℕ) (ms : List Mark) → l ≤ k → steps_before s l ms ≤ steps_before s k ms
-steps_on s l k [] le = omega arith
-steps_on s l k (m ∷ ms) le = omega (arith, steps_cons s l m ms, steps_cons s k m ms, one_on s l k m le, steps_on s l k ms le)
-
 one_step : (s : SlotName) (k : ℕ) (m : Mark) → m.line < k → m.slot ≡ s → is_some m.step ≡ true → one s k m ≡ 1
 one_step s k m lt at made =
     one_is s k m true (and_from (same_slot m.slot s) _ (same_slot_yes m.slot s at) (and_from (ltb m.line k) (is_some m.step) (lt-ltb m.line k lt) made))
@@ -74,7 +71,7 @@ steps_past s l k [] m le lt c at made = absurd (omega (arith, c.1))
 steps_past s l k (n ∷ ms) m le lt (zero, c, same) at made =
     let low : one s l n ≡ 0 = ap (one s l) same ∙ none_before s l m le in
     let high : one s k n ≡ 1 = ap (one s k) same ∙ one_step s k m lt at made in
-    omega (arith, steps_cons s l n ms, steps_cons s k n ms, low, high, steps_on s l k ms (omega arith))
+    omega (arith, steps_cons s l n ms, steps_cons s k n ms, low, high, steps_rise s l k ms (omega arith))
 steps_past s l k (n ∷ ms) m le lt (suc i, c, same) at made =
     omega (arith, steps_cons s l n ms, steps_cons s k n ms, one_on s l k n (omega arith), steps_past s l k ms m le lt (i, omega (arith, c), same) at made)
 
@@ -102,7 +99,7 @@ seen_in_file_order threads ls ps a h = record {
       let low : m.line < n.line = omega (arith, lt, mark_line x m e, mark_line y n f) in
       elim (cases_Bool (is_some m.step)) [
         | inl made ↦ rw made (omega (arith, first, then', at, steps_past m.slot m.line n.line (marks_of ps) m (omega arith) low among refl made))
-        | inr look ↦ rw look (omega (arith, first, then', at, steps_on m.slot m.line n.line (marks_of ps) (omega (arith, low))))
+        | inr look ↦ rw look (omega (arith, first, then', at, steps_rise m.slot m.line n.line (marks_of ps) (omega (arith, low))))
       ];
 }
 

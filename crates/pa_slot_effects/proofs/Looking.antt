@@ -1,7 +1,7 @@
 -- The turns of ops that change nothing: looks, and answers that report no slot.
 use Rattle.std.proofs.Common.{◌≡◌, ℕ, ◌+◌, ◌<◌, List, [], ◌∷◌, ◌++◌, length, Some, None, refl, sym, ap, ◌∙◌, subst}
-use Rattle.pa_machine.specs.Count.{held_of, refs_of, number_of}
-use Rattle.pa_machine.specs.Run.{Mark}
+use Rattle.pa_slot.specs.Count.{held_of, refs_of, number_of}
+use Rattle.pa_slot.specs.Run.{Mark}
 use Rattle.pa_trace.specs.declared.script.Op.{Op}
 use Rattle.pa_trace.specs.declared.script.Op.TheVariants as ops
 use Rattle.pa_trace.specs.declared.script.Line.{Line}

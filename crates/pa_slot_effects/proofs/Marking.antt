@@ -2,9 +2,9 @@
 use Rattle.std.proofs.Common.{◌≡◌, ℕ, ◌+◌, List, [], ◌∷◌, ◌++◌, Option, Some, None, Contains, refl, sym, ap, ◌∙◌, arith, add-one, zero, suc, append-nil}
 use Rattle.std.specs.List.{cons_option}
 use Rattle.std.proofs.lemmas.List.Elements.{filter_map-append}
-use Rattle.pa_machine.specs.declared.word.Step.{Step}
-use Rattle.pa_machine.specs.declared.word.Step.TheVariants as steps
-use Rattle.pa_machine.specs.Run.{Mark}
+use Rattle.pa_slot.specs.declared.word.Step.{Step}
+use Rattle.pa_slot.specs.declared.word.Step.TheVariants as steps
+use Rattle.pa_slot.specs.Run.{Mark}
 use Rattle.pa_trace.specs.declared.script.Op.{Op}
 use Rattle.pa_trace.specs.declared.script.Op.TheVariants as ops
 use Rattle.pa_record.specs.declared.entry.Seen.{Seen}
@@ -12,6 +12,7 @@ use Rattle.pa_record.specs.declared.entry.Answer.{Answer}
 use Rattle.pa_record.specs.declared.entry.Answer.TheVariants.{Made, Done, Value, Dangling, SecondFree, NotOwner, StaleReset, StaleUse, Nothing, Filled, NotRef, Shared, OutOfRange, TooLarge, Full, Swapped, Purged}
 use Rattle.pa_rules.specs.declared.played.Played.{Played}
 use Rattle.pa_rules.specs.Played.{step_of, mark_at, look_at, mark_of, mark_of_answer, marks_of}
+use Rattle.pa_legal.proofs.owners.Using.{no_op_issues}
 
 -- the line of a mark, if there is one
 abbrev pub line_or : ℕ → Option Mark → ℕ
@@ -42,7 +43,7 @@ answer_line line op (Full entry) = refl
 answer_line line op (Swapped entry) = refl
 answer_line line op (Purged slots) = refl
 
--- the marks with what one more record tells
+-- the marks with what one more record reports
 abbrev pub with_mark : List Mark → Option Mark → List Mark
 with_mark ms None = ms
 with_mark ms (Some m) = ms ++ m ∷ []
@@ -96,20 +97,10 @@ look_issue : (line : ℕ) (seen : Option Seen) (m : Mark) → look_at line seen 
 look_issue line None m e f = cc
 look_issue line (Some seen) m e f = no_issue None (mark_at line seen None) m refl none_issue e f
 
-done_issue : (op : Op) → step_of op ≡ Some steps.Issue → ⊥
-done_issue (ops.Alloc reg partition size) e = cc
-done_issue (ops.Copy from to) e = cc
-done_issue (ops.Reset reg) e = cc
-done_issue (ops.Free reg) e = cc
-done_issue (ops.Write reg value) e = cc
-done_issue (ops.Read reg place) e = cc
-done_issue (ops.Swap cell reg) e = cc
-done_issue ops.Purge e = cc
-
--- an issue is told by an answer `made` alone
+-- an issue is reported by an answer `made` alone
 pub issue_made : (line : ℕ) (op : Op) (a : Answer) (m : Mark) → mark_of_answer line op a ≡ Some m → m.step ≡ Some steps.Issue → IsMaking a m
 issue_made line op (Made seen usable) m e f = (seen, usable, refl, ap (λ (x : Mark). x.slot) (some_mark (mark_at line seen (Some steps.Issue)) m e))
-issue_made line op (Done seen) m e f = absurd (no_issue (step_of op) (mark_at line seen (step_of op)) m refl (done_issue op) e f)
+issue_made line op (Done seen) m e f = absurd (no_issue (step_of op) (mark_at line seen (step_of op)) m refl (no_op_issues op) e f)
 issue_made line op (Value seen value) m e f = absurd (look_issue line (Some seen) m e f)
 issue_made line op (Dangling seen value) m e f = absurd (look_issue line (Some seen) m e f)
 issue_made line op (SecondFree seen) m e f = absurd (look_issue line seen m e f)

@@ -1,7 +1,7 @@
 -- The rows so far, with a row more, by longer histories, and at the end.
 use Rattle.std.proofs.Common.{◌≡◌, ℕ, ◌+◌, ◌<◌, List, [], ◌∷◌, ◌++◌, Contains, refl, sym, ap, ◌∙◌, subst, arith, add-one, zero, suc, inl, inr, ◌⊎◌}
-use Rattle.pa_machine.specs.declared.word.SlotName.{SlotName}
-use Rattle.pa_machine.proofs.Runs.{same_slot_yes, same_slot_cases, same_slot_no}
+use Rattle.pa_slot.specs.declared.word.SlotName.{SlotName}
+use Rattle.pa_slot.proofs.Runs.{same_slot_yes, same_slot_cases, same_slot_no}
 use Rattle.pa_trace.specs.declared.script.Op.{Op}
 use Rattle.pa_trace.specs.declared.script.Op.TheVariants as ops
 use Rattle.pa_record.specs.declared.entry.Seen.{Seen}
@@ -88,7 +88,7 @@ rows_push word usable cells all [] mid x next h named r =
 rows_push word usable cells all (q ∷ ps) mid x next h named r =
     (h.0, h.1, h.2, rows_push word usable cells (with_thread all q.thread h.1) ps mid x next h.3 named r)
 
--- a record tells how many bytes of a slot are usable, or leaves it to the later ones
+-- a record says how many bytes of a slot are usable, or leaves it to the later ones
 usable_told : (usable : SlotName → ℕ) (a : Answer) (s : SlotName) (other : ℕ) → ((seen : Seen) (n : ℕ) → a ≡ Made seen n → n ≡ usable seen.slot)
     → (usable_or (made_of a) s other ≡ usable s) ⊎ (usable_or (made_of a) s other ≡ other)
 usable_told usable (Made seen n) s other h = elim (same_slot_cases seen.slot s) [

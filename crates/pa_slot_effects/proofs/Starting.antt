@@ -1,9 +1,9 @@
 -- Before the first line, over a line that begins a phase, and what is the same to the eye.
 use Rattle.std.proofs.Common.{◌≡◌, ℕ, ◌+◌, ◌<◌, List, [], ◌∷◌, ◌++◌, length, refl, sym, ◌∙◌, subst, arith, zero, suc, length-append}
 use Rattle.std.proofs.Math.Path.{fun_ext}
-use Rattle.pa_machine.specs.declared.word.SlotName.{SlotName}
-use Rattle.pa_machine.specs.Count.{held_of, number_of}
-use Rattle.pa_machine.proofs.Runs.{runs_none}
+use Rattle.pa_slot.specs.declared.word.SlotName.{SlotName}
+use Rattle.pa_slot.specs.Count.{held_of, number_of}
+use Rattle.pa_slot.proofs.Runs.{runs_none}
 use Rattle.pa_trace.specs.declared.script.Line.{Line}
 use Rattle.pa_trace.specs.declared.script.Line.TheVariants.{Phase}
 use Rattle.pa_record.specs.declared.history.CellEntry.{CellEntry}

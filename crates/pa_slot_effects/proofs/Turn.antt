@@ -3,12 +3,12 @@ use Rattle.std.proofs.Common.{◌≡◌, ℕ, ◌+◌, ◌<◌, inl, inr, List, 
 use Rattle.std.proofs.Math.Path.{fun_ext}
 use Rattle.std.proofs.lemmas.Bool.{cases_eq, eq-eqb, ne_eqb}
 use Rattle.std.proofs.lemmas.List.Elements.{Contains-push_cases}
-use Rattle.pa_machine.specs.declared.word.SlotName.{SlotName}
-use Rattle.pa_machine.specs.declared.word.Step.{Step}
-use Rattle.pa_machine.specs.Count.{number_of, held_of, refs_of, CanStep, stepped}
-use Rattle.pa_machine.specs.Run.{Mark}
-use Rattle.pa_machine.specs.Runs.{HasRuns}
-use Rattle.pa_machine.proofs.Runs.{runs_look, runs_step, same_slot_cases, number_stepped}
+use Rattle.pa_slot.specs.declared.word.SlotName.{SlotName}
+use Rattle.pa_slot.specs.declared.word.Step.{Step}
+use Rattle.pa_slot.specs.Count.{number_of, held_of, refs_of, CanStep, stepped}
+use Rattle.pa_slot.specs.Run.{Mark}
+use Rattle.pa_slot.specs.Runs.{HasRuns}
+use Rattle.pa_slot.proofs.Runs.{runs_look, runs_step, same_slot_cases, number_stepped}
 use Rattle.pa_trace.specs.declared.script.Op.{Op}
 use Rattle.pa_trace.specs.declared.script.Line.{Line}
 use Rattle.pa_trace.specs.declared.script.Line.TheVariants.{Do}

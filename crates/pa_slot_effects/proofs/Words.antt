@@ -1,12 +1,12 @@
 -- The word of a slot that was stepped on, and what a handle says of its slot's word.
 use Rattle.std.proofs.Common.{◌≡◌, ℕ, ◌+◌, ◌*◌, ◌<◌, ◌≤◌, inl, inr, List, [], ◌∷◌, Some, Contains, refl, ap, ◌∙◌, arith}
-use Rattle.pa_machine.specs.declared.word.SlotName.{SlotName}
-use Rattle.pa_machine.specs.declared.word.Step.{Step}
-use Rattle.pa_machine.specs.declared.word.Step.TheVariants as steps
-use Rattle.pa_machine.specs.Count.{number_of, held_of, refs_of}
-use Rattle.pa_machine.specs.Run.{Mark}
-use Rattle.pa_machine.specs.Runs.{HasRuns, IsPath}
-use Rattle.pa_machine.proofs.Runs.{same_slot_yes, same_slot_no, same_slot_cases, some_is, issue_first}
+use Rattle.pa_slot.specs.declared.word.SlotName.{SlotName}
+use Rattle.pa_slot.specs.declared.word.Step.{Step}
+use Rattle.pa_slot.specs.declared.word.Step.TheVariants as steps
+use Rattle.pa_slot.specs.Count.{number_of, held_of, refs_of}
+use Rattle.pa_slot.specs.Run.{Mark}
+use Rattle.pa_slot.specs.Runs.{HasRuns, IsPath}
+use Rattle.pa_slot.proofs.Runs.{same_slot_yes, same_slot_no, same_slot_cases, some_is, issue_first}
 use Rattle.pa_record.specs.declared.entry.Seen.{Seen}
 use Rattle.pa_record.specs.declared.entry.Answer.TheVariants.{Made}
 use Rattle.pa_rules.specs.Registers.{Reg}

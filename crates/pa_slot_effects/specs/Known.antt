@@ -1,9 +1,9 @@
 -- What is known of the records so far, if they left this state.
 use Rattle.std.specs.Prelude.{◌≡◌, ℕ, ◌+◌, ◌<◌, ◌≤◌, List, [], ◌∷◌, length, Contains}
-use Rattle.pa_machine.specs.declared.word.SlotName.{SlotName}
-use Rattle.pa_machine.specs.Count.{number_of, held_of}
-use Rattle.pa_machine.specs.Run.{Mark}
-use Rattle.pa_machine.specs.Runs.{HasRuns}
+use Rattle.pa_slot.specs.declared.word.SlotName.{SlotName}
+use Rattle.pa_slot.specs.Count.{number_of, held_of}
+use Rattle.pa_slot.specs.Run.{Mark}
+use Rattle.pa_slot.specs.Runs.{HasRuns}
 use Rattle.pa_trace.specs.declared.script.Line.{Line}
 use Rattle.pa_trace.specs.declared.script.Op.TheVariants as ops
 use Rattle.pa_record.specs.declared.entry.Seen.{Seen}
@@ -26,8 +26,8 @@ use Rattle.pa_slot_effects.specs.Shown.{Shown, IsUsed, AreHandles}
 abbrev pub facts_of : (SlotName → ℕ) → (ℕ → List CellEntry) → Facts
 facts_of usable cells = record { usable_of = usable_of; usable_at = usable; cells = cells }
 
--- Each answer is the one that the rows require, and leads to the next registers; before each, the thread's registers name
--- slots that were stepped on by now.
+-- Each answer is the one that the rows require, and leads to the next registers. Before each, the thread's registers name slots
+-- that were stepped on by now.
 abbrev pub RowsNamed : (SlotName → ℕ) → (SlotName → ℕ) → (ℕ → List CellEntry) → AllRegs → List Played → AllRegs → Type 0
 RowsNamed word usable cells all [] end = end ≡ all
 RowsNamed word usable cells all (x ∷ xs) end =

@@ -1,9 +1,9 @@
 -- The laws of turns: the start, each op's turn, a line that begins a phase, and the end.
 use Rattle.std.specs.Prelude.{◌≡◌, ℕ, ◌+◌, ◌<◌, ◌≤◌, List, [], ◌∷◌, ◌++◌, length, map, AllPairs, Contains}
-use Rattle.pa_machine.specs.declared.word.SlotName.{SlotName}
-use Rattle.pa_machine.specs.declared.word.Step.TheVariants as steps
-use Rattle.pa_machine.specs.Count.{held_of, refs_of, CanStep}
-use Rattle.pa_machine.specs.Run.{Slots}
+use Rattle.pa_slot.specs.declared.word.SlotName.{SlotName}
+use Rattle.pa_slot.specs.declared.word.Step.TheVariants as steps
+use Rattle.pa_slot.specs.Count.{held_of, refs_of, CanStep}
+use Rattle.pa_slot.specs.Run.{Slots}
 use Rattle.pa_direct.specs.Shapes.{greatest_size}
 use Rattle.pa_trace.specs.declared.script.Op.{Op}
 use Rattle.pa_trace.specs.declared.script.Op.TheVariants as ops
@@ -42,12 +42,12 @@ abbrev pub LikeIsTold : Type 0
 LikeIsTold = (threads : ℕ) (ls : List Line) (ps : List Played) (a b : Shown) → IsToldTo threads ls ps a → IsLike a b →
     IsToldTo threads ls ps b
 
--- a line that begins a phase
+-- a line that begins a phase adds no record and leaves all as it is
 abbrev pub PhaseGoesOn : Type 0
 PhaseGoesOn = (threads : ℕ) (ls : List Line) (ps : List Played) (a : Shown) → IsToldTo threads ls ps a →
     IsToldTo threads (ls ++ Phase ∷ []) ps a
 
--- an op that is refused, or gives back the slots of its caches: it reports no slot, and is no exchange
+-- an op that is refused, or gives back the slots of its caches, leaves all as it is: it reports no slot, and is no exchange
 abbrev pub NoneGoesOn : Type 0
 NoneGoesOn =
     (threads : ℕ) (ls : List Line) (ps : List Played) (a : Shown) (thread : ℕ) (op : Op) (answer : Answer) →
@@ -55,7 +55,7 @@ NoneGoesOn =
     TellsNone answer → ((cell reg : ℕ) → op ≡ ops.Swap cell reg → ⊥) →
     Row (facts_of a.usable a.cells) op (a.regs thread) answer (a.regs thread) → LeadsTo threads ls ps thread op answer a
 
--- a look at the slot that a register names
+-- a look at the slot that a register names leaves all as it is
 abbrev pub LookGoesOn : Type 0
 LookGoesOn =
     (threads : ℕ) (ls : List Line) (ps : List Played) (a : Shown) (thread reg : ℕ) (op : Op) (answer : Answer) (seen : Seen) →
@@ -64,7 +64,7 @@ LookGoesOn =
     ((cell reg : ℕ) → op ≡ ops.Swap cell reg → ⊥) →
     Row (facts_of a.usable a.cells) op (a.regs thread) answer (a.regs thread) → LeadsTo threads ls ps thread op answer a
 
--- an allocation of a slot that is free, into a register without a handle
+-- an allocation of a free slot, into a register without a handle, leaves what `after_made` says
 abbrev pub MadeGoesOn : Type 0
 MadeGoesOn =
     (threads : ℕ) (ls : List Line) (ps : List Played) (a : Shown) (thread reg partition size : ℕ) (seen : Seen) →
@@ -75,7 +75,7 @@ MadeGoesOn =
     a.usable seen.slot ≡ usable_of size →
     LeadsTo threads ls ps thread (ops.Alloc reg partition size) (Made seen (usable_of size)) (after_made a thread reg seen)
 
--- a copy between a register that has a handle and one that has none
+-- a copy from a register that has a handle to one that has none leaves what `after_copy` says
 abbrev pub CopyGoesOn : Type 0
 CopyGoesOn =
     (threads : ℕ) (ls : List Line) (ps : List Played) (a : Shown) (thread from to : ℕ) (seen : Seen) → CanPlay threads ls ps a thread →
@@ -83,28 +83,28 @@ CopyGoesOn =
     seen.found.0 ≡ a.word seen.slot →
     LeadsTo threads ls ps thread (ops.Copy from to) (Done seen) (after_copy a thread to seen)
 
--- a reset of a raw_ptr
+-- a reset of a raw_ptr leaves what `after_reset` says
 abbrev pub ResetGoesOn : Type 0
 ResetGoesOn =
     (threads : ℕ) (ls : List Line) (ps : List Played) (a : Shown) (thread reg : ℕ) (seen : Seen) → CanPlay threads ls ps a thread →
     reg < register_count → a.regs thread reg ≡ Ref seen.slot → seen.found.0 ≡ a.word seen.slot →
     LeadsTo threads ls ps thread (ops.Reset reg) (Done seen) (after_reset a thread reg seen)
 
--- a free by the owner
+-- a free by the owner leaves what `after_free` says
 abbrev pub FreeGoesOn : Type 0
 FreeGoesOn =
     (threads : ℕ) (ls : List Line) (ps : List Played) (a : Shown) (thread reg : ℕ) (seen : Seen) → CanPlay threads ls ps a thread →
     reg < register_count → a.regs thread reg ≡ Own seen.slot → seen.found.0 ≡ a.word seen.slot →
     LeadsTo threads ls ps thread (ops.Free reg) (Done seen) (after_free a thread reg seen)
 
--- a write by the owner, if no raw_ptr points to the slot
+-- a write by the owner of a slot to which no raw_ptr points leaves what `after_write` says
 abbrev pub WriteGoesOn : Type 0
 WriteGoesOn =
     (threads : ℕ) (ls : List Line) (ps : List Played) (a : Shown) (thread reg value : ℕ) (seen : Seen) → CanPlay threads ls ps a thread →
     reg < register_count → a.regs thread reg ≡ Own seen.slot → seen.found.0 ≡ a.word seen.slot → refs_of seen.found.0 ≡ 0 →
     LeadsTo threads ls ps thread (ops.Write reg value) (Done seen) (after_write a value seen)
 
--- an exchange of a register and a cell
+-- an exchange of a register and a cell leaves what `after_swap` says
 abbrev pub SwapGoesOn : Type 0
 SwapGoesOn =
     (threads : ℕ) (ls : List Line) (ps : List Played) (a : Shown) (thread cell reg : ℕ) → CanPlay threads ls ps a thread →
@@ -120,7 +120,7 @@ pub record LetsStep (a : Shown) (thread reg : ℕ) : Type 0 where
   pub writes : (s : SlotName) → a.regs thread reg ≡ Own s → refs_of (a.word s) ≡ 0 → CanStep steps.Write (a.word s)
   pub issues : (s : SlotName) → held_of (a.word s) ≡ 0 → refs_of (a.word s) ≡ 0 → CanStep steps.Issue (a.word s)
 
--- this holds for each register of a thread that can play the next line
+-- each register of a thread that can play the next line lets it step, as LetsStep says
 abbrev pub HandleLets : Type 0
 HandleLets =
     (threads : ℕ) (ls : List Line) (ps : List Played) (a : Shown) (thread reg : ℕ) → CanPlay threads ls ps a thread → reg < register_count →

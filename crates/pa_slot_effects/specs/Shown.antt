@@ -1,8 +1,8 @@
 -- What the lines so far left, by the names of slots: registers, cells, and each slot's word, content and usable number.
 use Rattle.std.specs.Prelude.{◌≡◌, ℕ, zero, suc, ◌+◌, ◌<◌, ◌==◌, if◌then◌else◌, List, [], ◌∷◌, ◌++◌}
-use Rattle.pa_machine.specs.declared.word.SlotName.{SlotName}
-use Rattle.pa_machine.specs.Count.{held_of, refs_of}
-use Rattle.pa_machine.specs.Run.{same_slot}
+use Rattle.pa_slot.specs.declared.word.SlotName.{SlotName}
+use Rattle.pa_slot.specs.Count.{held_of, refs_of}
+use Rattle.pa_slot.specs.Run.{same_slot}
 use Rattle.pa_record.specs.declared.history.CellEntry.{CellEntry}
 use Rattle.pa_record.specs.declared.history.Held.{Held}
 use Rattle.pa_trace.specs.Limits.{register_count, cell_count}
@@ -18,7 +18,7 @@ pub record Shown : Type 0 where
   pub content : SlotName → ℕ
   pub usable : SlotName → ℕ
 
--- one register of a thread is changed; one slot's number; what one cell has
+-- the registers of all threads, with one register of one thread changed
 abbrev pub with_reg : AllRegs → ℕ → ℕ → Reg → AllRegs
 with_reg regs thread reg x = with_thread regs thread (with (regs thread) reg x)
 
@@ -34,7 +34,7 @@ with_held held cell h k = if k == cell then h else held k
 abbrev pub with_entry : (ℕ → List CellEntry) → ℕ → CellEntry → ℕ → List CellEntry
 with_entry cells cell e k = if k == cell then cells k ++ e ∷ [] else cells k
 
--- They look the same: a content counts while the slot is held, and a usable number once the slot was stepped on.
+-- b looks the same as a: a content counts while the slot is held, and a usable number once the slot was stepped on
 pub record IsLike (a b : Shown) : Type 0 where
   pub regs : (t r : ℕ) → b.regs t r ≡ a.regs t r
   pub held : (k : ℕ) → b.held k ≡ a.held k
@@ -43,7 +43,7 @@ pub record IsLike (a b : Shown) : Type 0 where
   pub content : (s : SlotName) → held_of (a.word s) ≡ 1 → b.content s ≡ a.content s
   pub usable : (s : SlotName) → 0 < a.word s → b.usable s ≡ a.usable s
 
--- 1 if the register owns the slot; 1 if it is a raw_ptr to it
+-- 1 if the register owns the slot, and else 0
 abbrev pub owns : SlotName → Reg → ℕ
 owns s Empty = 0
 owns s (Own t) = if same_slot t s then 1 else 0
@@ -51,7 +51,7 @@ owns s (Ref t) = 0
 owns s Freed = 0
 owns s Cleared = 0
 
--- 1 if the register is a raw_ptr to the slot, else 0
+-- 1 if the register is a raw_ptr to the slot, and else 0
 abbrev pub points : SlotName → Reg → ℕ
 points s Empty = 0
 points s (Own t) = 0
@@ -59,12 +59,12 @@ points s (Ref t) = if same_slot t s then 1 else 0
 points s Freed = 0
 points s Cleared = 0
 
--- the sum over the numbers below n
+-- the sum of what f gives of the numbers below n
 abbrev pub over : ℕ → (ℕ → ℕ) → ℕ
 over zero f = 0
 over (suc n) f = over n f + f n
 
--- what the registers of that many threads and the cells have, each by itself
+-- the sum of what f gives of each register of this many threads and of each cell
 abbrev pub amount : ℕ → (Reg → ℕ) → AllRegs → (ℕ → Held) → ℕ
 amount threads f regs held = over threads (λ t. over register_count (λ r. f (regs t r))) + over cell_count (λ k. f (reg_of (held k)))
 

@@ -1,9 +1,9 @@
 -- What each op's turn leaves, and what it requires.
 use Rattle.std.specs.Prelude.{◌≡◌, ℕ, ◌+◌, ◌<◌, ◌≤◌, List, [], ◌∷◌, ◌++◌, length, Some, None}
-use Rattle.pa_machine.specs.declared.word.SlotName.{SlotName}
-use Rattle.pa_machine.specs.declared.word.Step.TheVariants as steps
-use Rattle.pa_machine.specs.Count.{held_of, stepped}
-use Rattle.pa_machine.specs.Titles.{poison}
+use Rattle.pa_slot.specs.declared.word.SlotName.{SlotName}
+use Rattle.pa_slot.specs.declared.word.Step.TheVariants as steps
+use Rattle.pa_slot.specs.Count.{held_of, stepped}
+use Rattle.pa_slot.specs.Titles.{poison}
 use Rattle.pa_trace.specs.declared.script.Op.{Op}
 use Rattle.pa_trace.specs.declared.script.Line.{Line}
 use Rattle.pa_trace.specs.declared.script.Line.TheVariants.{Do}
@@ -34,7 +34,7 @@ pub record CanPlay (threads : ℕ) (ls : List Line) (ps : List Played) (a : Show
   pub few : threads ≤ most_threads
   pub short : length ls < 65536
 
--- the register has a handle to the slot, or none
+-- the register has a handle to slot s
 abbrev pub Names : SlotName → Reg → Type 0
 Names s Empty = ⊥
 Names s (Own t) = t ≡ s
@@ -50,8 +50,7 @@ HoldsNone (Ref s) = ⊥
 HoldsNone Freed = Unit {0}
 HoldsNone Cleared = Unit {0}
 
--- What is left by a turn of a register of this thread and the slot that was seen: an allocation, a copy, a reset, a free
--- and a write.
+-- after an allocation the register owns the slot, all of its content is 0, and its word is the one after the step
 abbrev pub after_made : Shown → ℕ → ℕ → Seen → Shown
 after_made a thread reg seen = record a {
   regs = with_reg a.regs thread reg (Own seen.slot);
@@ -99,7 +98,7 @@ after_swap a line thread cell reg = record a {
   cells = with_entry a.cells cell (exchange_of a line thread cell reg);
 }
 
--- an answer that reports no slot
+-- the answer reports no slot
 abbrev pub TellsNone : Answer → Type 0
 TellsNone (Made seen usable) = ⊥
 TellsNone (Done seen) = ⊥
@@ -121,7 +120,7 @@ TellsNone (Full entry) = Unit {0}
 TellsNone (Swapped entry) = ⊥
 TellsNone (Purged slots) = Unit {0}
 
--- an answer that looked at this slot and found this word; what it says was read is the slot's content, or poison
+-- the answer looked at this slot and found this word, and what it says was read is the slot's content, or poison
 abbrev pub Looks : Shown → Seen → Answer → Type 0
 Looks a s (Made seen usable) = ⊥
 Looks a s (Done seen) = ⊥

@@ -11,6 +11,6 @@ use Rattle.pa_slot_effects.specs.Known.{IsToldTo}
 abbrev pub worked_lines : List Line
 worked_lines = Do 0 (Alloc 0 0 1) ∷ Do 0 (Copy 0 1) ∷ Do 0 (Free 0) ∷ Do 0 (Reset 1) ∷ []
 
--- records of one thread report this
+-- some records of one thread are those of the worked lines, and leave some state
 abbrev pub WorkedTurns : Type 0
 WorkedTurns = (ps : List Played) × (a : Shown) × IsToldTo 1 worked_lines ps a

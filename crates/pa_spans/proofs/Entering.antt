@@ -36,7 +36,7 @@ head_is_member l spans has st class a small = elim (listed_or a) [
   | inr never ↦ inl (no_head l class a never)
 ]
 
--- what is known where x enters
+-- what is known if x enters a state
 record Enters (l : SpanListParts) (spans after : ℕ → Span) (has : ℕ → Type 0) (x : ℕ) (s : Span) (to : State) : Type 0 where
   stand : Stand l spans (others has x)
   fronted_is : AreFronted spans after x (list_head l s.class to) s to l.turn

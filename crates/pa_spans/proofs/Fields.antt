@@ -40,7 +40,7 @@ equal u at never = elim (eqb_tells u at) [
   | inr w ↦ w.0
 ]
 
--- of spans whose neighbours p and n name each other
+-- what is the same of spans after the neighbours p and n name each other
 pub record AreJoined (before after : ℕ → Span) (p n : ℕ) : Type 0 where
   pub class : (u : ℕ) → (after u).class ≡ (before u).class
   pub state : (u : ℕ) → (after u).state ≡ (before u).state

@@ -1,4 +1,4 @@
--- A span leaves its list: what is left stands for the spans but this one.
+-- A span leaves its list: the lists that are left are those of the spans but this one.
 use Rattle.std.proofs.Common.{◌≡◌, ℕ, ◌<◌, ◌⊎◌, inl, inr, true, false, ◌==◌, if◌then◌else◌, refl, sym, ap, subst, ◌∙◌, arith}
 use Rattle.std.specs.Prelude.{Contains, slice_index_or}
 use Rattle.std.proofs.lemmas.Bool.{cases_lt}
@@ -220,7 +220,7 @@ head_left l spans has x st isx k e small listed =
           (λ v m. m.0) (λ v m. refl) (list_head l k e) top)
     ]
 
--- what is left stands for the spans but x
+-- lists without the span x are those of the spans but x
 pub taken_out : (l : SpanListParts) (spans : ℕ → Span) (has : ℕ → Type 0) (x : ℕ) → Stand l spans has → has x →
     Stand (lists_without x (spans x) l) (without (spans x) spans) (λ u. has u × (u ≡ x → ⊥))
 taken_out l spans has x st isx =

@@ -93,7 +93,7 @@ room_is_left l gone spans x s to same moves gone_is few =
     subst (λ (b : Bool). length (if b then l else lists_with x s.class to (lists_without x s l)).ring ≤ 17) moves of_s in
     subst (λ (z : SpanListParts). length (lists_with x s.class to z).ring ≤ 17) (sym gone_is) of_lists
 
--- the same spans
+-- lists of spans are lists of equal spans
 pub stands_alike : (l : SpanListParts) (spans after : ℕ → Span) (has had : ℕ → Type 0) → Stand l spans has → ((u : ℕ) → after u ≡ spans u) →
     ((u : ℕ) → had u ↔ has u) → Stand l after had
 stands_alike l spans after has had st same both = stays l spans after has had st (record {
@@ -113,7 +113,7 @@ stands_moved l gone l_after spans seen left after x s to has had m st isx small 
     stands_alike l_after (in_front x s to (list_head gone s.class to) gone.turn (without s spans)) after has had of_after
     (λ u. m.after_is u ∙ ap (λ (z : ℕ → Span). in_front x s to (list_head gone s.class to) gone.turn z u) (left_alike l gone l_after spans seen left after x s to m)) both
 
--- where the span is in the state nothing moves
+-- if the span is in the state, nothing moves
 pub spans_unmoved : (l : SpanListParts) (spans seen : ℕ → Span) (x : ℕ) (s : Span) (to : State) → ((u : ℕ) → seen u ≡ spans u) → s ≡ spans x →
     same_state s.state to ≡ true → (u : ℕ) → seen u ≡ spans_entered x to l spans u
 spans_unmoved l spans seen x s to seen_is span_is same u =

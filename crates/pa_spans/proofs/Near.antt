@@ -1,4 +1,4 @@
--- Nearest members: what they are where a member leaves, and where one enters before all others.
+-- Nearest members: what they are after a member leaves, and after one enters before all others.
 use Rattle.std.proofs.Common.{◌≡◌, ℕ, ◌<◌, ◌⊎◌, inl, inr, refl, ap, subst, arith}
 use Rattle.std.proofs.lemmas.Bool.{cases_lt}
 use Rattle.pa_spans.specs.Lists.{IsNearest, IsNextByTurn, IsPreviousByTurn, IsHead}

@@ -1,10 +1,11 @@
 -- The ring of empty spans: what stays in it, and in which order.
-use Rattle.std.proofs.Common.{◌≡◌, ℕ, inl, inr, true, false, not, ◌==◌, List, [], ◌∷◌, refl, sym, ap, ◌∙◌}
+use Rattle.std.proofs.Common.{◌≡◌, ℕ, inl, inr, true, false, not, ◌==◌, List, [], ◌∷◌, refl, sym, ap, ◌∙◌, length, ◌≤◌, arith}
 use Rattle.std.specs.Prelude.{All, AllPairs, Contains}
 use Rattle.std.proofs.lemmas.Bool.Decides.{eqb_tells}
 use Rattle.std.proofs.lemmas.List.Elements.{All-push, Contains-append_left, Contains-push}
 use Rattle.std.proofs.lemmas.List.Kept.{AllPairs-filter}
 use Rattle.std.proofs.lemmas.List.Quantifiers.{all_pairs_push}
+use Rattle.std.proofs.lemmas.List.Sums.{length-filter, count_by-le-length}
 use Rattle.pa_lists.proofs.Joined.{filter_cases, filter_in}
 use Rattle.pa_buckets.specs.declared.spans.State.{State}
 use Rattle.pa_buckets.specs.declared.spans.State.TheVariants as state
@@ -27,7 +28,7 @@ pub stays_in : (at : ℕ) (a : State) (ring : List ℕ) (u : ℕ) → (u ≡ at 
 stays_in at state.Empty ring u never among = filter_in (λ v. not (v == at)) ring u among (not_same u at never)
 stays_in at a ring u never among = among
 
--- of a ring whose members are in the state Empty
+-- a member of a ring without one place was in it, if all its members are in the state Empty
 pub was_in : (at : ℕ) (a : State) (ring : List ℕ) (state_at : ℕ → State) → state_at at ≡ a →
     ((v : ℕ) → Contains ring v → state_at v ≡ state.Empty) → (u : ℕ) → Contains (ring_without at a ring) u → Contains ring u × (u ≡ at → ⊥)
 was_in at state.Empty ring state_at is members u among =
@@ -58,3 +59,11 @@ pub rises_with : (R : ℕ → ℕ → Type 0) (at : ℕ) (a : State) (ring : Lis
     AllPairs R (ring_with at a ring)
 rises_with R at state.Empty ring rise below = all_pairs_push R ring at rise below
 rises_with R at a ring rise below = rise
+
+-- a ring without a member is no longer
+pub ring_shrinks : (at : ℕ) (a : State) (ring : List ℕ) → length (ring_without at a ring) ≤ length ring
+ring_shrinks at state.None ring = omega arith
+ring_shrinks at state.Active ring = omega arith
+ring_shrinks at state.Empty ring = omega (arith, length-filter (λ u. not (u == at)) ring, count_by-le-length (λ u. not (u == at)) ring)
+ring_shrinks at state.Decommitted ring = omega arith
+ring_shrinks at state.Full ring = omega arith

@@ -10,7 +10,7 @@ use Rattle.pa_spans.specs.Lists.{SpanListParts, HasList, list_head, IsNextByTurn
 use Rattle.pa_spans.proofs.Near.{IsSameOrder, near_same, head_same}
 use Rattle.pa_spans.proofs.Leaving.{listed_used}
 
--- each span that there was is there, and stands as it did; each other one isn't in use
+-- Each span that there was is there, and stands as it did. Each other one isn't in use.
 pub record StayListed (spans after : ℕ → Span) (has had : ℕ → Type 0) : Type 0 where
   pub on : (u : ℕ) → has u → had u × StaysListed (spans u) (after u)
   pub back : (u : ℕ) → had u → (has u × StaysListed (spans u) (after u)) ⊎ IsOutside (after u)
@@ -111,7 +111,7 @@ stays l spans after has had st stay =
       long = st.long;
     }
 
--- the same spans
+-- a span that is the same is listed alike
 pub same_listed : (s t : Span) → t ≡ s → StaysListed s t
 same_listed s t e = record {
   class = inl (ap (λ (v : Span). v.class) e);

@@ -1,4 +1,4 @@
--- Lists of spans of one class and state, said by turns; and what the move of a span into a state leaves.
+-- Lists of spans of one class and state, said by turns, and what the move of a span into a state leaves.
 use Rattle.std.specs.Prelude.{◌≡◌, ℕ, ◌+◌, ◌<◌, ◌≤◌, ◌⊎◌, not, ◌==◌, ◌&&◌, nat_lt, if◌then◌else◌, List, [], ◌∷◌, ◌++◌, length, replicate, Option, Some, None, All, AllPairs, Contains, slice_index, slice_set}
 use Rattle.std.specs.List.{filter}
 use Rattle.pa_buckets.specs.declared.spans.State.{State}
@@ -7,8 +7,8 @@ use Rattle.pa_buckets.specs.Limits.{class_count}
 use Rattle.pa_record.specs.Spans.{same_state}
 use Rattle.pa_spans.specs.declared.span.Span.{Span}
 
--- For each of three states the heads of the lists by class, 0 for an empty list; the empty spans, of which each entered
--- later than the one before it; and the next turn.
+-- For each of three states the heads of the lists by class, 0 for an empty list. Then the empty spans, of which each entered later
+-- than the one before it, and the next turn.
 pub record SpanListParts : Type 0 where
   pub active : List ℕ
   pub empty : List ℕ
@@ -16,7 +16,7 @@ pub record SpanListParts : Type 0 where
   pub ring : List ℕ
   pub turn : ℕ
 
--- at the start there are none
+-- the lists at the start: all are empty
 abbrev pub no_lists : SpanListParts
 no_lists = record {
   active = replicate class_count 0;
@@ -26,7 +26,7 @@ no_lists = record {
   turn = 0;
 }
 
--- spans in these states are in lists
+-- spans in the state are in lists
 abbrev pub HasList : State → Type 0
 HasList state.None = ⊥
 HasList state.Active = Unit {0}
@@ -34,7 +34,7 @@ HasList state.Empty = Unit {0}
 HasList state.Decommitted = Unit {0}
 HasList state.Full = ⊥
 
--- the head of the list of a class and a state, and the lists with another head there
+-- the head of the list of a class and a state, 0 if spans in the state are in no list
 abbrev pub list_head : SpanListParts → ℕ → State → ℕ
 list_head l class state.None = 0
 list_head l class state.Active = slice_index l.active class
@@ -42,7 +42,7 @@ list_head l class state.Empty = slice_index l.empty class
 list_head l class state.Decommitted = slice_index l.decommitted class
 list_head l class state.Full = 0
 
--- the lists with this head for a class and a state; as they are if spans in the state are in no list
+-- the lists with this head for a class and a state, or as they are if spans in the state are in no list
 abbrev pub with_head : ℕ → State → ℕ → SpanListParts → SpanListParts
 with_head class state.None at l = l
 with_head class state.Active at l = record l { active = slice_set l.active class at }
@@ -60,7 +60,7 @@ IsNearest Member Before u n =
     ((n ≡ 0) × ((v : ℕ) → Member v → Before v u → ⊥))
     ⊎ (Member n × Before n u × ((v : ℕ) → Member v → Before n v → Before v u → ⊥))
 
--- n is the member with the next lesser turn than u, and the member with the next greater turn
+-- n is the member with the next lesser turn than u, 0 if there is none
 abbrev pub IsNextByTurn : (ℕ → Type 0) → (ℕ → ℕ) → ℕ → ℕ → Type 0
 IsNextByTurn Member turn u n = IsNearest Member (λ v w. turn v < turn w) u n
 
@@ -110,11 +110,11 @@ pub record Stand (l : SpanListParts) (spans : ℕ → Span) (has : ℕ → Type 
   pub rise : AllPairs (λ u v. (spans u).turn < (spans v).turn) l.ring
   pub long : HasHeads l
 
--- the spans with another next one at a place, if it isn't 0; and with another previous one there
+-- the spans with n as the next one of the span at a place, or as they are if the place is 0
 abbrev pub with_next : ℕ → ℕ → (ℕ → Span) → ℕ → Span
 with_next at n spans u = if nat_lt 0 at && (u == at) then record (spans u) { next = n } else spans u
 
--- the spans with n as the previous one of the span at a place; as they are if the place is 0
+-- the spans with n as the previous one of the span at a place, or as they are if the place is 0
 abbrev pub with_previous : ℕ → ℕ → (ℕ → Span) → ℕ → Span
 with_previous at n spans u = if nat_lt 0 at && (u == at) then record (spans u) { previous = n } else spans u
 
@@ -155,8 +155,8 @@ unheaded s l = if s.previous == 0 then with_head s.class s.state s.next l else l
 abbrev pub lists_without : ℕ → Span → SpanListParts → SpanListParts
 lists_without at s l = record (unheaded s l) { ring = ring_without at s.state l.ring }
 
--- the lists with this span in front for a class and a state, if that has lists, and at the ring's end if it is Empty; the next turn is 1
--- greater
+-- The lists with this span in front for a class and a state, if that has lists, and at the ring's end if it is Empty. The next turn
+-- is 1 greater.
 abbrev pub lists_with : ℕ → ℕ → State → SpanListParts → SpanListParts
 lists_with at class to l = record (with_head class to at l) { ring = ring_with at to l.ring; turn = l.turn + 1 }
 
@@ -179,7 +179,7 @@ oldest_of ring = if length ring == 17 then Some (slice_index ring 0) else None
 abbrev pub first_of_ring : List ℕ → Option ℕ
 first_of_ring ring = if length ring == 0 then None else Some (slice_index ring 0)
 
--- the span that is put in the place of s is in the same list between the same neighbours; the class changes only if s isn't in use
+-- The span that is put in the place of s is in the same list between the same neighbours. The class changes only if s isn't in use.
 pub record StaysListed (s t : Span) : Type 0 where
   pub class : (t.class ≡ s.class) ⊎ (s.state ≡ state.None)
   pub state : t.state ≡ s.state

@@ -18,7 +18,7 @@ const COUNT: usize = CLASSES as usize;
 const RING: usize = 17;
 
 /// The heads of the lists of spans of one class and state, and the ring of the empty ones. The lists themselves go on in the
-/// spans' records. Contracts see it as the record `SpanListParts`; of which spans they are the lists, `Stand` says.
+/// spans' records. Contracts see it as the record `SpanListParts`. `Stand` says of which spans they are the lists.
 #[derive(Drop)]
 pub struct SpanLists {
     active: [u32; COUNT],

@@ -1,11 +1,11 @@
 -- A slot whose bit a look found 0, and that is freed later, was issued between the two.
 use Rattle.std.proofs.Common.{◌≡◌, ℕ, zero, suc, ◌+◌, ◌<◌, ◌≤◌, List, length, None, Some, ◌⊎◌, ◌-◌, inl, inr, refl, sym, ◌∙◌, ap, subst, arith}
 use Rattle.std.specs.Prelude.{Contains}
-use Rattle.pa_machine.specs.declared.word.SlotName.{SlotName}
-use Rattle.pa_machine.specs.declared.word.Step.{Step}
-use Rattle.pa_machine.specs.declared.word.Step.TheVariants as steps
-use Rattle.pa_machine.specs.Count.{CanStep, stepped, number_of, held_of}
-use Rattle.pa_machine.proofs.Arith.{stepped_is}
+use Rattle.pa_slot.specs.declared.word.SlotName.{SlotName}
+use Rattle.pa_slot.specs.declared.word.Step.{Step}
+use Rattle.pa_slot.specs.declared.word.Step.TheVariants as steps
+use Rattle.pa_slot.specs.Count.{CanStep, stepped, number_of, held_of}
+use Rattle.pa_slot.proofs.Arith.{stepped_is}
 use Rattle.pa_record.specs.declared.entry.Answer.TheVariants as answers
 use Rattle.pa_lists.proofs.Joined.{map_cases}
 use Rattle.pa_region.specs.History.{Done, reached}

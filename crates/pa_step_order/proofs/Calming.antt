@@ -5,11 +5,11 @@ use Rattle.std.specs.List.{cons_option}
 use Rattle.std.proofs.lemmas.Bool.{cases_Bool, eq-eqb, ne_eqb}
 use Rattle.std.proofs.lemmas.List.Elements.{filter-append, filter_map-append, Contains-append_cases, Contains-append_left, Contains-append_right}
 use Rattle.std.proofs.lemmas.List.{map-append}
-use Rattle.pa_machine.specs.declared.title.Title.{Title}
-use Rattle.pa_machine.specs.declared.word.SlotName.{SlotName}
-use Rattle.pa_machine.specs.declared.word.Step.{Step}
-use Rattle.pa_machine.specs.declared.word.Step.TheVariants as steps
-use Rattle.pa_machine.specs.Count.{number_of}
+use Rattle.pa_slot.specs.declared.title.Title.{Title}
+use Rattle.pa_slot.specs.declared.word.SlotName.{SlotName}
+use Rattle.pa_slot.specs.declared.word.Step.{Step}
+use Rattle.pa_slot.specs.declared.word.Step.TheVariants as steps
+use Rattle.pa_slot.specs.Count.{number_of}
 use Rattle.pa_trace.specs.declared.script.Op.TheVariants as ops
 use Rattle.pa_record.specs.declared.entry.Seen.{Seen}
 use Rattle.pa_record.specs.declared.entry.Answer.{Answer}
@@ -19,6 +19,7 @@ use Rattle.pa_region.specs.declared.view.Entry.TheVariants.{Counted, Looked, Rea
 use Rattle.pa_region.specs.Order.{Stamped, by_stake, OneStep, Logged, Spoiled, logged_among, DoesNotFill, IsCalm, IsReadInPlace, IsEntryInPlace}
 use Rattle.pa_region.specs.Pairs.{last_entry}
 use Rattle.pa_region.proofs.OneRead.{quiet_handed}
+use Rattle.pa_region.proofs.PairSums.{last_more}
 use Rattle.pa_lists.proofs.Elements.{in_middle, in_one}
 use Rattle.pa_lists.proofs.Joined.{map_cases, map_in, filter_cases, filter_in, filter_here}
 use Rattle.pa_lists.proofs.Members.{first_in, later_in, in_cases, not_in_none, of_some, not_some}
@@ -58,11 +59,6 @@ loading_entry roots answer (Entered q made) is = absurd (entered_is (λ p. p ≡
 loading_entry roots answer (Uncut t) is = absurd (not_some Loading is)
 
 -- ---- lists
-
-last_push : (xs : List Entry) (y : Entry) → last_entry (xs ++ y ∷ []) ≡ Some y
-last_push [] y = refl
-last_push (x ∷ []) y = refl
-last_push (x ∷ z ∷ xs) y = last_push (z ∷ xs) y
 
 stake_none : (k : ℕ) (B : List Stamped) → ((z : Stamped) → Contains B z → z.stake ≡ k → ⊥) → by_stake k B ≡ []
 stake_none k [] none = refl
@@ -229,7 +225,7 @@ module _ (run : OrderedRun) where
       calm =
           let last : by_stake st.stake (logged_among o) ≡ by_stake st.stake (map stamped_of a) ++ Looked title seen.found.0 ∷ [] =
           ap (by_stake st.stake) logged ∙ stake_last st.stake (map stamped_of a) (map stamped_of b) (stamped_of look) (sym stake) none_stamped in
-          in_its_place.calm seen.found.0 (ap last_entry last ∙ last_push (by_stake st.stake (map stamped_of a)) (Looked title seen.found.0)) (quiet_handed read.told.since read.told.quiet)
+          in_its_place.calm seen.found.0 (ap last_entry last ∙ last_more (by_stake st.stake (map stamped_of a)) (Looked title seen.found.0)) (quiet_handed read.told.since read.told.quiet)
 
       -- ---- numbers
 

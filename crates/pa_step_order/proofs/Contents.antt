@@ -3,7 +3,7 @@ use Rattle.std.proofs.Common.{◌≡◌, ℕ, ◌<◌, ◌≤◌, List, [], ◌�
 use Rattle.std.specs.Prelude.{Contains}
 use Rattle.std.specs.List.{filter_map}
 use Rattle.std.proofs.lemmas.Bool.{cases_lt}
-use Rattle.pa_machine.specs.declared.word.SlotName.{SlotName}
+use Rattle.pa_slot.specs.declared.word.SlotName.{SlotName}
 use Rattle.pa_lists.proofs.Members.{first_in, later_in, in_cases}
 use Rattle.pa_timeline.specs.Timeline.{Moment, moment_leaves, content_after}
 use Rattle.pa_timeline.proofs.Kept.{none_or_some}

@@ -3,19 +3,20 @@ use Rattle.std.proofs.Common.{◌≡◌, ℕ, ◌/◌, List, [], ◌∷◌, ◌+
 use Rattle.std.specs.Prelude.{Contains}
 use Rattle.std.specs.List.{range_with_len}
 use Rattle.std.proofs.lemmas.List.Elements.{Contains-append_left, Contains-append_right, Contains-append_cases}
-use Rattle.pa_machine.specs.declared.word.SlotName.{SlotName}
-use Rattle.pa_machine.specs.declared.word.Step.TheVariants as steps
+use Rattle.pa_slot.specs.declared.word.SlotName.{SlotName}
+use Rattle.pa_slot.specs.declared.word.Step.TheVariants as steps
 use Rattle.pa_trace.specs.declared.script.Op.{Op}
 use Rattle.pa_trace.specs.declared.script.Op.TheVariants as ops
 use Rattle.pa_record.specs.declared.entry.Seen.{Seen}
 use Rattle.pa_record.specs.declared.entry.Answer.{Answer}
 use Rattle.pa_record.specs.declared.entry.Answer.TheVariants as answers
 use Rattle.pa_lists.proofs.Members.{first_in, of_some, not_some, in_cases}
+use Rattle.pa_legal.proofs.owners.Using.{free_op}
 use Rattle.pa_rules.specs.declared.played.Played.{Played}
 use Rattle.pa_rules.specs.Played.{mark_of}
 use Rattle.pa_rules.specs.Roots.{Journals}
 use Rattle.pa_logs.specs.Touches.{StepMade, step_in, step_by}
-use Rattle.pa_logs.proofs.StepMarks.{step_mark, done_is, free_op}
+use Rattle.pa_logs.proofs.StepMarks.{step_mark, done_is}
 use Rattle.pa_timeline.specs.Timeline.{Part, Spoiling, Counting, entry_parts, done_parts, answer_parts, slot_words, due_parts, outline_parts}
 use Rattle.pa_timeline.proofs.Kept.{kept_from}
 use Rattle.pa_timeline.proofs.Outlined.{part_stays, entries_stay}

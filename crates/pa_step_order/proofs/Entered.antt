@@ -29,7 +29,7 @@ use Rattle.pa_step_order.proofs.Named.{Named, AreNamed, named_in}
 use Rattle.pa_step_order.proofs.Moments.{moment_of, moments_in, by_phases}
 use Rattle.pa_step_order.proofs.Lists.{InPhase, stand_in_phases, phases_keep, kept_map, kept_flat, entered_flat, entered_has, kept_by, listed_or, elsewhere}
 
--- ---- numbers tell entries
+-- ---- numbers determine entries
 
 numbers_same : (ms : List ℕ) → same_numbers ms ms ≡ true
 numbers_same [] = refl

@@ -3,14 +3,14 @@ use Rattle.std.proofs.Common.{◌≡◌, ℕ, ◌&&◌, cond, eqb, Bool, true, f
 use Rattle.std.specs.Prelude.{Contains, option_map, option_and_then}
 use Rattle.std.specs.List.{cons_option}
 use Rattle.std.proofs.lemmas.Bool.{cases_Bool, true≢false}
-use Rattle.pa_machine.specs.declared.title.Title.{Title}
-use Rattle.pa_machine.specs.declared.word.SlotName.{SlotName}
-use Rattle.pa_machine.specs.declared.word.Step.{Step}
-use Rattle.pa_machine.specs.declared.word.Step.TheVariants as steps
-use Rattle.pa_machine.specs.Run.{same_slot}
-use Rattle.pa_machine.specs.Titles.{same_title, poison}
-use Rattle.pa_machine.proofs.Runs.{same_slot_cases, same_slot_yes, same_slot_no, slot_parts}
-use Rattle.pa_machine.proofs.Same.{title_tells}
+use Rattle.pa_slot.specs.declared.title.Title.{Title}
+use Rattle.pa_slot.specs.declared.word.SlotName.{SlotName}
+use Rattle.pa_slot.specs.declared.word.Step.{Step}
+use Rattle.pa_slot.specs.declared.word.Step.TheVariants as steps
+use Rattle.pa_slot.specs.Run.{same_slot}
+use Rattle.pa_slot.specs.Titles.{same_title, poison}
+use Rattle.pa_slot.proofs.Runs.{same_slot_cases, same_slot_yes, same_slot_no, slot_parts}
+use Rattle.pa_slot.proofs.Same.{title_tells, title_self}
 use Rattle.pa_trace.specs.declared.script.Op.{Op}
 use Rattle.pa_trace.specs.declared.script.Op.TheVariants as ops
 use Rattle.pa_record.specs.declared.entry.Seen.{Seen}
@@ -35,7 +35,7 @@ use Rattle.pa_step_order.proofs.Looks.{look_looks, entered_is}
 use Rattle.pa_step_order.proofs.Named.{Named, AreNamed}
 use Rattle.pa_step_order.proofs.Moments.{moment_of}
 use Rattle.pa_step_order.proofs.Laid.{stamped_of, back_at, front_at, first, spoiling, piece, laid, parted, next_named}
-use Rattle.pa_step_order.proofs.Owned.{same_self, free_entry, owner, step_of_entry}
+use Rattle.pa_step_order.proofs.Owned.{free_entry, owner, step_of_entry}
 use Rattle.std.proofs.lemmas.List.Elements.{Contains-append_right}
 
 -- ---- one moment more
@@ -107,7 +107,7 @@ module _ (sizes : SlotName → ℕ) (ts : List ToldRecord) (told : AreTold sizes
       elim (same_slot_cases d.slot s) [
         | inl same ↦
             let title : u ≡ title_of sizes s = of.title ∙ ap (title_of sizes) same in
-            let yes : same_title u (title_of sizes s) ≡ true = ap (λ t. same_title t (title_of sizes s)) title ∙ same_self (title_of sizes s) in
+            let yes : same_title u (title_of sizes s) ≡ true = ap (λ t. same_title t (title_of sizes s)) title ∙ title_self (title_of sizes s) in
             let own : is_of_slot s (mark_of x) ≡ true = own_slot s x d of.is ∙ same_slot_yes d.slot s same in
             rw (own, yes) (value_by_step x.op x.answer d c of.is ∙ ap (λ p. content_by p d.value c) (sym of.step_is) ∙ ap (λ v. content_by step v c) (sym of.value_is))
         | inr other ↦
@@ -143,7 +143,7 @@ module _ (sizes : SlotName → ℕ) (ts : List ToldRecord) (told : AreTold sizes
         ap (λ z. changed_by s place (option_map (spoiling word) z) c) is.found ∙ elim (same_slot_cases d.slot s) [
           | inl same ↦
               let title : u ≡ title_of sizes s = of.title ∙ ap (title_of sizes) same in
-              let yes : same_title u (title_of sizes s) ≡ true = ap (λ t. same_title t (title_of sizes s)) title ∙ same_self (title_of sizes s) in
+              let yes : same_title u (title_of sizes s) ≡ true = ap (λ t. same_title t (title_of sizes s)) title ∙ title_self (title_of sizes s) in
               let own : is_of_slot s (mark_of x) ≡ true = own_slot s x d of.is ∙ same_slot_yes d.slot s same in
               rw (own, yes) (elim (cases_Bool (eqb word place)) [ inl here ↦ rw here refl | inr there ↦ rw there refl ])
           | inr other ↦

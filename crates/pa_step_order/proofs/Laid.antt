@@ -5,7 +5,7 @@ use Rattle.std.specs.Prelude.{Contains, find, option_map, option_and_then}
 use Rattle.std.specs.List.{cons_option, filter_map}
 use Rattle.std.proofs.lemmas.List.Elements.{filter_map-append}
 use Rattle.std.proofs.Math.Seq.{take-append_seam, drop-append_seam}
-use Rattle.pa_machine.specs.declared.title.Title.{Title}
+use Rattle.pa_slot.specs.declared.title.Title.{Title}
 use Rattle.pa_region.specs.declared.view.Entry.{Entry}
 use Rattle.pa_region.specs.declared.view.Entry.TheVariants.{Counted, Looked, Read, Added, Entered, Uncut}
 use Rattle.pa_region.specs.Order.{Stamped, by_stake, OneStep, Logged, Spoiled, logged_among, is_free_of, IsInPlace, AreInPlace}

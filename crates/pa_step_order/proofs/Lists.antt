@@ -1,5 +1,5 @@
--- What is kept of the moments as it is in a list is kept so phase by phase; and what entries of the logs put into a list.
-use Rattle.std.proofs.Common.{◌≡◌, ℕ, zero, suc, ◌<◌, ◌≤◌, List, [], ◌∷◌, ◌++◌, map, length, get_or, slice_get, flat_map, Option, Some, None, refl, sym, ◌∙◌, ap, subst, arith, inl, inr, ◌⊎◌}
+-- What is kept of the moments as it is in a list is kept so phase by phase. Then what entries of the logs put into a list.
+use Rattle.std.proofs.Common.{◌≡◌, ℕ, ◌≤◌, List, [], ◌∷◌, ◌++◌, map, get_or, flat_map, Option, Some, None, refl, sym, ◌∙◌, ap, subst, arith, inl, inr, ◌⊎◌}
 use Rattle.std.specs.Prelude.{Contains, AllPairs, option_map, option_and_then}
 use Rattle.std.specs.List.{cons_option, filter_map}
 use Rattle.std.proofs.lemmas.Bool.{cases_lt, cases_eq, eq-eqb, ne_eqb}
@@ -7,6 +7,7 @@ use Rattle.std.proofs.lemmas.List.{map-append}
 use Rattle.std.proofs.lemmas.List.Elements.{Contains-append_right}
 use Rattle.pa_lists.proofs.Members.{not_in_none, first_in, later_in, in_cases}
 use Rattle.pa_lists.proofs.Pairs.{pairs_give}
+use Rattle.pa_lists.proofs.Indexed.{here_is}
 use Rattle.pa_region.specs.declared.view.Entry.{Entry}
 use Rattle.pa_region.specs.declared.view.Entry.TheVariants.{Counted, Looked, Read, Added, Entered, Uncut}
 use Rattle.pa_region.specs.declared.view.Made.{Made}
@@ -29,11 +30,6 @@ use Rattle.pa_step_order.proofs.Sorting.{sorted_kept, KeptRises}
 
 -- ---- phases along a list
 
-get_is : {A : Type 0} (xs : List A) (i : ℕ) (d : A) → i < length xs → slice_get xs i ≡ Some (get_or xs i d)
-get_is [] i d less = absurd (omega arith)
-get_is (x ∷ xs) zero d less = refl
-get_is (x ∷ xs) (suc i) d less = get_is xs i d (omega arith)
-
 -- the records of these lines are in the order of their phases
 abbrev pub InPhase : List Played → ℕ → ℕ → Type 0
 InPhase ps a b = (x y : Played) → Contains ps x → Contains ps y → x.line ≡ a → y.line ≡ b → x.phase ≤ y.phase
@@ -41,7 +37,7 @@ InPhase ps a b = (x y : Played) → Contains ps x → Contains ps y → x.line �
 pub stand_in_phases : {E : Type 0} (line : E → ℕ) (ps : List Played) (es : List E) → StandInOrder line ps es → AllPairs (λ e f. InPhase ps (line e) (line f)) es
 stand_in_phases line ps es order i j d before below x y first second on on' = elim (cases_lt y.phase x.phase) [
   | inl less ↦
-      let back = order j i (get_or es j d) (get_or es i d) y x (get_is es j d below) (get_is es i d (omega arith)) (second, on') (first, on) (inr less) in
+      let back = order j i (get_or es j d) (get_or es i d) y x (here_is es j d below) (here_is es i d (omega arith)) (second, on') (first, on) (inr less) in
       absurd (omega arith)
   | inr up ↦ up
 ]

@@ -2,12 +2,12 @@
 use Rattle.std.proofs.Common.{◌≡◌, ℕ, ◌+◌, ◌≤◌, cond, eqb, Bool, true, List, ◌∷◌, ◌++◌, Some, ◌⊎◌, refl, sym, ◌∙◌, ap, subst, arith, inl, inr}
 use Rattle.std.specs.Prelude.{Contains}
 use Rattle.std.proofs.lemmas.Bool.{cases_Bool, eqb-true}
-use Rattle.pa_machine.specs.declared.word.SlotName.{SlotName}
-use Rattle.pa_machine.specs.declared.word.Step.{Step}
-use Rattle.pa_machine.specs.declared.word.Step.TheVariants as steps
-use Rattle.pa_machine.specs.Count.{number_of}
-use Rattle.pa_machine.specs.Titles.{poison}
-use Rattle.pa_machine.proofs.Runs.{same_slot_eq, same_slot_yes}
+use Rattle.pa_slot.specs.declared.word.SlotName.{SlotName}
+use Rattle.pa_slot.specs.declared.word.Step.{Step}
+use Rattle.pa_slot.specs.declared.word.Step.TheVariants as steps
+use Rattle.pa_slot.specs.Count.{number_of}
+use Rattle.pa_slot.specs.Titles.{poison}
+use Rattle.pa_slot.proofs.Runs.{same_slot_eq, same_slot_yes}
 use Rattle.pa_trace.specs.declared.script.Op.{Op}
 use Rattle.pa_trace.specs.declared.script.Op.TheVariants as ops
 use Rattle.pa_record.specs.declared.entry.Seen.{Seen}
@@ -22,7 +22,7 @@ use Rattle.pa_timeline.specs.Timeline.{Part, Loading, Spoiling, Counting, Moment
 use Rattle.pa_timeline.proofs.Kept.{count_append, count_cons}
 use Rattle.pa_step_order.proofs.Stays.{FindsItsNumber}
 
--- a step that fills a slot's content words with one value; one that fills them or needs them poisoned
+-- the step fills a slot's content words with one value
 abbrev pub Fills : Step → Type 0
 Fills steps.Issue = Unit {0}
 Fills steps.Copy = ⊥

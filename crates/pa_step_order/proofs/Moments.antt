@@ -43,7 +43,7 @@ by_phases roots ns = sorted phase_at (moments_in roots ns)
 abbrev pub InLine : Moment → Moment → Type 0
 InLine m n = m.x.thread ≡ n.x.thread → m.x.line ≤ n.x.line
 
--- then, phase by phase, none is before one that comes before it
+-- moments sorted by phase are in the order of their phases
 pub sorted_in_order : (ps : List Played) (ms : List Moment) → ((m : Moment) → Contains ms m → Contains ps m.x) →
     ((x y : Played) → Contains ps x → Contains ps y → x.phase < y.phase → x.line < y.line) → AllPairs InLine ms →
     AllPairs (λ (m n : Moment). StandsBefore n.x m.x → ⊥) (sorted phase_at ms)

@@ -1,7 +1,7 @@
 -- A run whose steps are in one order.
 use Rattle.std.proofs.Common.{◌≡◌, ℕ, List, map}
-use Rattle.pa_machine.specs.declared.title.Title.{Title}
-use Rattle.pa_machine.specs.declared.word.SlotName.{SlotName}
+use Rattle.pa_slot.specs.declared.title.Title.{Title}
+use Rattle.pa_slot.specs.declared.word.SlotName.{SlotName}
 use Rattle.pa_region.specs.Order.{Stamped, OneStep, logged_among, spoiled, AreInPlace}
 use Rattle.pa_rules.specs.Roots.{Journals}
 use Rattle.pa_logs.specs.Told.{ToldRecord}
@@ -11,7 +11,8 @@ use Rattle.pa_step_order.proofs.Named.{Named, AreNamed}
 use Rattle.pa_step_order.proofs.Found.{IsFound}
 use Rattle.pa_step_order.proofs.Laid.{stamped_of}
 
--- what was told of its records, the entries of all logs and the same with their records, and the order, poisonings among the steps
+-- a run in order: what is known of its records, the entries of all logs and the same with their records, and the order, with
+-- poisonings among the steps
 pub record OrderedRun : Type 0 where
   pub sizes : SlotName → ℕ
   pub ts : List ToldRecord

@@ -1,23 +1,25 @@
 -- A poisoning is of the next record that frees its title: none that fills or frees it is between.
-use Rattle.std.proofs.Common.{◌≡◌, ℕ, ◌+◌, ◌<◌, ◌≤◌, ◌&&◌, Bool, true, false, List, [], ◌∷◌, ◌++◌, map, Some, refl, sym, ◌∙◌, ap, subst, arith, inl, inr, append_assoc}
+use Rattle.std.proofs.Common.{◌≡◌, ℕ, ◌+◌, ◌<◌, ◌≤◌, true, false, List, [], ◌∷◌, ◌++◌, map, Some, refl, sym, ◌∙◌, ap, subst, arith, inl, inr, append_assoc}
 use Rattle.std.specs.Prelude.{Contains, find, option_map}
 use Rattle.std.specs.List.{cons_option}
 use Rattle.std.proofs.lemmas.Bool.{cases_Bool, true≢false}
 use Rattle.std.proofs.lemmas.List.Elements.{filter_map-append}
-use Rattle.pa_machine.specs.declared.title.Title.{Title}
-use Rattle.pa_machine.specs.declared.word.SlotName.{SlotName}
-use Rattle.pa_machine.specs.declared.word.Step.{Step}
-use Rattle.pa_machine.specs.declared.word.Step.TheVariants as steps
-use Rattle.pa_machine.specs.Count.{number_of}
-use Rattle.pa_machine.specs.Holdings.{one}
-use Rattle.pa_machine.specs.Titles.{same_title}
-use Rattle.pa_machine.proofs.Same.{title_tells}
+use Rattle.pa_slot.specs.declared.title.Title.{Title}
+use Rattle.pa_slot.specs.declared.word.SlotName.{SlotName}
+use Rattle.pa_slot.specs.declared.word.Step.{Step}
+use Rattle.pa_slot.specs.declared.word.Step.TheVariants as steps
+use Rattle.pa_slot.specs.Count.{number_of}
+use Rattle.pa_slot.specs.Holdings.{one}
+use Rattle.pa_slot.specs.Titles.{same_title}
+use Rattle.pa_slot.proofs.Same.{title_self}
 use Rattle.pa_region.specs.declared.view.Entry.{Entry}
 use Rattle.pa_region.specs.declared.view.Entry.TheVariants.{Counted}
 use Rattle.pa_region.specs.Frees.{is_free}
 use Rattle.pa_region.specs.Order.{Stamped, OneStep, Logged, Spoiled, logged_among, is_free_of, spoiled, IsAlone, IsCountInPlace, IsEntryInPlace, AreInPlace}
+use Rattle.pa_region.proofs.Pieces.{found_title}
 use Rattle.pa_lists.proofs.Joined.{map_cases, map_in, filter_cases}
 use Rattle.pa_lists.proofs.Members.{in_cases, not_in_none}
+use Rattle.pa_lists.proofs.Tests.{both_true}
 use Rattle.pa_rules.specs.declared.played.Played.{Played}
 use Rattle.pa_rules.specs.Roots.{Journals}
 use Rattle.pa_logs.specs.Told.{ToldRecord, played_in}
@@ -43,20 +45,10 @@ free_is steps.Reset is = absurd (true≢false (sym is))
 free_is steps.Free is = refl
 free_is steps.Write is = absurd (true≢false (sym is))
 
-pub same_self : (t : Title) → same_title t t ≡ true
-same_self t = elim (title_tells t t) [ inl y ↦ y.0 | inr n ↦ absurd (n.1 refl) ]
-
-pub same_is : (t u : Title) → same_title t u ≡ true → t ≡ u
-same_is t u is = elim (title_tells t u) [ inl y ↦ y.1 | inr n ↦ absurd (true≢false (sym is ∙ n.0)) ]
-
-and_both : (a b : Bool) → (a && b) ≡ true → (a ≡ true) × (b ≡ true)
-and_both true b is = (refl, is)
-and_both false b is = absurd (true≢false (sym is))
-
 pub free_entry : (t : Title) (e : Entry) → is_free_of t e ≡ true → (found : ℕ) × (value : ℕ) × (e ≡ Counted t steps.Free found value)
 free_entry t (Counted u step found value) is =
-    let (same, free) = and_both (same_title u t) (is_free step) is in
-    (found, value, ap (λ v. Counted v step found value) (same_is u t same) ∙ ap (λ p. Counted t p found value) (free_is step free))
+    let (same, free) = both_true (same_title u t) (is_free step) is in
+    (found, value, ap (λ v. Counted v step found value) (found_title t u same) ∙ ap (λ p. Counted t p found value) (free_is step free))
 free_entry t e is = absurd (true≢false (sym is))
 
 -- the entry is no step that fills or frees the title
@@ -119,7 +111,7 @@ module _ (ns : List Named) (order : List OneStep) (agree : map stamped_of ns ≡
       by_step steps.Issue e s count = omega arith
       by_step steps.Copy e s count = s
       by_step steps.Reset e s count = s
-      by_step steps.Free e s count = true≢false (sym (ap (is_free_of t) e ∙ rw (same_self t) refl) ∙ other)
+      by_step steps.Free e s count = true≢false (sym (ap (is_free_of t) e ∙ rw (title_self t) refl) ∙ other)
       by_step steps.Write e s count = omega arith
 
   owned_next : (pre : List OneStep) (s : OneStep) (o : List OneStep) → order ≡ pre ++ s ∷ o → AreOwned (s ∷ o) → AreOwned o
@@ -160,7 +152,7 @@ module _ (ns : List Named) (order : List OneStep) (agree : map stamped_of ns ≡
   -- the record that frees what is poisoned
   pub owner : (later : List OneStep) (t : Title) (word : ℕ) (older : List OneStep) → order ≡ later ++ Spoiled t word ∷ older → (f : Named) × IsFirstFree t (back_at ns older) f
   owner later t word older cut =
-      let here : one (same_title t t) ≡ 1 = ap one (same_self t) in
+      let here : one (same_title t t) ≡ 1 = ap one (title_self t) in
       let (f, is, alone) = are_owned later (Spoiled t word ∷ older) cut t (omega arith) in
       (f, is)
 

@@ -1,18 +1,20 @@
--- Each free has its poisonings among the moments, word by word and before its counted step; each other record has none.
+-- Each free has its poisonings among the moments, word by word and before its counted step. Each other record has none.
 use Rattle.std.proofs.Common.{◌≡◌, ℕ, zero, suc, ◌+◌, eqb, true, false, List, [], ◌∷◌, ◌++◌, map, length, take, Option, Some, None, refl, sym, ◌∙◌, ap, subst, arith, inl, inr, append_assoc, append-nil}
 use Rattle.std.specs.Prelude.{Contains, AllPairs, find, option_map, option_and_then}
 use Rattle.std.specs.List.{cons_option, filter_map, flat_map, range_with_len}
 use Rattle.std.proofs.lemmas.Bool.{cases_Bool, true≢false, eq-eqb, ne_eqb}
 use Rattle.std.proofs.lemmas.List.Elements.{filter_map-append}
-use Rattle.pa_machine.specs.declared.title.Title.{Title}
-use Rattle.pa_machine.specs.declared.word.Step.TheVariants as steps
-use Rattle.pa_machine.specs.Count.{number_of}
-use Rattle.pa_machine.specs.Holdings.{one}
-use Rattle.pa_machine.specs.Titles.{same_title, content_count}
+use Rattle.pa_slot.specs.declared.title.Title.{Title}
+use Rattle.pa_slot.specs.declared.word.Step.TheVariants as steps
+use Rattle.pa_slot.specs.Count.{number_of}
+use Rattle.pa_slot.specs.Holdings.{one}
+use Rattle.pa_slot.specs.Titles.{same_title, content_count}
+use Rattle.pa_slot.proofs.Same.{title_self}
 use Rattle.pa_record.specs.declared.root.RootAct.{RootAct}
 use Rattle.pa_record.specs.Root.{asked_by}
 use Rattle.pa_region.specs.declared.view.Entry.TheVariants.{Counted}
 use Rattle.pa_region.specs.Order.{Stamped, OneStep, Logged, Spoiled, logged_among, is_free_of, spoiled, IsEntryInPlace, IsCountInPlace}
+use Rattle.pa_region.proofs.Pieces.{found_title}
 use Rattle.pa_lists.proofs.Elements.{in_middle}
 use Rattle.pa_lists.proofs.Joined.{map_in, flat_cases}
 use Rattle.pa_lists.proofs.Members.{first_in, later_in, in_cases, not_in_none, of_some}
@@ -32,7 +34,7 @@ use Rattle.pa_step_order.proofs.Named.{Named, named_in}
 use Rattle.pa_step_order.proofs.Moments.{moment_of, one_played}
 use Rattle.pa_step_order.proofs.Ordered.{OrderedRun}
 use Rattle.pa_step_order.proofs.Laid.{stamped_of, back_at, front_at, first, spoiling, frees, piece, laid, in_place, never_spoils, logged_append, next_named}
-use Rattle.pa_step_order.proofs.Owned.{same_self, same_is, free_entry, number_named, counts_front, counts_past}
+use Rattle.pa_step_order.proofs.Owned.{free_entry, number_named, counts_front, counts_past}
 use Rattle.pa_step_order.proofs.Belonging.{front_count, IsSpoil, spoil_at}
 
 -- ---- parts
@@ -267,7 +269,7 @@ module _ (run : OrderedRun) where
             let in_order = in_place order (later ++ Logged m ∷ more) (Spoiled t word) st at placed in
             elim (cases_Bool (same_title t title)) [
               | inl here ↦
-                  let same : t ≡ title = same_is t title here in
+                  let same : t ≡ title = found_title title t here in
                   let found : find (frees title) (back_at ns st) ≡ Some f = ap (λ u. find (frees u) (back_at ns st)) (sym same) ∙ spoil.is.found in
                   let word_is : spoiled title st ≡ word = ap (λ u. spoiled u st) (sym same) ∙ in_order.0 in
                   let one_more : spoiled title (Spoiled t word ∷ st) ≡ suc (spoiled title st) = let o' : one (same_title t title) ≡ 1 = ap one here in omega arith in
@@ -284,14 +286,14 @@ module _ (run : OrderedRun) where
                         spoiled_skips t word st f spoil.is.found (λ here. ne (sym (ap (λ (z : Named). z.x.played.line) f_is) ∙ here)) ∙ again.other g is ne;
                   }
               | inr apart ↦
-                  let skips = spoiled_skips t word st f spoil.is.found (λ here. true≢false (sym (ap (λ u. same_title u title) (at_place t st f spoil here).0 ∙ same_self title) ∙ apart)) in
+                  let skips = spoiled_skips t word st f spoil.is.found (λ here. true≢false (sym (ap (λ u. same_title u title) (at_place t st f spoil here).0 ∙ title_self title) ∙ apart)) in
                   let spoiled_same : spoiled title (Spoiled t word ∷ st) ≡ spoiled title st = let z : one (same_title t title) ≡ 0 = ap one apart in omega arith in
                   record { mine = λ is. skips ∙ again.mine is ∙ ap (range_with_len 0) (sym spoiled_same); other = λ g is ne. skips ∙ again.other g is ne }
             ]
 
         pub all_words : spoilt (laid roots ns order) ≡ range_with_len 0 (content_count title)
         all_words =
-            let free_n : frees title n ≡ true = ap (is_free_of title) entry_free ∙ rw (same_self title) refl in
+            let free_n : frees title n ≡ true = ap (is_free_of title) entry_free ∙ rw (title_self title) refl in
             let found : find (frees title) (back_at ns o) ≡ Some n = ap (find (frees title)) back_is ∙ rw free_n refl in
             let entry_m : m.entry ≡ Counted title steps.Free d.found d.value = sym (ap (λ (z : Stamped). z.entry) stamp) ∙ entry_free in
             let count : IsCountInPlace steps.Free m.stake title o = subst (λ e. IsEntryInPlace m.stake e o) entry_m (in_place order later (Logged m) o cut placed) in

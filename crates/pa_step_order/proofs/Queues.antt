@@ -42,7 +42,7 @@ module _ {A B : Type 0} (queue_of : B → ℕ) where
           rw (ne_eqb k (queue_of b) other) (rw (ne_eqb (queue_of b) k (λ e. other (sym e))) at (fits k))
     ]
 
-    -- then what comes out says what the turns do
+    -- what comes out of queues that fit says what the turns do
     pub turns_say : (queues : ℕ → List A) (bs : List B) → Fits queues bs → map says (in_turn queues bs) ≡ map is bs
     turns_say queues [] fits = refl
     turns_say queues (b ∷ bs) fits =
@@ -50,7 +50,7 @@ module _ {A B : Type 0} (queue_of : B → ℕ) where
         let again = turns_say (served (queue_of b) queues) bs (rest_fits queues b bs fits) in
         ap (λ xs. map says (take 1 xs ++ in_turn (served (queue_of b) queues) bs)) parts ∙ ap (λ e. e ∷ map says (in_turn (served (queue_of b) queues) bs)) says_it ∙ ap (λ es. is b ∷ es) again
 
-    -- and of each queue it is the queue
+    -- of each queue, what comes out is the queue
     pub queues_stay : (of : A → ℕ) (queues : ℕ → List A) (bs : List B) → Fits queues bs → ((k : ℕ) (x : A) → Contains (queues k) x → of x ≡ k) →
         (k : ℕ) → filter (λ x. eqb (of x) k) (in_turn queues bs) ≡ queues k
     queues_stay of queues [] fits mine k = none (queues k) (fits k)

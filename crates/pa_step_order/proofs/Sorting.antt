@@ -1,4 +1,4 @@
--- A list in the order of a number that each member has; those with the same number stay in their order.
+-- A list in the order of a number that each member has. Those with the same number stay in their order.
 use Rattle.std.proofs.Common.{◌≡◌, ℕ, ◌+◌, ◌<◌, ◌≤◌, leb, cond, List, [], ◌∷◌, Option, Some, None, refl, sym, ◌∙◌, ap, subst, arith, inl, inr}
 use Rattle.std.specs.Prelude.{Contains, AllPairs}
 use Rattle.std.specs.List.{cons_option, filter_map, sum_by}
@@ -9,7 +9,7 @@ use Rattle.pa_lists.proofs.Pairs.{pairs_none, pairs_cons, pairs_tail, pairs_head
 use Rattle.pa_timeline.proofs.Kept.{none_or_some, kept_from, OfKept}
 
 module _ {A : Type 0} (key : A → ℕ) where
-  -- before the first one whose number isn't less
+  -- a list with x before the first member that has no lesser number
   abbrev pub inserted : A → List A → List A
   inserted x [] = x ∷ []
   inserted x (y ∷ ys) = cond (leb (key x) (key y)) (x ∷ y ∷ ys) (y ∷ inserted x ys)
@@ -175,7 +175,7 @@ module _ {A : Type 0} (key : A → ℕ) (f : A → Option A) (stays : (x y : A) 
         rw (le-leb (key x) (key y) more) (ap (λ o. cons_option o rest) is ∙ sym (in_front x rest low))
   ]
 
-  -- it keeps of the new order what it keeps, in the new order
+  -- what is kept of a sorted list is sorted
   pub sorted_through : (xs : List A) → filter_map f (sorted key xs) ≡ sorted key (filter_map f xs)
   sorted_through [] = refl
   sorted_through (x ∷ xs) = elim (none_or_some (f x)) [

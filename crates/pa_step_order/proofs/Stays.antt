@@ -2,8 +2,8 @@
 use Rattle.std.proofs.Common.{◌≡◌, ℕ, List, ◌∷◌, ◌++◌, Some, refl, sym, ◌∙◌, ap, subst, inl, inr}
 use Rattle.std.specs.List.{cons_option, filter_map}
 use Rattle.std.proofs.lemmas.List.Elements.{filter_map-append}
-use Rattle.pa_machine.specs.Count.{number_of}
-use Rattle.pa_machine.specs.Run.{Mark}
+use Rattle.pa_slot.specs.Count.{number_of}
+use Rattle.pa_slot.specs.Run.{Mark}
 use Rattle.pa_rules.specs.Played.{mark_of}
 use Rattle.pa_timeline.specs.Timeline.{Moment, IsTouch, counted_steps, part_enters, part_asks, part_swaps, journal_made, asked_lines, swap_lines}
 use Rattle.pa_timeline.proofs.Places.{moment}
@@ -11,7 +11,7 @@ use Rattle.pa_timeline.proofs.Outlined.{stays, stays_is, kept_of, counts_stay, n
 use Rattle.pa_step_order.proofs.Moments.{phase_at}
 use Rattle.pa_step_order.proofs.Sorting.{sorted, sorted_through}
 
--- the same sorted by phase
+-- moments that stay do so in a list sorted by phase
 pub sorted_stays : (ms : List Moment) → filter_map stays (sorted phase_at ms) ≡ sorted phase_at (filter_map stays ms)
 sorted_stays ms = sorted_through phase_at stays (λ m n is. stays_is m.x m.part n is) ms
 

@@ -11,8 +11,8 @@ use Rattle.pa_region.specs.Order.{Stamped, by_stake, logged_among, spoiled, HasO
 use Rattle.pa_region.specs.History.{Done}
 use Rattle.pa_region.specs.Waiting.{unclean_of}
 use Rattle.pa_region.proofs.LendBack.{none_poisoned}
-use Rattle.pa_machine.specs.declared.title.Title.{Title}
-use Rattle.pa_machine.specs.declared.word.SlotName.{SlotName}
+use Rattle.pa_slot.specs.declared.title.Title.{Title}
+use Rattle.pa_slot.specs.declared.word.SlotName.{SlotName}
 use Rattle.pa_trace.specs.declared.script.Trace.{Trace}
 use Rattle.pa_rules.specs.Legal.{IsLegalBy}
 use Rattle.pa_rules.specs.Told.{Told}

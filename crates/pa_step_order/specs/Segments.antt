@@ -37,7 +37,7 @@ abbrev pub entered_part : Journals → ℕ → List ℕ → Option Part
 entered_part roots q numbers =
     if q == 4 then Some Asking else (if q == 5 then Some Swapping else entering q (entry_with numbers (roots q)))
 
--- what step an entry is of a record with this answer; an addition to a total is none, and no more is what was uncut
+-- What step an entry is of a record with this answer. An addition to a total is none, and neither is an uncut.
 abbrev pub part_of : Journals → Answer → Entry → Option Part
 part_of roots answer (Counted t step found value) = Some Counting
 part_of roots answer (Looked t found) = look_part answer

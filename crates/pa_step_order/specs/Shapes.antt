@@ -1,7 +1,7 @@
 -- The shapes that the log segments of ops have, and the signs of each.
 use Rattle.std.specs.Prelude.{◌≡◌, ℕ, ◌<◌, ◌≤◌, List, [], ◌∷◌, ◌++◌, map, Some, None, Contains}
 use Rattle.std.specs.List.{filter_map, flat_map, range_with_len}
-use Rattle.pa_machine.specs.declared.word.SlotName.{SlotName}
+use Rattle.pa_slot.specs.declared.word.SlotName.{SlotName}
 use Rattle.pa_region.specs.declared.view.Entry.{Entry}
 use Rattle.pa_region.specs.declared.view.Entry.TheVariants.{Counted, Looked, Read, Added, Entered, Uncut}
 use Rattle.pa_region.specs.declared.view.Made.{Made}

@@ -1,4 +1,4 @@
-//! From the one order of all logs to an order of all steps of the run. Laws alone; nothing here runs.
+//! From the one order of all logs to an order of all steps of the run. There are only laws, and nothing here runs.
 #![tactic(auto)]
 
 mod laws;

@@ -36,12 +36,12 @@ answer_names =
     ∷ codes "stale-reset" ∷ codes "stale-use" ∷ codes "nothing" ∷ codes "filled" ∷ codes "not-ref" ∷ codes "shared"
     ∷ codes "out-of-range" ∷ codes "too-large" ∷ codes "full" ∷ codes "swapped" ∷ codes "purged" ∷ []
 
--- the name of the answer of number n, counted from 1
+-- the name of number n among these, of which the first has number m
 abbrev pub name_from : ℕ → List (List ℕ) → ℕ → List ℕ
 name_from m [] n = []
 name_from m (name ∷ names) n = if n == m then name else name_from (m + 1) names n
 
--- the name of the answer of number n; nothing if no answer has that number
+-- the name of the answer of number n, or nothing if no answer has that number
 abbrev pub answer_name : ℕ → List ℕ
 answer_name n = name_from 1 answer_names n
 
@@ -49,7 +49,7 @@ answer_name n = name_from 1 answer_names n
 abbrev pub NamesAreOfRecords : Type 0
 NamesAreOfRecords = (a : Answer) → (rest : List ℕ) × (answer_text a ≡ answer_name (answer_number a) ++ rest)
 
--- whether the record has the answer of number n, and how many records have it
+-- 1 if the record has the answer of number n, and else 0
 abbrev pub has_answer : ℕ → Entry → ℕ
 has_answer n e = if answer_number e.answer == n then 1 else 0
 
@@ -74,7 +74,7 @@ abbrev pub last_phase : List ReportLine → ℕ
 last_phase [] = 0
 last_phase (l ∷ ls) = max l.phase (last_phase ls)
 
--- the number that f gives of a line, if the line is of this phase; the sum of these
+-- the number that f gives of a line if the line is of this phase, and else 0
 abbrev pub of_phase : ℕ → (ReportLine → ℕ) → ReportLine → ℕ
 of_phase phase f l = if l.phase == phase then f l else 0
 

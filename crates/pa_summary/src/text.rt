@@ -4,8 +4,8 @@ ghost use Rattle.pa_summary.specs.SummaryText.{count_line, count_lines, title_li
 
 use crate::counts::{ANSWERS, counts_of, name_at};
 use crate::sums::{Sums, ends_of};
-use pa_machine::OutOfMemory;
 use pa_record::{Entry, Run};
+use pa_slot::OutOfMemory;
 use pa_text::{Text, push_byte, push_bytes, push_number};
 use std::alloc::Global;
 

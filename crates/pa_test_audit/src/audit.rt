@@ -2,14 +2,14 @@ ghost use Rattle.std.specs.Prelude.{◌≡◌, ◌<◌, All, IsTrue, length};
 ghost use Rattle.pa_audit.specs.Lined.{HasLines32};
 
 use pa_audit::audit;
-use pa_machine::OutOfMemory;
 use pa_record::{History, Journal, Run};
 use pa_rules::{Clause, Verdict};
 use pa_run_reader::read_run;
+use pa_slot::OutOfMemory;
 use pa_trace::read_trace;
 use std::alloc::Global;
 
-// The verdict on a run of a trace; none if one of the texts isn't read, or there was no memory.
+// The verdict on a run of a trace, and none if one of the texts isn't read, or if it runs out of memory.
 fn tell(alloc: Global, trace: &[u8], run: &[u8]) -> Option<Verdict> {
     let Ok(trace) = read_trace(alloc, trace) else {
         return None;

@@ -8,13 +8,13 @@ use pa_audit_holders::{Books, CachesFound, caches_meet, homes_of};
 use pa_audit_records::{Salt, record_ends, records_of};
 use pa_buckets::Class;
 use pa_dense::DenseJournal;
-use pa_machine::OutOfMemory;
 use pa_record::{Answer, Batch, Entry, Tally};
+use pa_slot::OutOfMemory;
 use pa_trace::{Line, Op};
 use std::alloc::Global;
 use std::test::Fail;
 
-// What the checker finds, of the lists of two threads in two partitions; none if it doesn't take the lists.
+// What the checker finds of the lists of two threads in two partitions, and none if it doesn't take the lists.
 fn found_in(
     alloc: Global,
     lines: &[Line],

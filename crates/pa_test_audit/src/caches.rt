@@ -1,6 +1,6 @@
 ghost use Rattle.std.specs.Prelude.{◌≡◌, ℕ, ◌<◌, All, Contains, IsTrue, Some, length};
 ghost use Rattle.pa_audit_records.specs.ByKeys.{value_at};
-ghost use Rattle.pa_machine.specs.declared.word.SlotName.{SlotName as Name};
+ghost use Rattle.pa_slot.specs.declared.word.SlotName.{SlotName as Name};
 ghost use Rattle.pa_record.specs.Laws.{leaves_by};
 ghost use Rattle.pa_record.specs.Root.{names};
 ghost use Rattle.pa_rules.specs.Roots.{journal_at};
@@ -12,9 +12,9 @@ use pa_audit_holders::{Books, Home, caches_meet, found_home, homes_of};
 use pa_audit_records::{ByKey, Salt};
 use pa_buckets::{Class, slot_size};
 use pa_dense::{Act, DenseEntry, DenseJournal};
-use pa_machine::{OutOfMemory, SlotName, Word};
 use pa_record::{Answer, Batch, Journal, Numbered, RootAct, RootEntry, Seen};
 use pa_rules::Played;
+use pa_slot::{OutOfMemory, SlotName, Word};
 use pa_trace::Op;
 use std::alloc::Global;
 use std::test::Fail;
@@ -253,7 +253,7 @@ pub(crate) fn dense_of(
     DenseJournal::of(alloc, &Journal::of(entries))
 }
 
-// Eight slots of 16 bytes, the first at this number, the second starts there.
+// Eight slots of 16 bytes. The first is at this number, and the second starts at this byte.
 pub(crate) fn row(number: u64, second: u32) -> Batch {
     let mut batch = Batch::new();
     batch.push(numbered(0x4000, 0, number));
@@ -267,8 +267,8 @@ pub(crate) fn row(number: u64, second: u32) -> Batch {
     batch
 }
 
-// A slot of a fill of eight is made, freed and goes back with the others in a purge; the next allocation fills again. The
-// second slot that goes back starts at `second`; one more entry is on line `more`.
+// A slot of a fill of eight is made, freed and goes back with the others in a purge, and the next allocation fills again. The second slot
+// that goes back starts at `second`, and one more entry is on line `more`.
 fn purge_roots(alloc: Global, second: u32, more: u32) -> Result<Vec<DenseJournal>, Fail> {
     let class = Class::of(0).ok_or("no such class")?;
     let mut entries = Vec::new(alloc);
@@ -312,7 +312,7 @@ fn a_purge_of_seven(rt: HostRuntime) -> Result<(), Fail> {
     Ok(())
 }
 
-// A slot goes back that isn't the second of its list; and a purge by a thread whose lists are empty.
+// In one run a slot goes back that isn't the second of its list, and in another a thread with empty lists purges.
 #[test]
 fn a_purge_of_other_lists(rt: HostRuntime) -> Result<(), Fail> {
     let alloc = rt.alloc();
@@ -352,7 +352,7 @@ pub(crate) fn single(number: u64) -> Batch {
     batch
 }
 
-// A slot of class 40, of which a thread keeps none, is made and freed twice; the second time it goes back on line `back`.
+// A slot of class 40, of which a thread keeps none, is made and freed twice. The second time it goes back on line `back`.
 fn large_roots(alloc: Global, back: u32) -> Result<Vec<DenseJournal>, Fail> {
     let class = Class::of(40).ok_or("no such class")?;
     let mut entries = Vec::new(alloc);
@@ -383,7 +383,7 @@ fn a_large_slot_goes_back_at_once(rt: HostRuntime) -> Result<(), Fail> {
     Ok(())
 }
 
-// It stays in its list.
+// The large slot stays in its list after its second free.
 #[test]
 fn a_large_slot_that_stays(rt: HostRuntime) -> Result<(), Fail> {
     let alloc = rt.alloc();

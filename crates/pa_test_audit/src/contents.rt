@@ -4,9 +4,9 @@ ghost use Rattle.pa_audit_records.specs.Rows.{NamesRegisters, IsPlayedWithin};
 
 use pa_audit_order::contents_meet;
 use pa_audit_records::{Salt, records_of, registers_meet, slots_meet};
-use pa_machine::{OutOfMemory, SlotName, Word};
 use pa_record::{Answer, CellEntry, Entry, Held, History, Seen};
 use pa_rules::Played;
+use pa_slot::{OutOfMemory, SlotName, Word};
 use pa_trace::{Line, Op};
 use std::alloc::Global;
 use std::test::Fail;

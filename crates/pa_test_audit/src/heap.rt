@@ -5,11 +5,11 @@ ghost use Rattle.pa_rules.specs.Rising.{RiseByLine};
 
 use pa_audit_heap::{JournalsFound, journals_meet, pool_meets, refusals_meet};
 use pa_dense::DenseJournal;
-use pa_machine::{OutOfMemory, SlotName, Word};
 use pa_record::{
     Answer, Census, Journal, Numbered, PoolAct, PoolEntry, RootAct, RootEntry, Seen, Tally,
 };
 use pa_rules::Played;
+use pa_slot::{OutOfMemory, SlotName, Word};
 use pa_trace::Op;
 use std::alloc::Global;
 use std::test::Fail;
@@ -203,7 +203,8 @@ pub(crate) fn roots_of(
     Ok(roots)
 }
 
-// Its journal; the third entry's slot starts there, and the last one names this entry of the pool.
+// The journal of the worked run of direct maps, in which the third entry's slot starts at `start` and the last one names this entry of
+// the pool.
 fn map_roots(alloc: Global, start: u32, last: u32) -> Result<Vec<DenseJournal>, OutOfMemory> {
     let mut entries = Vec::new(alloc);
     entries.push(mapped(2, 0, name(0x4000, 0)))?;
@@ -245,8 +246,8 @@ fn with_maps(maps: u64) -> Census
     }
 }
 
-// Its censuses, if the phases end after the lines 3, 7, 8 and 9, and one more has no op. The journal of partition 1 isn't
-// there.
+// The censuses of the worked run of direct maps, if the phases end after the lines 3, 7, 8 and 9, and one more has no op. The journal of
+// partition 1 isn't there.
 #[test]
 fn the_censuses_of_direct_maps(rt: HostRuntime) -> Result<(), Fail> {
     let alloc = rt.alloc();

@@ -7,9 +7,9 @@ use pa_audit_holders::holders_meet;
 use pa_audit_records::{Salt, records_of, slots_meet};
 use pa_buckets::Class;
 use pa_dense::DenseJournal;
-use pa_machine::OutOfMemory;
 use pa_record::{Answer, Entry, RootAct, RootEntry};
 use pa_rules::Place;
+use pa_slot::OutOfMemory;
 use pa_trace::{Line, Op};
 use std::alloc::Global;
 use std::test::Fail;
@@ -133,7 +133,7 @@ fn a_give_by_another_thread(rt: HostRuntime) -> Result<(), Fail> {
     Ok(())
 }
 
-// It gives back another slot, at a number at which it isn't free.
+// A thread gives back another slot, at a number at which it isn't free.
 #[test]
 fn a_give_of_a_slot_that_is_not_free(rt: HostRuntime) -> Result<(), Fail> {
     let first = again(rt.alloc(), 0, Some(give(4, single(1))))?;
@@ -177,7 +177,7 @@ fn unmap(line: u32, number: u64) -> RootEntry {
     }
 }
 
-// A direct map is made and goes back on line 3; the journal has these entries after it.
+// A direct map is made and goes back on line 3, and the journal has this entry after it.
 fn mapped(alloc: Global, more: Option<RootEntry>) -> Result<Vec<DenseJournal>, Fail> {
     let mut entries = Vec::new(alloc);
     entries.push(map(2))?;
@@ -191,7 +191,7 @@ fn mapped(alloc: Global, more: Option<RootEntry>) -> Result<Vec<DenseJournal>, F
     Ok(roots)
 }
 
-// It was made and freed once.
+// A direct map is made and freed once.
 #[test]
 fn a_direct_map_goes_back(rt: HostRuntime) -> Result<(), Fail> {
     let alloc = rt.alloc();
@@ -206,7 +206,7 @@ fn a_direct_map_goes_back(rt: HostRuntime) -> Result<(), Fail> {
     Ok(())
 }
 
-// It is made again after it was gone for good.
+// A direct map is made again after it was gone for good.
 #[test]
 fn a_direct_map_that_comes_again(rt: HostRuntime) -> Result<(), Fail> {
     let alloc = rt.alloc();
@@ -216,7 +216,7 @@ fn a_direct_map_that_comes_again(rt: HostRuntime) -> Result<(), Fail> {
     Ok(())
 }
 
-// An entry names it once more, though the root has it at that number.
+// An entry names a direct map once more, though the root has it at that number.
 #[test]
 fn a_direct_map_that_is_named_again(rt: HostRuntime) -> Result<(), Fail> {
     let alloc = rt.alloc();

@@ -41,7 +41,7 @@ fn purge_roots(alloc: Global, back: u32, last: u32) -> Result<Vec<DenseJournal>,
     Ok(roots_of(alloc, entries)?)
 }
 
-// Eight slots of 16 bytes, the first at this number; the last one starts there.
+// Eight slots of 16 bytes. The first is at this number, and the last one starts at this byte.
 fn row(number: u64, last: u32) -> Batch {
     let mut batch = Batch::new();
     batch.push(numbered(0x4000, 0, number));

@@ -5,9 +5,9 @@ ghost use Rattle.pa_audit_records.specs.Rows.{NamesRegisters, IsPlayedWithin};
 use pa_audit_records::{
     Salt, exchanges_meet, lines_meet, records_of, registers_meet, slots_meet, swaps_meet,
 };
-use pa_machine::{OutOfMemory, SlotName, Word};
 use pa_record::{Answer, CellEntry, Entry, Held, History, Seen};
 use pa_rules::Played;
+use pa_slot::{OutOfMemory, SlotName, Word};
 use pa_trace::{Line, Op};
 use std::alloc::Global;
 use std::test::Fail;
@@ -26,16 +26,17 @@ fn seen(word: u64) -> Seen {
     }
 }
 
-// An op of thread 0, and one of thread 1.
+// An op of thread 0.
 fn first(op: Op) -> Line {
     Line::Do { thread: 0, op }
 }
 
+// An op of thread 1.
 fn second(op: Op) -> Line {
     Line::Do { thread: 1, op }
 }
 
-// A record of thread 0, and one of thread 1.
+// A record of thread 0.
 fn entry(line: u32, answer: Answer) -> Entry {
     Entry {
         line,
@@ -44,6 +45,7 @@ fn entry(line: u32, answer: Answer) -> Entry {
     }
 }
 
+// A record of thread 1.
 fn other_entry(line: u32, answer: Answer) -> Entry {
     Entry {
         line,

@@ -5,8 +5,8 @@ use crate::contents::{
 };
 use pa_audit_order::seen_meets;
 use pa_audit_records::{Salt, exchanges_meet, records_of, swaps_meet};
-use pa_machine::OutOfMemory;
 use pa_record::{Answer, Entry, Held, History};
+use pa_slot::OutOfMemory;
 use pa_trace::{Line, Op};
 use std::alloc::Global;
 use std::test::Fail;
@@ -112,7 +112,7 @@ fn chain_entries(word: u64) -> [Entry; 6] {
     ]
 }
 
-// What is returned of them, if the first exchange gives this.
+// What is returned of the chain of three threads, if the first exchange gives this.
 fn chain_told(alloc: Global, given: Held, word: u64) -> Result<Option<u32>, OutOfMemory> {
     let first = [gave(3, given, Held::Nothing), gave(4, Held::Nothing, given)];
     let second = [

@@ -1,7 +1,7 @@
 use pa_buckets::Class;
 use pa_delay::{Delay, Freed};
-use pa_machine::SlotName;
 use pa_record::Numbered;
+use pa_slot::SlotName;
 use std::test::Fail;
 
 fn freed(start: u32, class: Class) -> Freed {
@@ -16,8 +16,8 @@ fn start_of(front: Option<Freed>) -> Option<u32> {
     front.map(|s| s.slot.slot.start)
 }
 
-// At the bound all stay. One slot more, and slots leave from the front until at most the bound is left; a slot that is larger
-// than the bound empties the queue, itself included.
+// At the bound all stay. One slot more, and slots leave from the front until at most the bound is left. A slot that is larger than the
+// bound empties the queue, itself included.
 #[test]
 fn slots_leave_past_the_bound(rt: HostRuntime) -> Result<(), Fail> {
     let small = Class::of(0).unwrap();

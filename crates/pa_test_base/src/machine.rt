@@ -1,6 +1,7 @@
 ghost use Rattle.std.specs.Prelude.{◌≡◌, ◌<◌, length};
 
-use pa_machine::{Core, Event, Item, OutOfMemory, POISON, Step, StepFault, Title, core_run};
+use pa_machine::{Core, Event, Item, StepFault, core_run};
+use pa_slot::{OutOfMemory, POISON, Step, Title};
 use std::alloc::Global;
 use std::test::Fail;
 
@@ -54,7 +55,8 @@ fn uncut(actor: u32) -> Event {
     }
 }
 
-// What a core of 64 bytes shows: what the events returned, the words after them, and the same of one event more.
+// What a core of 64 bytes shows: what some events returned and the words after them, and what one event more returned and the words after
+// it.
 #[derive(Clone, Copy, PartialEq, Eq)]
 struct Shown {
     first: Result<(), (u32, StepFault)>,

@@ -3,9 +3,9 @@ ghost use Rattle.pa_test_base.specs.Placing.{IsYoung, HasOnlyMaps};
 
 use arrayvec::ArrayVec;
 use pa_buckets::Class;
-use pa_machine::{SlotName, Title};
 use pa_place::{Made, Out, Placed, Placement, PlainRoot, PoolPlan, ask};
 use pa_record::{Census, Tally};
+use pa_slot::{SlotName, Title};
 use std::process::Abort;
 use std::test::Fail;
 
@@ -16,7 +16,7 @@ struct Expected<'a> {
     starts: &'a [u32],
 }
 
-// Whether that is what a fill did: none of its slots was born later.
+// Whether a fill did what is expected, with no slot that was born later.
 fn is_filled(placed: &Placed, expected: Expected<'_>) -> bool {
     let titles = placed.titles.as_slice();
     if placed.pool != expected.pool || titles.len() != expected.starts.len() {
@@ -50,7 +50,7 @@ fn filled(
     Ok(placed)
 }
 
-// Such a fill, which must do this.
+// Fills `want` slots of the class, which must do what is expected.
 fn fill(
     rt: &impl Abort,
     placement: &mut Placement,
@@ -117,7 +117,7 @@ fn mapped(placement: &mut Placement, pool: &mut PoolPlan, steps: u32) -> Result<
     Ok(placed)
 }
 
-// Such a direct map at the start of the region, by this entry of the pool, or none if there is no room.
+// Makes a direct map at the start of the region by this entry of the pool, or none if there is no room.
 fn map(
     rt: &impl Abort,
     placement: &mut Placement,
@@ -135,7 +135,7 @@ fn map(
     Ok(())
 }
 
-// That direct map goes back, by this entry of the pool.
+// Gives the direct map at the start of the region back, by this entry of the pool.
 fn unmap(
     rt: &impl Abort,
     placement: &mut Placement,

@@ -40,13 +40,13 @@ fn texts_are_read_and_written_again(rt: HostRuntime) -> Result<(), Fail> {
     Ok(())
 }
 
-// How many entries a partition's journal has, and the line of the second; none if there is no such journal.
+// How many entries a partition's journal has, and the line of the second. None if there is no such journal.
 fn journal_told(run: &Run, place: usize) -> Option<(usize, Option<u32>)> {
     let entries = run.roots.get(place)?.entries();
     Some((entries.len(), entries.get(1).map(|entry| entry.line)))
 }
 
-// The same of a cell's history.
+// How many entries a cell's history has, and the line of the second. None if there is no such history.
 fn history_told(run: &Run, place: usize) -> Option<(usize, Option<u32>)> {
     let entries = run.cells.get(place)?.entries();
     Some((entries.len(), entries.get(1).map(|entry| entry.line)))

@@ -8,10 +8,10 @@ mod numbers;
 mod runs;
 
 use pa_buckets::Class;
-use pa_machine::{SlotName, Word};
 use pa_record::{
     Answer, Batch, Entry, Numbered, PoolAct, PoolEntry, ReportLine, RootAct, RootEntry, Seen, Tally,
 };
+use pa_slot::{SlotName, Word};
 
 // The name of the slot at `start`, in a super page that the first entry of the pool took.
 fn name(start: u32) -> SlotName {
@@ -92,7 +92,7 @@ fn fill(line: u32, class: u32, pool: Option<u32>, slots: Batch) -> RootEntry
     }
 }
 
-// The entries of the pool that one partition made.
+// An entry of the pool by which partition 0 took a super page, or found none.
 fn take(line: u32, first: Option<u32>) -> PoolEntry {
     PoolEntry {
         line,
@@ -101,6 +101,7 @@ fn take(line: u32, first: Option<u32>) -> PoolEntry {
     }
 }
 
+// An entry of the pool by which partition 0 gave super page 0 back.
 fn give(line: u32) -> PoolEntry {
     PoolEntry {
         line,

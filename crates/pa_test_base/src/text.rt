@@ -1,4 +1,4 @@
-use pa_machine::SlotName;
+use pa_slot::SlotName;
 use pa_text::{Text, push_byte, push_number, push_slot, push_word, word_at};
 use std::test::Fail;
 

@@ -14,7 +14,7 @@ pub const TRACE: &[u8] = b"trace 1 region 1 partitions 1 threads 1
 0 F r0
 ";
 
-// What `model` and `replay` write for it.
+// What `model` and `replay` write for the trace of one object.
 pub const TEXT: &[u8] = b"run 1
 e 2 0 made 00004000.0 8 0000000000000000
 e 3 0 done 00004000.0 0000000001000001
@@ -45,7 +45,7 @@ pub fn words(alloc: Global, list: &[&str]) -> Result<Vec<String>, AllocError> {
     Ok(words)
 }
 
-// So many bytes, all 0.
+// This many bytes, all 0.
 fn zeros(alloc: Global, count: usize) -> Result<Vec<u8>, AllocError> {
     vec![in alloc; 0; count]
 }
@@ -189,7 +189,7 @@ fn an_input_is_read_to_one_byte_past_the_limit(rt: HostRuntime) -> Result<(), Fa
     Ok(())
 }
 
-// What a command that reads nothing writes; its source fails at every read.
+// What a command that reads nothing writes, with a source that fails at every read.
 fn told<R: Threads + Wait + Sync>(rt: &R, alloc: Global, line: &[&str]) -> Result<Vec<u8>, Fail> {
     let line = words(alloc, line)?;
     let mut source = MemSource::new(alloc, TRACE, 1000, &[0, 1, 2])?;

@@ -10,7 +10,7 @@ use std::sync::Wait;
 use std::test::Fail;
 use std::thread::Threads;
 
-// What `audit` returns for these bytes, read by at most this many; if it is done, `legal` must have been written, else nothing.
+// What `audit` returns for these bytes, read by at most this many. If it is done, `legal` must have been written, and else nothing.
 fn told<R: Threads + Wait + Sync>(
     rt: &R,
     alloc: Global,

@@ -25,7 +25,7 @@ s 1 0 live 0 0 quarantined 1 16 cached 7 112 root 248 3968 committed 4096 reserv
 end
 ";
 
-// What is written for it.
+// What `dangling` writes for the slot that is freed again.
 const FREED_AGAIN_TEXT: &[u8] = b"dangling 1
 pair made 2 free 5 later 7 free origin 3
 freed 1 open 1 pairs 1
@@ -55,7 +55,7 @@ s 1 0 live 2 32 quarantined 0 0 cached 6 96 root 248 3968 committed 4096 reserve
 end
 ";
 
-// What is written for it.
+// What `dangling` writes for the slot that is read and given back.
 const GIVEN_BACK_TEXT: &[u8] = b"dangling 1
 pair made 2 free 4 later 5 read origin 3
 pair made 2 free 4 later 7 reset origin 3

@@ -38,7 +38,7 @@ e 5 0 made 00008100.0 24 0000000000000000
 e 6 1 made 00008000.0 24 0000000000000000
 r 0 0 2 fill ";
 
-// The same by threads 1 and 3 of five, of which the others have no lines.
+// A trace in which each of threads 1 and 3 of five allocates once in each phase, and the others have no lines.
 const IDLE_TRACE: &[u8] = b"trace 1 region 1 partitions 1 threads 5
 1 A r0 p0 8
 3 A r0 p0 8

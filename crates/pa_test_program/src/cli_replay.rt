@@ -24,7 +24,7 @@ phase
 1 A r1 p0 8
 ";
 
-// What is written for it, whatever the threads do first.
+// What `replay` writes for the trace with the read in a later phase, whatever the threads do first.
 const FREED_TEXT: &[u8] = b"run 1
 e 2 0 made 00004000.0 8 0000000000000000
 e 3 0 done 00004000.0 0000000001000001
@@ -45,7 +45,8 @@ s 3 0 live 2 32 quarantined 0 0 cached 6 96 root 248 3968 committed 4096 reserve
 end
 ";
 
-// The same with the read on line 8 and the free in one phase.
+// Thread 0 frees an object to which thread 1 has a raw_ptr, and thread 1 reads through it on line 8 in the same phase, and once more a
+// phase later.
 const MEETING: &[u8] = b"trace 1 region 1 partitions 1 threads 2
 0 A r0 p0 8
 0 C r0 r1
@@ -59,7 +60,7 @@ phase
 1 R r0
 ";
 
-// What is written for it before the record of line 8, and after it.
+// What `replay` writes for the trace in which the read meets the free, before the record of line 8.
 const BEFORE: &[u8] = b"run 1
 e 2 0 made 00004000.0 8 0000000000000000
 e 3 0 done 00004000.0 0000000001000001
@@ -68,6 +69,7 @@ e 6 0 done 00004000.0 0000000002000003
 e 7 1 swapped 1
 ";
 
+// What `replay` writes for the trace in which the read meets the free, after the record of line 8.
 const AFTER: &[u8] = b"e 10 1 dangling 00004000.0 0000000003000002 efefefefefefefef
 e 11 1 done 00004000.0 0000000003000002
 r 0 0 2 fill 0 0 00004000.0@0 00004010.0@0 00004020.0@0 00004030.0@0 00004040.0@0 00004050.0@0 00004060.0@0 00004070.0@0
@@ -87,7 +89,7 @@ const READS: [&[u8]; 3] = [
     b"dangling 00004000.0 0000000003000002 efefefefefefefef",
 ];
 
-// What `replay` writes for these bytes, by reads and writes of at most this many; nothing if it isn't done or returns no run.
+// What `replay` writes for these bytes, by reads and writes of at most this many, and nothing if it isn't done or returns no run.
 fn replayed<R: Threads + Wait + Sync>(
     rt: &R,
     alloc: Global,

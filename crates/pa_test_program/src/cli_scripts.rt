@@ -15,7 +15,7 @@ pub const SCRIPT: &[u8] = b"script 1 region 1 partitions 1 threads 1
 0 S r0 8
 ";
 
-// The trace to which it comes, and that trace's run.
+// The trace to which the script comes, and that trace's run.
 const RESIZED: &[u8] = b"trace 1 region 1 partitions 1 threads 1
 0 A r0 p0 8
 0 W r0 0000000000000005
@@ -51,7 +51,7 @@ s 1 0 live 1 112 quarantined 0 0 cached 15 912 root 276 7104 committed 8192 rese
 end
 ";
 
-// What each of its resizes came to.
+// What each resize of the script came to.
 const VERDICTS: &[u8] = b"v 4 moved
 v 6 kept
 v 8 shared

@@ -1,4 +1,4 @@
-//! The tests of the player on one thread, and of the program's one call.
+//! The tests of the program's one call.
 #![tactic(auto)]
 
 #[cfg(test)]
@@ -12,14 +12,6 @@ mod cli_faults;
 #[cfg(test)]
 mod cli_gate;
 #[cfg(test)]
-mod cli_links;
-#[cfg(test)]
-mod cli_records;
-#[cfg(test)]
 mod cli_replay;
 #[cfg(test)]
 mod cli_scripts;
-#[cfg(test)]
-mod closed;
-#[cfg(test)]
-mod model;

@@ -3,12 +3,12 @@ use Rattle.std.proofs.Common.{false, ◌≡◌, true, ℕ, ◌<◌, List, [], �
 use Rattle.std.specs.Prelude.{Contains, ◌&&◌}
 use Rattle.std.specs.List.{sum_by}
 use Rattle.std.proofs.lemmas.List.Elements.{Contains-push}
-use Rattle.pa_machine.specs.declared.title.Title.{Title}
-use Rattle.pa_machine.specs.declared.title.OwnState.TheVariants.{Clean}
-use Rattle.pa_machine.specs.declared.word.Step.TheVariants.{Issue, Copy}
+use Rattle.pa_slot.specs.declared.title.Title.{Title}
+use Rattle.pa_slot.specs.declared.title.OwnState.TheVariants.{Clean}
+use Rattle.pa_slot.specs.declared.word.Step.TheVariants.{Issue, Copy}
 use Rattle.pa_machine.specs.declared.event.Item.TheVariants as item
-use Rattle.pa_machine.specs.Titles.{same_title, same_state}
-use Rattle.pa_machine.specs.Holdings.{one}
+use Rattle.pa_slot.specs.Titles.{same_title, same_state}
+use Rattle.pa_slot.specs.Holdings.{one}
 use Rattle.pa_record.specs.Numbers.{root_numbers}
 use Rattle.pa_region.specs.declared.view.OwnTitle.{OwnTitle}
 use Rattle.pa_region.specs.declared.view.Made.{Made}
@@ -60,7 +60,7 @@ copy_can leaves v ns word fresh =
       tt,
     )
 
--- and then the seat has both
+-- the seat that made the slot has its Own and one Ref
 pub slot_made : EntryLeaves → EnterLeaves → (v : View) (ns : List ℕ) (word found : ℕ) → IsFresh v → ns ≡ root_numbers test_entry → HasTestSlot (after_count Copy test_slot found (issued_view v ns word))
 slot_made leaves lists v ns word found fresh is =
     let cut = after_cut test_slot v in
@@ -94,7 +94,7 @@ both_left lacks v has =
     let other : 0 < ref_of v test_slot = (let e = ap (λ (ts : List Title). sum_by (λ (t : Title). one (same_title t test_slot)) ts) has.refs in omega arith) in
     (lacks false test_slot 0 (left_after (parcel_of (item.Own test_slot ∷ []) 0 []) v) other).lends (first.lends (has.stake, clean))
 
--- a new region's seat can make the slot, after it handed over keeper 5 and stake 1; and who has these is ready
+-- a new region's first view after it handed over keeper 5 and stake 1
 abbrev pub first_left : View
 first_left = left_after (parcel_of [] 0 (mark.Stake 1 ∷ [])) (left_after (parcel_of [] 0 (mark.Keeper 5 ∷ [])) (first_view 262144 16))
 

@@ -4,10 +4,10 @@ use Rattle.std.specs.Prelude.{Contains, None}
 use Rattle.std.proofs.lemmas.Bool.{cases_lt}
 use Rattle.std.proofs.lemmas.List.Sums.{sum_by-cons}
 use Rattle.std.proofs.lemmas.List.Elements.{All-nil, All-cons, All-weaker, All-contains}
-use Rattle.pa_machine.specs.declared.title.Title.{Title}
-use Rattle.pa_machine.specs.Titles.{same_title}
-use Rattle.pa_machine.specs.Holdings.{one}
-use Rattle.pa_machine.proofs.Same.{title_self}
+use Rattle.pa_slot.specs.declared.title.Title.{Title}
+use Rattle.pa_slot.specs.Titles.{same_title}
+use Rattle.pa_slot.specs.Holdings.{one}
+use Rattle.pa_slot.proofs.Same.{title_self}
 use Rattle.pa_region.specs.declared.view.View.{View}
 use Rattle.pa_region.specs.Views.{free_of, HasEveryStake}
 use Rattle.pa_region.specs.Cuts.{after_cut}
@@ -34,7 +34,7 @@ row_first law born v e = subst (IsRowOf born 0) (sym e) (record {
   stakes = all_stakes 262144 0;
 })
 
--- and the next one
+-- the next slot of a row is cut
 pub row_more : CutLeavesOthers → (born n : ℕ) (v w : View) → IsRowOf born n v → n < 256 → w ≡ after_cut (chain_slot born n) v →
     IsRowOf born (n + 1) w
 row_more law born n v w row few e = subst (IsRowOf born (n + 1)) (sym e) (record {
@@ -97,7 +97,7 @@ row_new born n from v c row there =
     let low : 16384 + 16 * (from + 1) ≤ 16384 + 16 * from = All-contains P row.titles (chain_slot born from) row.later there in
     omega arith
 
--- and after a push it is the front
+-- after a push the slot is the front of the row's chain
 pub row_pushed : (born n from link : ℕ) (v w : View) (c d : ChainParts) → IsRowChained born n (from + 1) v c →
     w ≡ after_link (chain_slot born from) link v →
     ((ts : List Title) → IsChain v c ts → (Contains ts (chain_slot born from) → ⊥) → IsChain w d (chain_slot born from ∷ ts)) →

@@ -1,6 +1,6 @@
 -- A cache that has the first slots of a row: what the tests that fill one keep.
 use Rattle.std.specs.Prelude.{◌≡◌, ℕ, ◌+◌, ◌*◌, ◌<◌, length, All}
-use Rattle.pa_machine.specs.declared.title.Title.{Title}
+use Rattle.pa_slot.specs.declared.title.Title.{Title}
 use Rattle.pa_region.specs.declared.view.View.{View}
 use Rattle.pa_cache.specs.Chained.{CacheParts, HoldsList, list_in}
 use Rattle.pa_test_region.specs.ChainRows.{IsRowOf}

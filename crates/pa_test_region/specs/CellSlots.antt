@@ -1,8 +1,8 @@
 -- The slot of the tests: a direct map of 32 bytes in partition 0, and what their seats have of it.
 use Rattle.std.specs.Prelude.{◌≡◌, ℕ, ◌<◌, false, [], ◌∷◌, Option, None, IfSome, slice_index}
 use Rattle.atomic_table.specs.Seated.{TableId}
-use Rattle.pa_machine.specs.declared.title.Title.{Title}
-use Rattle.pa_machine.specs.declared.title.OwnState.TheVariants.{Clean}
+use Rattle.pa_slot.specs.declared.title.Title.{Title}
+use Rattle.pa_slot.specs.declared.title.OwnState.TheVariants.{Clean}
 use Rattle.pa_record.specs.declared.root.RootEntry.{RootEntry}
 use Rattle.pa_record.specs.declared.root.RootAct.TheVariants.{Map}
 use Rattle.pa_region.specs.declared.view.View.{View}
@@ -18,11 +18,11 @@ use Rattle.pa_cells.specs.Handles.{HasSeenMade, ParkedHandle}
 abbrev pub test_slot : Title
 test_slot = record { start = 16384; len = 32; born = 0 }
 
--- its handle: in partition 0, with no class since it is a direct map
+-- the handle of the slot: in partition 0, with no class since it is a direct map
 abbrev pub test_handle : Handle
 test_handle = record { title = test_slot; partition = 0; class = None }
 
--- the entry of the root's list that makes it, on line 2
+-- the entry of the root's list that makes the slot, on line 2
 abbrev pub test_entry : RootEntry
 test_entry = record { line = 2; act = Map 0 (record { start = 16384; born = 0 }) 32 }
 
@@ -37,7 +37,7 @@ pub record IsFresh (v : View) : Type 0 where
   pub stake : HasStake v
   pub budget : v.budget ≡ 16
 
--- a seat that made it: it has the Own and one Ref, and a stake, and has seen how the slot was made
+-- a seat that made the slot: it has the Own and one Ref, and a stake, and has seen how the slot was made
 pub record HasTestSlot (v : View) : Type 0 where
   pub owns : v.owns ≡ record { title = test_slot; state = Clean; idle = false } ∷ []
   pub refs : v.refs ≡ test_slot ∷ []

@@ -1,6 +1,6 @@
 -- A row of slots of 16 bytes in the first super page, and a chain of some of them: what the tests of chains keep.
 use Rattle.std.specs.Prelude.{◌≡◌, ℕ, ◌+◌, ◌*◌, ◌<◌, ◌≤◌, List, All}
-use Rattle.pa_machine.specs.declared.title.Title.{Title}
+use Rattle.pa_slot.specs.declared.title.Title.{Title}
 use Rattle.pa_region.specs.declared.view.View.{View}
 use Rattle.pa_region.specs.Views.{free_of, HasEveryStake}
 use Rattle.pa_region.specs.Cuts.{CanCut}
@@ -11,7 +11,7 @@ use Rattle.pa_link.specs.Chains.{IsChain}
 abbrev pub chain_slot : ℕ → ℕ → Title
 chain_slot born n = record { start = 16384 + 16 * n; len = 16; born = born }
 
--- the first n of the row's slots are cut, and those of the first 256 after them can be; the seat has every stake
+-- The first n slots of the row are cut, and those of the first 256 after them can be. The seat has every stake.
 pub record IsRowOf (born n : ℕ) (v : View) : Type 0 where
   pub free : (k : ℕ) → k < n → 0 < free_of v (chain_slot born k)
   pub can : (k : ℕ) → n ≤ k → k < 256 → CanCut (chain_slot born k) v

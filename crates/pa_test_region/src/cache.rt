@@ -7,8 +7,8 @@ ghost use Rattle.pa_test_region.specs.CacheRows.{IsRowCached};
 use crate::link::{cut_row, slot};
 use pa_buckets::Class;
 use pa_cache::Cache;
-use pa_machine::Title;
 use pa_region::{Region, Seat};
+use pa_slot::Title;
 use std::test::Fail;
 
 // Puts the row's slot of this number at the front.

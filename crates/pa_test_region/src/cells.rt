@@ -12,12 +12,13 @@ ghost use Rattle.pa_test_region.specs.CellSlots.{test_slot, test_handle, test_en
 use pa_cells::{
     Cells, Handle, Parked, givers_lack_handles, takers_have_handles, what_was_handed_can_wait,
 };
-use pa_machine::{Item, OutOfMemory, SlotName, Step, Title};
+use pa_machine::Item;
 use pa_record::{CellEntry, Held, History, RootAct, RootEntry, root_numbers};
 use pa_region::{
     Mark, Name, Note, Region, Seat, a_cut_leaves_zeros, a_new_region_can_be_cut,
     entries_stand_in_lists, entries_stand_in_logs, new_words_are_zero,
 };
+use pa_slot::{OutOfMemory, SlotName, Step, Title};
 use std::alloc::Global;
 use std::marker::Brand;
 use std::process::Abort;
@@ -42,7 +43,7 @@ fn slot() -> Title
     }
 }
 
-// Its handle.
+// The handle of the tests' slot.
 fn handle() -> Handle
     ensures { result ≡ test_handle }
 {

@@ -1,14 +1,14 @@
 ghost use Rattle.std.specs.Prelude.{◌≡◌};
-ghost use Rattle.pa_machine.specs.declared.word.Step.TheVariants.{Reset};
+ghost use Rattle.pa_slot.specs.declared.word.Step.TheVariants.{Reset};
 ghost use Rattle.pa_region.specs.Moves.{CanCount};
 ghost use Rattle.pa_region.specs.Shares.{IsStepMade};
 
 use pa_count::{Fate, copy, issue, look, reset};
-use pa_machine::{Title, Word};
 use pa_region::{
     Region, Seat, a_cut_leaves_other_bytes, a_cut_leaves_zeros, a_new_region_can_be_cut,
     an_uncut_gives_bytes_back, new_words_are_zero,
 };
+use pa_slot::{Title, Word};
 use std::test::Fail;
 use std::thread;
 

@@ -1,4 +1,4 @@
-//! The tests of the crates over the region: its seats, counted steps, caches, the pool, roots, cells and workers.
+//! The tests of the crates over the region: its seats, counted steps, chains, caches, the pool and cells.
 #![tactic(auto)]
 
 #[cfg(test)]
@@ -7,10 +7,6 @@ mod cache;
 mod cells;
 #[cfg(test)]
 mod count;
-#[cfg(test)]
-mod heap;
-#[cfg(test)]
-mod heap_ops;
 #[cfg(test)]
 mod lending;
 #[cfg(test)]
@@ -21,11 +17,3 @@ mod pool;
 mod quarantine;
 #[cfg(test)]
 mod quarantine_threads;
-#[cfg(test)]
-mod root;
-#[cfg(test)]
-mod root_plain;
-#[cfg(test)]
-mod root_rows;
-#[cfg(test)]
-mod root_scripts;

@@ -4,8 +4,8 @@ ghost use Rattle.pa_region.specs.Start.{first_view};
 ghost use Rattle.pa_test_region.specs.ChainRows.{chain_slot, IsRowOf, IsRowChained};
 
 use pa_link::Chain;
-use pa_machine::Title;
 use pa_region::{Region, Seat, a_cut_leaves_other_bytes, a_new_region_can_be_cut};
+use pa_slot::Title;
 use std::test::Fail;
 
 // The row's slot of this number.

@@ -6,10 +6,10 @@ ghost use Rattle.pa_region.specs.Shares.{byte_word_count};
 ghost use Rattle.pa_pool.specs.Pools.{CanOpen};
 ghost use Rattle.pa_pool.specs.Calls.{ComesBack};
 
-use pa_machine::OutOfMemory;
 use pa_pool::{Pool, PoolFault};
 use pa_record::{PoolAct, PoolEntry};
 use pa_region::{Mark, Name, Note, Region, Seat};
+use pa_slot::OutOfMemory;
 use std::alloc::Global;
 use std::marker::Brand;
 use std::sync::Mutex;
@@ -107,8 +107,8 @@ fn give<N: Name>(
     pool.give(region, seat, 3, 1, taken, note).ok()
 }
 
-// Takes one super page of four and two more; asks for two more, and there are none; gives the first back and takes it
-// again; and gives the two back, with room for the entry.
+// Takes one super page of four and two more, and asks for two more, but there are none. Then it gives the first back and takes
+// it again, and gives the two back, with room for the entry.
 fn play<N: Name>(
     alloc: Global,
     region: &Region,

@@ -1,7 +1,7 @@
 use pa_count::{Fate, copy, issue};
-use pa_machine::{POISON, Title};
 use pa_quarantine::{free_owned, read, release, write, zero_fill};
 use pa_region::{Region, a_new_region_can_be_cut};
+use pa_slot::{POISON, Title};
 use std::test::Fail;
 
 #[test]

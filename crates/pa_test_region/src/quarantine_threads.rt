@@ -1,20 +1,21 @@
 //! Several threads let go of one slot, and one reads it while another frees it.
 ghost use Rattle.std.specs.Prelude.{◌≡◌, ◌+◌, ◌<◌, ◌≤◌, IfOk};
-ghost use Rattle.pa_machine.specs.declared.title.OwnState.TheVariants.{Clean, Dirty};
-ghost use Rattle.pa_machine.specs.declared.word.Step.TheVariants.{Reset};
-ghost use Rattle.pa_machine.specs.Titles.{content_count};
+ghost use Rattle.pa_slot.specs.declared.title.OwnState.TheVariants.{Clean, Dirty};
+ghost use Rattle.pa_slot.specs.declared.word.Step.TheVariants.{Reset};
+ghost use Rattle.pa_slot.specs.Titles.{content_count};
 ghost use Rattle.pa_region.specs.Views.{HasStake, own_as, ref_of, stake_of};
 ghost use Rattle.pa_region.specs.Waiting.{unclean_of};
 ghost use Rattle.pa_region.specs.Moves.{CanCount};
 ghost use Rattle.pa_test_region.specs.Sharing.{Stays, StaysUser, GaveRef, AreTogether, IsShared};
 
 use pa_count::{Fate, copy, issue};
-use pa_machine::{Item, OutOfMemory, POISON, Title, Word, held};
+use pa_machine::Item;
 use pa_quarantine::{free_owned, read, release, write, zero_fill};
 use pa_region::{
     Mark, Region, Seat, a_cut_leaves_zeros, a_new_region_can_be_cut, entries_stand_in_logs,
     new_words_are_zero, owns_change,
 };
+use pa_slot::{OutOfMemory, POISON, Title, Word, held};
 use std::alloc::Global;
 use std::test::Fail;
 use std::thread;
@@ -182,7 +183,7 @@ fn of_three_threads_one_is_last(rt: HostRuntime) -> Result<(), Fail> {
 }
 
 // Whether a read may give this value after a look that found this word, when 7 was written and another thread frees: with
-// the bit set 7, or poison; with the bit clear poison.
+// the bit set 7, or poison, with the bit clear poison.
 fn may_be(found: Word, value: u64) -> bool {
     value == POISON || (held(found) && value == 7)
 }

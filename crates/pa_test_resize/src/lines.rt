@@ -4,10 +4,10 @@ ghost use Rattle.pa_record.specs.RunText.{IsPrintable};
 ghost use Rattle.pa_model.specs.Player.{IsGoing};
 ghost use Rattle.pa_test_resize.specs.Driven.{IsDriven};
 
-use pa_machine::OutOfMemory;
 use pa_model::{Player, play};
 use pa_player::{ListOutput, Told};
 use pa_record::{Answer, Run, write_run};
+use pa_slot::OutOfMemory;
 use pa_trace::{Line, Op, Trace, read_trace};
 use pa_trace_writer::{Kept, LineList};
 use std::alloc::Global;

@@ -13,7 +13,7 @@ struct Due<'a> {
     verdicts: &'a [(u32, Verdict)],
 }
 
-// Whether it comes to that.
+// Whether a script comes to what is due.
 fn gives(alloc: Global, text: &[u8], due: Due<'_>) -> Result<bool, Fail> {
     let Ok(script) = read_script(alloc, text) else {
         return Err(Fail::new("no script"));

@@ -1,18 +1,13 @@
 -- How many spans are empty after a move, and the next turn.
-use Rattle.std.proofs.Common.{◌≡◌, ℕ, ◌+◌, ◌<◌, ◌≤◌, Bool, true, false, not, ◌==◌, if◌then◌else◌, List, [], ◌∷◌, length, refl, sym, subst, arith, length-append}
-use Rattle.std.proofs.lemmas.List.Sums.{length-filter, count_by-le-length}
+use Rattle.std.proofs.Common.{◌≡◌, ℕ, ◌+◌, ◌<◌, ◌≤◌, Bool, true, false, if◌then◌else◌, List, [], ◌∷◌, length, refl, sym, subst, arith, length-append}
 use Rattle.pa_buckets.specs.declared.spans.State.{State}
 use Rattle.pa_buckets.specs.declared.spans.State.TheVariants as state
 use Rattle.pa_record.specs.Spans.{same_state}
 use Rattle.pa_spans.specs.declared.span.Span.{Span}
 use Rattle.pa_spans.specs.Lists.{SpanListParts, ring_without, ring_with, lists_without, lists_with, lists_entered}
 use Rattle.pa_spans.proofs.Leaving.{turn_kept}
+use Rattle.pa_spans.proofs.Rings.{ring_shrinks}
 use Rattle.pa_test_spans.specs.Table.{IsTableKept}
-
-shorter : (at : ℕ) (a : State) (ring : List ℕ) → length (ring_without at a ring) ≤ length ring
-shorter at state.Empty ring =
-    let n = length-filter (λ u. not (u == at)) ring in let m = count_by-le-length (λ u. not (u == at)) ring in omega arith
-shorter at a ring = omega arith
 
 longer : (at : ℕ) (a : State) (ring : List ℕ) → length ring ≤ 17 → (a ≡ state.Empty → length ring < 17) → length (ring_with at a ring) ≤ 17
 longer at state.Empty ring few room = let n = length-append ring (at ∷ []) in let m = room refl in omega arith
@@ -25,7 +20,7 @@ few_after at to l s few room = go (same_state s.state to)
     go : (b : Bool) → length (if b then l else lists_with at s.class to (lists_without at s l)).ring ≤ 17
     go true = few
     go false =
-        let less = shorter at s.state l.ring in
+        let less = ring_shrinks at s.state l.ring in
         longer at to (ring_without at s.state l.ring) (omega arith) (λ e. let m = room e in omega arith)
 
 pub turn_after : (at : ℕ) (to : State) (l : SpanListParts) (s : Span) → (lists_entered at to l s).turn ≤ l.turn + 1

@@ -19,7 +19,7 @@ no_span = record {
   turn = 0;
 }
 
--- the span at number u of the list; one that isn't in use if there is none
+-- the span at number u of the list, and one that isn't in use past the end
 abbrev pub listed_spans : List Span → ℕ → Span
 listed_spans spans u = slice_index_or spans u no_span
 

@@ -72,7 +72,7 @@ fn is_list(lists: &SpanLists, table: &Table, order: &[u32], class: Class, state:
     at == 0
 }
 
-// Whether each list of the first three classes is.
+// Whether each list of the first three classes is that of the spans in this order.
 fn are_lists(lists: &SpanLists, table: &Table, order: &[u32]) -> bool {
     for number in 0..3 {
         let Some(class) = Class::of(number) else {

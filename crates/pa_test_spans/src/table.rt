@@ -34,7 +34,7 @@ impl SpanStore for Table {
     ghost follows_on = { λ a b c p q. q ∙ p };
 }
 
-// So many spans that aren't in use, of three classes in turn.
+// This many spans that aren't in use, of three classes in turn.
 pub(crate) fn new_table(alloc: Global, count: u32) -> Result<Table, AllocError>
     ensures { IfOk result (λ t. All IsOutside t.spans.items) }
 {

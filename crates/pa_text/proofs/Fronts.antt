@@ -7,7 +7,7 @@ use Rattle.std.proofs.lemmas.Bool.Decides.{Decides-eqb}
 use Rattle.std.proofs.lemmas.Slice.Eq.{slice_eq-Decides}
 use Rattle.std.proofs.lemmas.List.{take-append-drop, take_at, drop_at}
 
--- words that pass the test are the same
+-- two words that the test finds equal are one
 pub word_same : (a b : List ℕ) → pointwise nat_eq a b ≡ true → a ≡ b
 word_same a b e = (slice_eq-Decides Decides-eqb a b _ refl).0 e
 

@@ -27,7 +27,7 @@ digit_last n (c ∷ cs) e = rw (cond_is_none (is_digit c) (c - 48, cs) e) refl
 abbrev pub StandsFor : ℕ → ℕ → Type 0
 StandsFor value n = (value ≡ n) ⊎ ((4294967296 ≤ value) × (4294967296 ≤ n))
 
--- the digits read so far write a number that the value represents, and the rest is still to be read
+-- the digits read so far spell a number of which this is the value, and the rest is still to be read
 pub record ReadsOn (value : ℕ) (rest : List ℕ) (first : ℕ) (bytes : List ℕ) : Type 0 where
   pub number : ℕ
   pub stands : StandsFor value number

@@ -2,12 +2,12 @@
 use Rattle.std.proofs.Common.{◌≡◌, ℕ, ◌^◌, ◌<◌, List, ◌∷◌, ◌++◌, sym, ap, ◌∙◌, append_assoc, arith}
 use Rattle.std.specs.Fmt.{decimal}
 use Rattle.std.proofs.lemmas.Option.{some_pair_parts}
-use Rattle.pa_machine.specs.declared.word.SlotName.{SlotName}
+use Rattle.pa_slot.specs.declared.word.SlotName.{SlotName}
 use Rattle.pa_text.specs.Reading.{IsStop, number_at, hexes_at}
 use Rattle.pa_text.specs.Hex.{SlotFits, hex, slot_text}
 use Rattle.pa_text.proofs.Numerals.{number_again, decimal_numeral}
 use Rattle.pa_text.proofs.Words.{hexes_again}
-use Rattle.pa_machine.proofs.Runs.{slot_parts}
+use Rattle.pa_slot.proofs.Runs.{slot_parts}
 
 -- a number with no digit after it
 pub split_number : (m n : ℕ) (x y : List ℕ) → m < 2 ^ 64 → n < 2 ^ 64 → IsStop x → IsStop y → decimal m ++ x ≡ decimal n ++ y → (m ≡ n) × (x ≡ y)

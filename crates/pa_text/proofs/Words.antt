@@ -158,7 +158,7 @@ word_none k value bytes rest e none lt n more small parts =
     let read : hexes_at 16 bytes ≡ Some (n, more) = ap (λ (y : List ℕ). hexes_at 16 y) parts ∙ hexes_again 16 n more small in
     cc
 
--- what holds in any case holds where nothing was read
+-- what holds in any case holds if nothing was read
 pub when_none : {A : Type 0} (r : Option A) (P : Type 0) → P → IfNone r P
 when_none None P h = h
 when_none (Some x) P h = tt

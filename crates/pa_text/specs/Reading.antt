@@ -42,7 +42,7 @@ unfoldable pub digits_from : ℕ → List ℕ → ℕ × List ℕ
 digits_from n [] = (n, [])
 digits_from n (c ∷ cs) = if is_digit c then digits_from (10 * n + (c - 48)) cs else (n, c ∷ cs)
 
--- the number at the start, and the bytes after it; a `0` before a digit is no number
+-- the number at the start and the bytes after it, if there is one: a `0` before a digit is no number
 unfoldable pub number_at : List ℕ → Option (ℕ × List ℕ)
 number_at bytes = do
   first ← digit_at bytes

@@ -16,14 +16,14 @@ impl<A> Model for Past<A> {
 }
 
 impl<A> Past<A> {
-    /// Nothing.
+    /// A list with no members.
     pub fn new() -> Past<A>
         ensures { result.items ≡ [] }
     {
         Past { of: PhantomData }
     }
 
-    /// The same, with one more at its end.
+    /// The list with one more member at its end.
     pub fn and(&self, item: &A) -> Past<A>
         ensures { result.items ≡ self.now.items ++ item.now ∷ [] }
     {

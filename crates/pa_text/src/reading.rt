@@ -4,7 +4,7 @@ ghost use Rattle.std.specs.Option.{option_map};
 ghost use Rattle.pa_text.specs.Numeral.{IsNumeral};
 ghost use Rattle.pa_text.specs.Reading.{BeginsWith, IsStop, fit, fitted, digit_at, digits_from, number_at};
 ghost use Rattle.pa_text.specs.Hex.{SlotFits, hex, slot_text};
-ghost use Rattle.pa_machine.specs.declared.word.SlotName.{SlotName};
+ghost use Rattle.pa_slot.specs.declared.word.SlotName.{SlotName};
 
 // Numbers from here on don't fit in 32 bits.
 const TOO_LARGE: u64 = 1 << 32;
@@ -51,7 +51,7 @@ pub fn one_front()
         (s ≡ t) × (x ≡ y) }
 {}
 
-// The same, byte by byte.
+// What `number_at` returns, read byte by byte.
 #[tactic(auto, unfolding(crate::specs::Reading::number_at))]
 fn number_of(bytes: &[u8]) -> Option<(Option<u32>, &[u8])>
     ensures { option_map {U = Option ℕ × List ℕ} (λ x. (x.0, x.1.now)) result ≡ option_map fitted (number_at bytes.now) }

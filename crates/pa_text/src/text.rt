@@ -1,6 +1,6 @@
 ghost use Rattle.std.specs.Prelude.{◌≡◌, ◌+◌, ◌^◌, ◌<◌, ◌≤◌, [], ◌++◌, length, take, IfOk, OnOk, OnErr, vec_len};
 
-use pa_machine::OutOfMemory;
+use pa_slot::OutOfMemory;
 use std::alloc::Global;
 use std::marker::Model;
 
@@ -80,11 +80,12 @@ impl Text {
         bytes
     }
 
-    /// Appends the bytes. If memory runs out, none of them is appended.
+    /// Appends the bytes. If memory runs out, none of them is appended; it doesn't if there are none.
     #[inline(always)]
     pub fn push(&mut self, bytes: &[u8]) -> Result<(), OutOfMemory>
         ensures pushed { OnOk result (self.new ≡ self.old ++ bytes.now) }
         ensures same { OnErr result (self.new ≡ self.old) }
+        ensures asks { OnErr result (0 < length bytes.now) }
     {
         make_room(&mut self.bytes, self.len, bytes.len())?;
         put(self.bytes.as_mut_slice(), self.len, bytes);
@@ -92,10 +93,12 @@ impl Text {
         Ok(())
     }
 
-    /// The same for many bytes: they are copied into fresh room, and no spare bytes are filled.
+    /// Appends many bytes: they are copied into fresh room, and no spare bytes are filled. If memory runs out, none of them is
+    /// appended.
     pub fn append(&mut self, bytes: &[u8]) -> Result<(), OutOfMemory>
         ensures pushed { OnOk result (self.new ≡ self.old ++ bytes.now) }
         ensures same { OnErr result (self.new ≡ self.old) }
+        ensures asks { OnErr result (0 < length bytes.now) }
     {
         self.bytes.truncate(self.len);
         self.bytes.extend_from_slice(bytes)?;
@@ -104,12 +107,13 @@ impl Text {
     }
 }
 
-// Makes room for `count` bytes after the first `len`, which stay.
+// Makes room for `count` bytes after the first `len`, which stay. Memory can run out only if that room isn't there.
 #[inline(always)]
 fn make_room(bytes: &mut Vec<u8>, len: usize, count: usize) -> Result<(), OutOfMemory>
     requires within { len ≤ vec_len bytes.old }
     requires fits { len + count < 2 ^ 64 }
     ensures room { OnOk result (len + count ≤ vec_len bytes.new) }
+    ensures asks { OnErr result (vec_len bytes.old < len + count) }
     ensures kept { take len bytes.new.items ≡ take len bytes.old.items }
     ensures within { len ≤ vec_len bytes.new }
 {
@@ -119,7 +123,7 @@ fn make_room(bytes: &mut Vec<u8>, len: usize, count: usize) -> Result<(), OutOfM
     Ok(())
 }
 
-// Makes that room, and some more.
+// Makes room for `count` bytes after the first `len`, and for some more.
 #[cold]
 #[inline(never)]
 fn grow(bytes: &mut Vec<u8>, len: usize, count: usize) -> Result<(), OutOfMemory>

@@ -1,16 +1,17 @@
-ghost use Rattle.std.specs.Prelude.{◌≡◌, ◌+◌, ◌%◌, ◌<◌, ◌≤◌, [], ◌∷◌, ◌++◌, OnOk, OnErr};
+ghost use Rattle.std.specs.Prelude.{◌≡◌, ◌+◌, ◌%◌, ◌<◌, ◌≤◌, [], ◌∷◌, ◌++◌, length, OnOk, OnErr};
 ghost use Rattle.std.specs.Fmt.{decimal};
 ghost use Rattle.std.specs.Io.{StartsWith};
 ghost use Rattle.pa_text.specs.Hex.{hex, slot_text};
 
 use crate::text::Text;
-use pa_machine::{OutOfMemory, SlotName};
+use pa_slot::{OutOfMemory, SlotName};
 
-/// Appends the bytes. If memory runs out, none of them is appended.
+/// Appends the bytes. If memory runs out, none of them is appended; it doesn't if there are none.
 #[inline(always)]
 pub fn push_bytes(out: &mut Text, bytes: &[u8]) -> Result<(), OutOfMemory>
     ensures pushed { OnOk result (out.new ≡ out.old ++ bytes.now) }
     ensures same { OnErr result (out.new ≡ out.old) }
+    ensures asks { OnErr result (0 < length bytes.now) }
 {
     out.push(bytes)
 }

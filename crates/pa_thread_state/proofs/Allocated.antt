@@ -2,8 +2,8 @@
 use Rattle.std.proofs.Common.{◌≡◌, ℕ, ◌<◌, List, [], sym, ◌∙◌, ap, subst}
 use Rattle.std.specs.Prelude.{slice_index_or}
 use Rattle.std.specs.List.{remove}
-use Rattle.pa_machine.specs.Holdings.{one}
-use Rattle.pa_machine.specs.declared.title.Title.{Title}
+use Rattle.pa_slot.specs.Holdings.{one}
+use Rattle.pa_slot.specs.declared.title.Title.{Title}
 use Rattle.pa_buckets.specs.Bands.{fill_of}
 use Rattle.pa_region.specs.declared.view.View.{View}
 use Rattle.pa_region.specs.Hands.{united}
@@ -14,7 +14,7 @@ use Rattle.pa_thread_state.specs.Allocating.{BecomesList, Receives, CanLoad, Fil
 use Rattle.pa_thread_state.proofs.Fetching.{fill_loads}
 use Rattle.pa_thread_state.proofs.Receiving.{first_rest}
 
--- the fill of a list, by what its parts say: the root gave titles; the note was taken in; the others can be loaded, and were
+-- The thread state after a list's fill came, by what its parts say: the root gave titles, and the note was taken in.
 pub fill_received : (s a b : StockValue) (n : View) → a ≡ record s { view = a.view } → Receives n a b → b ≡ record s { view = united a.view n }
 fill_received s a b n asked receives = receives.after_is ∙ ap (λ (z : StockValue). record z { view = united a.view n }) asked
 

@@ -36,7 +36,7 @@ read_back entry (m ∷ seen) rest (x ∷ pools) is =
     let again = read_back entry seen rest pools later in
     cc
 
--- so the census of a sound root is that of its journal, in any list of the pool that begins with what was seen of it
+-- the census of a sound root is that of its journal, in any list of the pool that begins with what was seen of it
 pub tells_census : (p : ℕ) (s : RootState) (seat : View) (c : Census) → PoolsAreRead → IsRootSound p s → c ≡ census s.root →
     map (λ (m : Made). m.numbers) (list_of p seat) ≡ map root_numbers s.journal → IsBeginning (list_of 4 s.view) (list_of 4 seat) →
     TellsCensus p seat c

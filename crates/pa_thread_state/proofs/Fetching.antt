@@ -2,7 +2,7 @@
 use Rattle.std.proofs.Common.{◌≡◌, ℕ, suc, ◌<◌, List, [], ◌∷◌, length, Some, None, refl, sym, ap, arith}
 use Rattle.std.specs.Prelude.{Contains}
 use Rattle.std.proofs.lemmas.List.Elements.{All-contains}
-use Rattle.pa_machine.specs.declared.title.Title.{Title}
+use Rattle.pa_slot.specs.declared.title.Title.{Title}
 use Rattle.pa_buckets.specs.Table.{slot_of}
 use Rattle.pa_buckets.specs.Bands.{fill_of}
 use Rattle.pa_buckets.proofs.Facts.{fill_of-limit, IsRow-of}
@@ -22,7 +22,8 @@ use Rattle.pa_cells.specs.Handles.{HasSeenMade}
 use Rattle.pa_op_specs.specs.Stocks.{StockValue, IsStock, titles_in, listed_slot}
 use Rattle.pa_thread_state.specs.Changes.{IsBack}
 use Rattle.pa_thread_state.specs.Allocating.{CanLoad}
-use Rattle.pa_thread_state.proofs.Taking.{Asking, Took, for_asking, for_made, two_asking, still_there, named, took_free, took_new}
+use Rattle.pa_root.proofs.Entered.{for_made}
+use Rattle.pa_thread_state.proofs.Taking.{Asking, Took, for_asking, two_asking, still_there, named, took_free, took_new}
 
 -- ---- a fill
 

@@ -4,8 +4,8 @@ use Rattle.std.specs.Prelude.{◌==◌, Contains, nat_lt, if◌then◌else◌, s
 use Rattle.std.proofs.lemmas.List.{length-set, get_or_default}
 use Rattle.std.proofs.lemmas.List.Elements.{All-weaker, All-contains_itself}
 use Rattle.std.proofs.lemmas.Bool.Decides.{nat_tests, eqb_tells}
-use Rattle.pa_machine.specs.declared.title.Title.{Title}
-use Rattle.pa_machine.specs.Titles.{IsWellFormed}
+use Rattle.pa_slot.specs.declared.title.Title.{Title}
+use Rattle.pa_slot.specs.Titles.{IsWellFormed}
 use Rattle.pa_region.specs.Views.{free_of}
 use Rattle.pa_buckets.specs.Bands.{limit_of}
 use Rattle.pa_lists.proofs.Members.{in_cases}

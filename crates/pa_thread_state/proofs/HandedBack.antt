@@ -4,10 +4,10 @@ use Rattle.std.specs.Prelude.{◌==◌, ◌≢◌, AllPairs, Contains, if◌then
 use Rattle.std.specs.List.{sum_by}
 use Rattle.std.proofs.lemmas.List.{append-nil, map-append, length-set, get_or-set_same}
 use Rattle.std.proofs.lemmas.Bool.Decides.{eqb_tells}
-use Rattle.pa_machine.specs.declared.title.Title.{Title}
+use Rattle.pa_slot.specs.declared.title.Title.{Title}
 use Rattle.pa_machine.specs.declared.event.Item.TheVariants.{Free}
-use Rattle.pa_machine.specs.Titles.{same_title, IsWellFormed}
-use Rattle.pa_machine.specs.Holdings.{one, FreeTitle, OwnOf, RefOf}
+use Rattle.pa_slot.specs.Titles.{same_title, IsWellFormed}
+use Rattle.pa_slot.specs.Holdings.{one, FreeTitle, OwnOf, RefOf}
 use Rattle.pa_buckets.specs.Bands.{limit_of}
 use Rattle.pa_record.specs.declared.numbered.Numbered.{Numbered}
 use Rattle.pa_record.specs.declared.root.RootAct.{RootAct}
@@ -60,7 +60,7 @@ use Rattle.pa_root.proofs.Seeing.{free_kept}
 abbrev pub left_view : List Title → View → View
 left_view ts v = left_after (frees_parcel ts) v
 
--- it has the same handles and stakes
+-- a seat that hands titles over has the same handles
 left_handles : (ts : List Title) (v : View) → ((left_of (map free_item ts) v).owns ≡ v.owns) × ((left_of (map free_item ts) v).refs ≡ v.refs)
 left_handles [] v = (refl, refl)
 left_handles (t ∷ ts) v = left_handles ts (without_item (Free t) v)
@@ -83,7 +83,7 @@ left_enters stake line ts v = record {
   each = λ e among. absurd (not_in_none e among);
 }
 
--- and can lend its stake still
+-- a seat that hands titles over can lend its stake still
 pub left_lends : (ts : List Title) (v : View) → IsAware v → AllPairs ◌≢◌ ts → ((t : Title) → Contains ts t → 0 < free_of v t) → CanLend v → CanLend (left_view ts v)
 left_lends ts v aware once has lends = (
   subst (λ (ss : List Stake). least_stake ss < 16) (sym (left_stakes ts v)) lends.0,
@@ -155,7 +155,7 @@ module _ (r line p : ℕ) (ts : List Title) (v w : View) (hands : HandsBack r li
 
 -- ---- the thread state after a batch
 
--- it has seen the fill that handed out a title of a list
+-- a thread's seat has seen the fill that handed out a title of its lists
 pub seen_fill : (s : StockValue) (p c : ℕ) (t : Title) → IsStock s → Contains (titles_in s.caches p c) t → HasSeenFill p s.view t
 seen_fill s p c t is among =
     let (m, e, there, says, out) = (is.lists.made p c t among).entry in
@@ -394,7 +394,7 @@ gives_none line p s = record {
   listed = λ q c t among. among;
 }
 
--- the same with other words for what the lists have
+-- titles went back, with other words for what the lists have
 pub gives_left : (line p : ℕ) (acts : List RootAct) (left other : ℕ → ℕ → List Title) (a b : StockValue) → Gives line p acts left a b →
     ((q c : ℕ) → left q c ≡ other q c) → Gives line p acts other a b
 gives_left line p acts left other a b gives same = record {
@@ -448,7 +448,7 @@ gives_on line p acts more left later a b d first second = record {
         ∙ ap (λ es. log ++ es) (sym (map-append (Entered p) first.entries second.entries))
     go log false = append-nil (log ++ [])
 
--- so it is a log segment of entries of the line
+-- what goes back makes a log segment of entries of the line
 pub gives_enters : (line p : ℕ) (acts : List RootAct) (left : ℕ → ℕ → List Title) (a b : StockValue) (gives : Gives line p acts left a b) → p < 5 →
     Entering a.thread line (map (Entered p) gives.entries) a.view b.view
 gives_enters line p acts left a b gives low = record {

@@ -5,10 +5,10 @@ use Rattle.std.specs.List.{sum_by, filter}
 use Rattle.std.proofs.lemmas.List.Sums.{sum_by-cons, sum_by-append}
 use Rattle.std.proofs.lemmas.Bool.{cases_Bool}
 use Rattle.std.proofs.lemmas.Bool.Decides.{nat_tests, eqb_tells}
-use Rattle.pa_machine.specs.declared.title.Title.{Title}
-use Rattle.pa_machine.specs.Titles.{same_title}
-use Rattle.pa_machine.specs.Holdings.{one}
-use Rattle.pa_machine.proofs.Same.{title_self}
+use Rattle.pa_slot.specs.declared.title.Title.{Title}
+use Rattle.pa_slot.specs.Titles.{same_title}
+use Rattle.pa_slot.specs.Holdings.{one}
+use Rattle.pa_slot.proofs.Same.{title_self}
 use Rattle.pa_region.specs.declared.view.OwnTitle.{OwnTitle}
 use Rattle.pa_region.specs.declared.view.Stake.{Stake}
 use Rattle.pa_region.specs.declared.view.View.{View}
@@ -97,7 +97,7 @@ heard_stock joins stays s n is for aware =
     made_for Freed m = tt
     made_for Cleared m = tt
 
--- and its lists are as they were
+-- the lists of a worker that gets its stake back are as they were
 pub heard_lists : FreeNumbersStay → (s : StockValue) (n : View) → IsStock s → IsAware s.view → IsAware n → IsAware (united s.view n) → length s.view.words ≡ length n.words →
     SameLists (listed_in (record s { view = united s.view n })) (listed_in s)
 heard_lists law s n is aware other both long p c =

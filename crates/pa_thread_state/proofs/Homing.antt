@@ -4,9 +4,9 @@ use Rattle.std.specs.Prelude.{◌==◌, ◌≢◌, All, AllPairs, Contains, OnOk
 use Rattle.std.specs.List.{sum_by}
 use Rattle.std.proofs.lemmas.List.{append-nil}
 use Rattle.std.proofs.lemmas.List.Sums.{sum_by-append}
-use Rattle.pa_machine.specs.declared.title.Title.{Title}
-use Rattle.pa_machine.specs.Titles.{same_title}
-use Rattle.pa_machine.specs.Holdings.{one}
+use Rattle.pa_slot.specs.declared.title.Title.{Title}
+use Rattle.pa_slot.specs.Titles.{same_title}
+use Rattle.pa_slot.specs.Holdings.{one}
 use Rattle.pa_record.specs.declared.numbered.Numbered.{Numbered}
 use Rattle.pa_record.specs.declared.root.RootEntry.{RootEntry}
 use Rattle.pa_record.specs.declared.root.RootAct.{RootAct}
@@ -75,7 +75,7 @@ left_stakes t v = all_stakes v.stakes
 pub left_stake : (t : Title) (v : View) (k : ℕ) → stake_of (without_title t v) k ≡ stake_of v k
 left_stake t v k = ap (λ (ss : List Stake). sum_by (λ (x : Stake). one (x.number == k)) ss) (left_stakes t v)
 
--- it makes no entry
+-- a seat that hands a title over makes no entry by that
 pub left_enters : (stake line : ℕ) (t : Title) (v : View) → Entering stake line [] v (without_title t v)
 left_enters stake line t v =
     let none = entering_none stake line v in
@@ -87,7 +87,7 @@ left_enters stake line t v =
       each = λ e among. absurd (not_in_none e among);
     }
 
--- and the other free titles
+-- a seat that hands a title over has the other free titles
 pub left_frees : (t : Title) (v : View) → IsAware v → 0 < free_of v t → (u : Title) → (t ≡ u → ⊥) → free_of (without_title t v) u ≡ free_of v u
 left_frees t v aware free u other =
     (keeps_but (t ∷ []) v (alone t) (free_alone t v free) aware.free_once).stays u

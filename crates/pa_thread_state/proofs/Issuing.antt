@@ -4,13 +4,13 @@ use Rattle.std.specs.Prelude.{Contains, slice_set}
 use Rattle.std.specs.List.{sum_by}
 use Rattle.std.proofs.lemmas.List.{length-set}
 use Rattle.std.proofs.lemmas.List.Sums.{sum_by-cons}
-use Rattle.pa_machine.specs.declared.title.Title.{Title}
-use Rattle.pa_machine.specs.declared.title.OwnState.TheVariants.{Clean}
-use Rattle.pa_machine.specs.declared.word.Step.TheVariants as steps
-use Rattle.pa_machine.specs.Count.{number_of}
-use Rattle.pa_machine.specs.Titles.{same_title, HasContentFrom}
-use Rattle.pa_machine.specs.Holdings.{one}
-use Rattle.pa_machine.proofs.Same.{title_tells}
+use Rattle.pa_slot.specs.declared.title.Title.{Title}
+use Rattle.pa_slot.specs.declared.title.OwnState.TheVariants.{Clean}
+use Rattle.pa_slot.specs.declared.word.Step.TheVariants as steps
+use Rattle.pa_slot.specs.Count.{number_of}
+use Rattle.pa_slot.specs.Titles.{same_title, HasContentFrom}
+use Rattle.pa_slot.specs.Holdings.{one}
+use Rattle.pa_slot.proofs.Same.{title_tells}
 use Rattle.pa_record.specs.declared.entry.Answer.TheVariants as answers
 use Rattle.pa_region.specs.declared.view.OwnTitle.{OwnTitle}
 use Rattle.pa_region.specs.declared.view.View.{View}
@@ -39,7 +39,7 @@ issued_view v t word = after_count steps.Issue t word (zeroed t v)
 abbrev pub issued : StockValue → Handle → ℕ → ℕ → StockValue
 issued s h r word = record s { view = issued_view s.view h.title word; registers = slice_set s.registers r (Own h) }
 
--- it can be made
+-- an issue of a free title with a zeroed content can be made
 pub can_issue : (s : StockValue) (t : Title) (z : View) → z ≡ zeroed t s.view → IsStock s → HasItsStake s → 0 < s.view.budget → 0 < free_of s.view t →
     HasContentFrom z.words t 0 0 → CanCount steps.Issue t z
 can_issue s t z e is stake budget free content = (

@@ -5,9 +5,9 @@ use Rattle.std.specs.List.{sum_by}
 use Rattle.std.proofs.lemmas.List.{length-set, append-nil}
 use Rattle.std.proofs.lemmas.List.Sums.{sum_by-cons, sum_by-append}
 use Rattle.std.proofs.lemmas.Bool.Decides.{eqb_tells}
-use Rattle.pa_machine.specs.declared.title.Title.{Title}
-use Rattle.pa_machine.specs.Titles.{same_title}
-use Rattle.pa_machine.specs.Holdings.{one, OwnOf, RefOf}
+use Rattle.pa_slot.specs.declared.title.Title.{Title}
+use Rattle.pa_slot.specs.Titles.{same_title}
+use Rattle.pa_slot.specs.Holdings.{one, OwnOf, RefOf}
 use Rattle.pa_region.specs.declared.view.OwnTitle.{OwnTitle}
 use Rattle.pa_region.specs.declared.view.Stake.{Stake}
 use Rattle.pa_region.specs.declared.view.View.{View}
@@ -69,7 +69,7 @@ pub can_park : (s : StockValue) (reg : ℕ) (own : Bool) (h : Handle) → IsStoc
     CanHand (parcel_of (handle_item own h.title ∷ []) 0 []) s.view
 can_park s reg own h is below has = record { items = (holds_given s reg own h is below has, tt); budget = omega arith; leases = tt; clean = λ k e. cc }
 
--- and how its slot was made was seen
+-- the seat has seen how the slot of a register's handle was made
 pub handle_made : (s : StockValue) (reg : ℕ) (own : Bool) (h : Handle) → IsStock s → register_in s.registers reg ≡ handle_register own h → HasSeenMade h s.view
 handle_made s reg true h is has = subst (IsMadeFor s.view) has (is.handles.made reg)
 handle_made s reg false h is has = subst (IsMadeFor s.view) has (is.handles.made reg)

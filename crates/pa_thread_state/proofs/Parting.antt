@@ -5,7 +5,7 @@ use Rattle.std.specs.List.{sum_by}
 use Rattle.std.proofs.lemmas.Bool.{le-leb, lt-ltb}
 use Rattle.std.proofs.lemmas.List.Sums.{sum_by-cons}
 use Rattle.std.proofs.lemmas.Bool.Decides.{eqb_tells}
-use Rattle.pa_machine.specs.Holdings.{one}
+use Rattle.pa_slot.specs.Holdings.{one}
 use Rattle.pa_region.specs.declared.view.RawRange.{RawRange}
 use Rattle.pa_region.specs.declared.view.Keeper.{Keeper}
 use Rattle.pa_region.specs.declared.view.View.{View}
@@ -135,7 +135,7 @@ no_logs from (suc count) k = go (from == k) (no_logs (suc from) count k)
     go true again = refl
     go false again = again
 
--- and the seat that comes back has every stake
+-- the seat that comes back from an opening has every stake
 pub stakes_are_all : (words budget : ℕ) → HasAllStakes budget (given_after (stakes_parcel budget) (without_cells words budget))
 stakes_are_all words budget = record {
   all = refl;

@@ -3,7 +3,7 @@ use Rattle.std.proofs.Common.{◌≡◌, ℕ, suc, ◌+◌, ◌-◌, ◌<◌, �
 use Rattle.std.specs.Prelude.{◌==◌, ◌&&◌, nat_lt, if◌then◌else◌}
 use Rattle.std.proofs.lemmas.List.{length-map}
 use Rattle.std.proofs.lemmas.Bool.Decides.{nat_tests, eqb_tells}
-use Rattle.pa_machine.specs.declared.title.Title.{Title}
+use Rattle.pa_slot.specs.declared.title.Title.{Title}
 use Rattle.pa_record.specs.declared.numbered.Numbered.{Numbered}
 use Rattle.pa_record.specs.declared.root.RootAct.TheVariants.{Purge}
 use Rattle.pa_region.specs.declared.view.View.{View}
@@ -143,7 +143,7 @@ purged_gives law s w line p aware now low (j, it) =
       listed = λ q c t among. among;
     }
 
--- and no list of the partition is left
+-- a purge of all 59 classes leaves no list of the partition
 none_left : (p : ℕ) (s : StockValue) (q c : ℕ) → without_classes p 59 (titles_in s.caches) q c ≡ without_lists p (titles_in s.caches) q c
 none_left p s q c = elim (eqb_tells q p) [
   | inl y ↦ by_class (nat_lt c 59) refl y.1 y.0

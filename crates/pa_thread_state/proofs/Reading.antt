@@ -1,6 +1,6 @@
 -- A look at a handle's slot, and right after it a load: the thread state after it.
 use Rattle.std.proofs.Common.{ℕ, refl, arith}
-use Rattle.pa_machine.specs.declared.title.Title.{Title}
+use Rattle.pa_slot.specs.declared.title.Title.{Title}
 use Rattle.pa_region.specs.declared.view.Entry.TheVariants.{Read}
 use Rattle.pa_region.specs.declared.view.View.{View}
 use Rattle.pa_region.specs.Moves.{after_look}

@@ -4,9 +4,9 @@ use Rattle.std.specs.Prelude.{◌==◌, Result, Ok, Err, IfErr, All, slice_index
 use Rattle.std.specs.List.{remove}
 use Rattle.std.proofs.lemmas.List.Elements.{All-contains, All-contains_itself}
 use Rattle.std.proofs.lemmas.List.Sums.{sum_by-append}
-use Rattle.pa_machine.specs.declared.title.Title.{Title}
-use Rattle.pa_machine.specs.Titles.{same_title, IsWellFormed}
-use Rattle.pa_machine.specs.Holdings.{one}
+use Rattle.pa_slot.specs.declared.title.Title.{Title}
+use Rattle.pa_slot.specs.Titles.{same_title, IsWellFormed}
+use Rattle.pa_slot.specs.Holdings.{one}
 use Rattle.pa_record.specs.declared.root.RootAct.{RootAct}
 use Rattle.pa_region.specs.declared.view.OwnTitle.{OwnTitle}
 use Rattle.pa_region.specs.declared.view.Stake.{Stake}
@@ -49,7 +49,7 @@ none_has stays s cs a b r line p count class (Full j) are is has at full =
     kept_has stays s b.view cs are is has (subst (λ v. Keeps v b.view) at full.enters.lends.keeps)
 none_has stays s cs a b r line p count class OutOfMemory are is has at same = same_has s b.view cs are is has (ap (λ (x : Share). x.view) same ∙ at)
 
--- and so it knows of it
+-- what a thread state knows of a root that gave none
 pub finds_none : (s : StockValue) (a b : Share) (r line p count : ℕ) (class : Option ℕ) (fault : FillFault) → a.view ≡ s.view → r ≡ s.thread →
     GivesNone r line p count class a b fault → FindsNone line p count class s (record s { view = b.view }) fault
 finds_none s a b r line p count class (Full j) at stake full =

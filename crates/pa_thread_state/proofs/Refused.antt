@@ -1,10 +1,9 @@
 -- What a root refused: the seat that took it in again, a batch that is on no list, and a slot that is left over.
-use Rattle.std.proofs.Common.{◌≡◌, ℕ, ◌+◌, ◌-◌, ◌<◌, false, List, [], ◌∷◌, ◌++◌, Result, Ok, Err, Some, None, refl, sym, ◌∙◌, ap, subst, arith, inl, inr}
+use Rattle.std.proofs.Common.{◌≡◌, ℕ, ◌+◌, ◌-◌, ◌<◌, List, [], ◌∷◌, ◌++◌, Result, Ok, Err, Some, None, sym, ◌∙◌, ap, subst, arith, inl, inr}
 use Rattle.std.specs.Prelude.{◌≢◌, AllPairs, Contains, OnErr, slice_index}
-use Rattle.std.specs.List.{filter}
 use Rattle.std.proofs.lemmas.List.{append-nil}
-use Rattle.pa_machine.specs.declared.title.Title.{Title}
-use Rattle.pa_machine.specs.Holdings.{FreeTitle}
+use Rattle.pa_slot.specs.declared.title.Title.{Title}
+use Rattle.pa_slot.specs.Holdings.{FreeTitle}
 use Rattle.pa_buckets.specs.Bands.{limit_of}
 use Rattle.pa_region.specs.declared.view.Stake.{Stake}
 use Rattle.pa_region.specs.declared.view.View.{View}
@@ -17,7 +16,7 @@ use Rattle.pa_region.proofs.Pieces.{frees_have}
 use Rattle.pa_link.proofs.Gaps.{free_same}
 use Rattle.pa_cache.specs.Caches.{batch_after, rest_after}
 use Rattle.pa_root.specs.Filling.{frees_parcel}
-use Rattle.pa_root.proofs.Showing.{all_stakes}
+use Rattle.pa_root.proofs.Showing.{all_stakes, no_stakes}
 use Rattle.pa_cells.specs.declared.handle.Handle.{Handle}
 use Rattle.pa_cells.specs.Handles.{SlotsStaySeen}
 use Rattle.pa_op_specs.specs.Stocks.{StockValue, IsStock, cache_place, titles_in}
@@ -34,10 +33,6 @@ use Rattle.pa_thread_state.proofs.Relisting.{listed_cases}
 use Rattle.pa_thread_state.proofs.Staying.{words_again}
 
 -- ---- a seat takes in again what it had handed over
-
-no_stakes : (ss : List Stake) → filter (λ (s : Stake). false) ss ≡ []
-no_stakes [] = refl
-no_stakes (s ∷ ss) = no_stakes ss
 
 -- the note with free titles comes back
 pub taken_back : SeenJoins → ListsJoin → (ts : List Title) (v left note w : View) → left ≡ left_after (frees_parcel ts) v →
@@ -135,7 +130,7 @@ kept_is_back stays h s after back keeps = record {
   made = stays h s.view after.view back.made (begins_again s.view after.view keeps.back h.partition);
 }
 
--- so it is after the tail of its list stopped
+-- a title that a step returned is still free and on no list after the tail of its list stopped
 pub stopped_is_back : SlotsStaySeen → (line p c keep : ℕ) (h : Handle) (s after : StockValue) → IsBack h s → StopsTail line p c keep s after → IsBack h after
 stopped_is_back stays line p c keep h s after back stops =
     let given = stops.gave.given in let mid = stops.between in
@@ -157,7 +152,7 @@ stopped_is_back stays line p c keep h s after back stops =
           (begins_again b.view after.view stops.refused.keeps.back h.partition);
     }
 
--- a direct map has no list, and a class whose limit is 0 keeps none
+-- The handle of a direct map has no class. So any class of it would keep no list.
 pub no_class : (h : Handle) → h.class ≡ None → (class : ℕ) → h.class ≡ Some class → limit_of class ≡ 0
 no_class h none class some = absurd (let bad : None ≡ Some class = sym none ∙ some in cc)
 

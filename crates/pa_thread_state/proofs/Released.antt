@@ -1,7 +1,7 @@
 -- A slot that a reset's or a free's step returned: what a call knows of it, and that the seat has its stake then.
 use Rattle.std.proofs.Common.{◌≡◌, ℕ, ◌<◌, refl, sym, ◌∙◌, subst, arith, inl, inr}
 use Rattle.std.specs.Prelude.{Contains}
-use Rattle.pa_machine.specs.declared.word.Step.TheVariants as steps
+use Rattle.pa_slot.specs.declared.word.Step.TheVariants as steps
 use Rattle.pa_record.specs.declared.entry.Seen.{Seen}
 use Rattle.pa_region.specs.Views.{free_of}
 use Rattle.pa_region.specs.Moves.{after_count}

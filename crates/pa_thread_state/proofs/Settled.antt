@@ -19,7 +19,7 @@ module _ (leaves : SettleAllLeaves) (owed : List Owed) (s : StockValue) (is : Is
   left : LeavesSettleAll owed s.view (after_settle_all owed s.view)
   left = leaves owed s.view (can_settle owed s is.stake stake covered)
 
-  -- it stays sound
+  -- a thread state that settled stays sound
   pub settled_stock : IsStock settled
   settled_stock = stock_with s (after_settle_all owed s.view) s.registers is
       (record {
@@ -31,11 +31,11 @@ module _ (leaves : SettleAllLeaves) (owed : List Owed) (s : StockValue) (is : Is
       })
       refl (λ t. omega arith) left.stakes
 
-  -- its stake is there as before
+  -- a thread state that settled has its stake as before
   pub settled_stake : HasItsStake settled
   settled_stake = let e = left.stakes s.thread in let h = stake in omega arith
 
-  -- and its log added no more than its steps owe
+  -- the log of a thread state that settled added no more than its steps owe
   pub settled_covered : IsCovered none_owed settled
   settled_covered has q =
       let w = after_settle_all owed s.view in

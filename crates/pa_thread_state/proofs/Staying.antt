@@ -3,9 +3,9 @@ use Rattle.std.proofs.Common.{◌≡◌, ℕ, ◌+◌, ◌/◌, ◌<◌, Bool, t
 use Rattle.std.specs.Prelude.{All, Contains, slice_index, if◌then◌else◌}
 use Rattle.std.proofs.lemmas.Bool.{cases_lt}
 use Rattle.std.proofs.lemmas.List.{length-map}
-use Rattle.pa_machine.specs.declared.title.Title.{Title}
-use Rattle.pa_machine.specs.Titles.{IsWellFormed, content_count, count_place}
-use Rattle.pa_machine.specs.Links.{first_word}
+use Rattle.pa_slot.specs.declared.title.Title.{Title}
+use Rattle.pa_slot.specs.Titles.{IsWellFormed, content_count, count_place}
+use Rattle.pa_slot.specs.Links.{first_word}
 use Rattle.pa_record.specs.Spans.{name_of}
 use Rattle.pa_region.specs.declared.view.View.{View}
 use Rattle.pa_region.specs.Views.{Knows, HasTitle, free_of}
@@ -126,7 +126,7 @@ pub filled_others : (value : ℕ) (u : Title) (words : List ℕ) (q : ℕ) → (
 filled_others value u words q out =
     filled_beside value u (content_count u) words q (elim out [ inl before ↦ inl before | inr behind ↦ inr (omega arith) ])
 
--- words that stay where the seat keeps what it has left, after it handed over what is on no list
+-- the first words of listed titles stay, if the seat keeps what it has left after it handed over what is on no list
 pub firsts_left : (s : StockValue) (w left : View) → IsStock (record s { view = w }) → left.words ≡ s.view.words → Keeps left w → FirstsStay s w
 firsts_left s w left now words keeps p class t among =
     let (n, well) = now.lists.well p class t among in

@@ -2,7 +2,7 @@
 use Rattle.std.proofs.Common.{◌≡◌, ℕ, ◌+◌, ◌*◌, ◌<◌, ◌≤◌, List, [], ◌∷◌, ◌++◌, length, map, take, drop, refl, sym, ◌∙◌, ap, subst, arith, inl, inr, append_assoc}
 use Rattle.std.proofs.lemmas.List.{append-nil, length-map, length-drop, drop-drop, drop_all, take-append-drop, take-map, drop-map}
 use Rattle.std.proofs.lemmas.Bool.Decides.{eqb_tells}
-use Rattle.pa_machine.specs.declared.title.Title.{Title}
+use Rattle.pa_slot.specs.declared.title.Title.{Title}
 use Rattle.pa_record.specs.declared.root.RootAct.TheVariants.{Give}
 use Rattle.pa_region.specs.Views.{stake_of}
 use Rattle.pa_rules.specs.Caches.{gives}

@@ -3,8 +3,8 @@ use Rattle.std.proofs.Common.{◌≡◌, ℕ, ◌<◌, List, [], ◌∷◌, ◌+
 use Rattle.std.specs.Prelude.{Contains}
 use Rattle.std.proofs.lemmas.List.{append-nil}
 use Rattle.std.proofs.lemmas.List.Elements.{Contains-append_left, Contains-append_right}
-use Rattle.pa_machine.specs.declared.title.Title.{Title}
-use Rattle.pa_machine.specs.Titles.{IsWellFormed}
+use Rattle.pa_slot.specs.declared.title.Title.{Title}
+use Rattle.pa_slot.specs.Titles.{IsWellFormed}
 use Rattle.pa_record.specs.declared.pool.PoolEntry.{PoolEntry}
 use Rattle.pa_record.specs.declared.root.RootAct.{RootAct}
 use Rattle.pa_record.specs.Numbers.{root_numbers}
@@ -91,12 +91,6 @@ for_asking j r p line None found a_root v u w one low names more = record {
 }
 for_asking j r p line (Some a) found a_root v u w two low names more = two_asking a j r p line (take_entry line p 1 found) a_root v u w two low names refl refl more
 
--- the entry in the root's list
-pub for_made : (j r p line : ℕ) (asked found : Option ℕ) (a_root : RootAct) (v u : View) → EntersFor j r p line asked found a_root v u →
-    (m : Made) × IsEnteredAt j r p (root_numbers (root_entry line a_root)) v u m
-for_made j r p line None found a_root v u one = (one.made, one.is_made)
-for_made j r p line (Some a) found a_root v u two = (two.made, two.is_made)
-
 -- it is among those that the seat which took the note has seen
 pub still_there : (j r p : ℕ) (numbers : List ℕ) (v u w : View) (m : Made) → IsEnteredAt j r p numbers v u m → IsBeginning (list_of p u) (list_of p w) → Contains (list_of p w) m
 still_there j r p numbers v u w m at more =
@@ -111,8 +105,8 @@ named v (u ∷ ts) t among = elim (in_cases u t ts among) [
   | inr later ↦ later_in (name_of u) (name_of t) (names (numbered_by v ts)) (named v ts t later)
 ]
 
--- What a seat has that asked a root and took its note: what it had, at the same numbers; the note's titles, at the note's numbers; and
--- none of them on a list.
+-- What a seat has that asked a root and took its note. It has what it had, at the same numbers, and the note's titles, at the
+-- note's numbers. None of them is on a list.
 pub record Took (s : StockValue) (u n : View) (titles : List Title) : Type 0 where
   pub keeps : Keeps s.view u
   pub has : HasOnly titles n

@@ -1,8 +1,8 @@
 -- The parts of an allocation: a title comes off a list, in a fill or as a direct map, and is issued to a register.
 use Rattle.std.specs.Prelude.{◌≡◌, ℕ, ◌-◌, ◌<◌, ◌≤◌, List, [], ◌∷◌, length, Option, Some, None, Contains, All, AllPairs, ◌≢◌, slice_set}
-use Rattle.pa_machine.specs.declared.title.Title.{Title}
-use Rattle.pa_machine.specs.declared.word.Step.TheVariants.{Issue}
-use Rattle.pa_machine.specs.Count.{number_of}
+use Rattle.pa_slot.specs.declared.title.Title.{Title}
+use Rattle.pa_slot.specs.declared.word.Step.TheVariants.{Issue}
+use Rattle.pa_slot.specs.Count.{number_of}
 use Rattle.pa_buckets.specs.Limits.{class_count}
 use Rattle.pa_buckets.specs.Bands.{fill_of, limit_of}
 use Rattle.pa_buckets.specs.Table.{slot_of}
@@ -45,7 +45,7 @@ pub record TakesFront (p class : ℕ) (t : Title) (before after : StockValue) : 
   pub long : t.len ≡ slot_of class
   pub after_is : after ≡ record before { caches = with_listed p class rest before.caches }
 
--- so it did; or the list is empty
+-- The front left the list of a partition and a class, or that list is empty and nothing was done.
 abbrev pub Pops : ℕ → ℕ → Option Title → (before after : StockValue) → Type 0
 Pops p class None before after = (after ≡ before) × (titles_in before.caches p class ≡ [])
 Pops p class (Some t) before after = TakesFront p class t before after
@@ -106,13 +106,14 @@ pub record MapsTitle (line p len : ℕ) (t : Title) (before after : StockValue) 
   pub long : length asked.words ≡ length note.words
   pub after_is : after ≡ record before { view = united asked note }
 
--- What a root that gives nothing says to a seat: entry j of its journal says that there's no room; or it ran out of memory, and
+-- What a root that gives nothing says to a seat. Entry j of its journal says that there's no room, or it ran out of memory, and
 -- nothing changed.
 abbrev pub GivesNone : (r line p count : ℕ) → Option ℕ → (before after : Share) → FillFault → Type 0
 GivesNone r line p count class before after (Full j) = IsFullFor j r p line count class before.view after.view
 GivesNone r line p count class before after OutOfMemory = after ≡ before
 
--- and so of a thread state
+-- What a root that gives nothing leaves of a thread state. Entry j of its journal says that there's no room, and nothing but the view
+-- is another, or it ran out of memory, and nothing changed.
 abbrev pub FindsNone : (line p count : ℕ) → Option ℕ → (before after : StockValue) → FillFault → Type 0
 FindsNone line p count class before after (Full j) =
     IsFullFor j before.thread p line count class before.view after.view × (after ≡ record before { view = after.view })

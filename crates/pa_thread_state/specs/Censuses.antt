@@ -8,8 +8,8 @@ use Rattle.pa_region.specs.Lists.{list_of, IsBeginning}
 use Rattle.pa_logs.specs.Listed.{IsPoolList}
 use Rattle.pa_logs.specs.Said.{IsCensusBy}
 
--- It is that of partition p's journal, which the seat has seen whole; and of the pool's entries it has seen those that the journal
--- names: so in any list of the pool that begins with what the seat has seen.
+-- The census is that of partition p's journal, which the seat has seen whole. Of the pool's entries the seat has seen those that the
+-- journal names, so it is the same in any list of the pool that begins with what the seat has seen.
 abbrev pub TellsCensus : ℕ → View → Census → Type 0
 TellsCensus p seat c =
     (list : List Made) (pools : List PoolEntry) → IsBeginning (list_of 4 seat) list → IsPoolList list pools → IsCensusBy (list_of p seat) list c

@@ -1,13 +1,13 @@
 -- How single calls of a worker's seat change its thread state.
 use Rattle.std.specs.Prelude.{◌≡◌, ℕ, ◌+◌, ◌<◌, ◌≤◌, Bool, true, false, List, ◌∷◌, length, Some, Contains, slice_set}
-use Rattle.pa_machine.specs.declared.title.Title.{Title}
-use Rattle.pa_machine.specs.declared.word.Step.{Step}
-use Rattle.pa_machine.specs.declared.word.Step.TheVariants.{Copy, Write}
-use Rattle.pa_machine.specs.Titles.{IsWellFormed}
+use Rattle.pa_slot.specs.declared.title.Title.{Title}
+use Rattle.pa_slot.specs.declared.word.Step.{Step}
+use Rattle.pa_slot.specs.declared.word.Step.TheVariants.{Copy, Write}
+use Rattle.pa_slot.specs.Titles.{IsWellFormed}
 use Rattle.pa_buckets.specs.Limits.{class_count}
 use Rattle.pa_buckets.specs.Bands.{limit_of}
-use Rattle.pa_machine.specs.declared.title.OwnState.TheVariants.{Clean, Dirty}
-use Rattle.pa_machine.specs.Count.{CanStep}
+use Rattle.pa_slot.specs.declared.title.OwnState.TheVariants.{Clean, Dirty}
+use Rattle.pa_slot.specs.Count.{CanStep}
 use Rattle.pa_record.specs.declared.entry.Seen.{Seen}
 use Rattle.pa_record.specs.Spans.{name_of}
 use Rattle.pa_region.specs.declared.view.View.{View}
@@ -28,7 +28,7 @@ pub record LooksAtSlot (h : Handle) (seen : Seen) (before after : StockValue) : 
   pub after_is : after ≡ record before { view = after_look h.title seen.found.0 before.view }
   pub found : IsFound h.title seen.found.0 before.view
 
--- It looked, and then read the content word number `place`.
+-- The seat looked at the handle's slot, and then read its content word number `place`.
 pub record ReadsAt (h : Handle) (place : ℕ) (seen : Seen) (value : ℕ) (before after : StockValue) : Type 0 where
   pub slot : seen.slot ≡ name_of h.title
   pub after_is : after ≡ record before { view = after_read h.title place value (after_look h.title seen.found.0 before.view) }
@@ -38,22 +38,22 @@ pub record ReadsAt (h : Handle) (place : ℕ) (seen : Seen) (value : ℕ) (befor
 abbrev pub CanFill : Handle → StockValue → Type 0
 CanFill h s = (0 < idle_of s.view h.title) × (0 < own_as s.view h.title Clean + own_as s.view h.title Dirty)
 
--- It wrote the value to the slot of its Own, and the step found this.
+-- The seat wrote the value to the slot of its Own, and the step found this.
 pub record WritesTo (h : Handle) (value : ℕ) (seen : Seen) (before after : StockValue) : Type 0 where
   pub slot : seen.slot ≡ name_of h.title
   pub after_is : after ≡ record before { view = after_count Write h.title seen.found.0 (filled h.title value before.view) }
   pub enabled : CanStep Write seen.found.0
   pub found : IsFound h.title seen.found.0 (filled h.title value before.view)
 
--- It let go of the handle of a register, by a reset or a free that found this when its view was `v`, and the register has that
--- instead.
+-- The seat let go of the handle of a register, by a reset or a free that found this when its view was `v`, and the register has
+-- `instead`.
 pub record LetsGo (step : Step) (h : Handle) (reg : ℕ) (instead : StockRegister) (v : View) (seen : Seen) (before after : StockValue) : Type 0 where
   pub slot : seen.slot ≡ name_of h.title
   pub after_is :
       after ≡ record before { view = after_count step h.title seen.found.0 v; registers = slice_set before.registers reg instead }
   pub found : IsFound h.title seen.found.0 v
 
--- It made another register a Ref of the handle's slot, by a step that found this.
+-- The seat made another register a Ref of the handle's slot, by a step that found this.
 pub record PointsTo (h : Handle) (to : ℕ) (seen : Seen) (before after : StockValue) : Type 0 where
   pub slot : seen.slot ≡ name_of h.title
   pub after_is :
@@ -86,11 +86,11 @@ pub record IsBack (h : Handle) (s : StockValue) : Type 0 where
   pub new : (p class : ℕ) → Contains (titles_in s.caches p class) h.title → ⊥
   pub made : HasSeenMade h s.view
 
--- it can't go to a list as that is: it is a direct map's, or the list of its class is as long as it may be
+-- the slot can't go to a list as that is: it is a direct map's, or the list of its class is as long as it may be
 abbrev pub NeedsRoot : Handle → StockValue → Type 0
 NeedsRoot h s = (class : ℕ) → h.class ≡ Some class → limit_of class ≤ length (titles_in s.caches h.partition class)
 
--- It was put at the front of the list of its class, which had room; or nothing was done, and it needs the root.
+-- The slot was put at the front of the list of its class, which had room, or nothing was done, and the slot needs the root.
 abbrev pub IsPut : Bool → Handle → (before after : StockValue) → Type 0
 IsPut true h before after =
     (class : ℕ) × (h.class ≡ Some class) × (class < class_count) × (length (titles_in before.caches h.partition class) < limit_of class)

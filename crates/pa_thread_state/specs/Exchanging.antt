@@ -1,6 +1,6 @@
 -- The three parts of an exchange: a register's handle is handed over, a cell gets it and gives what it had, and that is taken in.
 use Rattle.std.specs.Prelude.{◌≡◌, ℕ, ◌≤◌, List, [], ◌∷◌, ◌++◌, Bool, if◌then◌else◌, length, Option, Some, None, slice_set}
-use Rattle.pa_machine.specs.declared.title.Title.{Title}
+use Rattle.pa_slot.specs.declared.title.Title.{Title}
 use Rattle.pa_region.specs.declared.view.Entry.TheVariants.{Entered}
 use Rattle.pa_region.specs.declared.view.Made.{Made}
 use Rattle.pa_region.specs.Views.{free_of, own_of, ref_of, stake_of, seen_of, seen_among}
@@ -16,7 +16,7 @@ use Rattle.pa_cells.specs.Cells.{exchange_numbers, exchange_entry, made_with_cel
 use Rattle.pa_rules.specs.declared.register.Register.TheVariants.{Empty, Own, Ref}
 use Rattle.pa_op_specs.specs.Stocks.{StockRegister, StockValue, HasNoHandle, register_in}
 
--- the register that owns this slot or points to it; that has this handle; and that has what was found
+-- the register that owns this slot, or points to it
 abbrev pub handle_register : Bool → Handle → StockRegister
 handle_register own h = if own then Own h else Ref h
 
@@ -24,7 +24,7 @@ handle_register own h = if own then Own h else Ref h
 abbrev pub register_of : ParkedHandle → StockRegister
 register_of p = handle_register p.own p.handle
 
--- the register that has what was found; an empty one if nothing was
+-- the register that has what was found, empty if nothing was
 abbrev pub found_register : Option ParkedHandle → StockRegister
 found_register None = Empty
 found_register (Some p) = register_of p
@@ -33,7 +33,7 @@ found_register (Some p) = register_of p
 abbrev pub handle_parcel : ParkedHandle → Parcel
 handle_parcel p = parcel_of (handle_item p.own p.handle.title ∷ []) 0 []
 
--- A register's handle was handed over, and the register is empty; or it had none, and nothing was done.
+-- A register's handle was handed over, and the register is empty, or it had no handle, and nothing was done.
 abbrev pub Parks : ℕ → Option ParkedHandle → (before after : StockValue) → Type 0
 Parks reg None before after = (after ≡ before) × HasNoHandle (register_in before.registers reg)
 Parks reg (Some p) before after =
@@ -41,8 +41,8 @@ Parks reg (Some p) before after =
     × (p.note.view ≡ given_after (handle_parcel p) before.view)
     × (after ≡ record before { view = left_after (handle_parcel p) before.view; registers = slice_set before.registers reg Empty })
 
--- A cell got what was given, on this line, and gave what it had: the entry is after those that were made before it, and
--- the index is how many of them are of the cell. The seat lent its stake for it, and carries on with all it had.
+-- A cell got what was given, on this line, and gave what it had. The entry is after those that were made before it, and the index is
+-- how many of them are of the cell. The seat lent its stake for it, and carries on with all it had.
 pub record SwapsHandles (line cell : ℕ) (given found : Option ParkedHandle) (index : ℕ) (before after : StockValue) : Type 0 where
   pub older : List Made
   pub made : Made
@@ -61,13 +61,13 @@ pub record TakesHandleIn (reg : ℕ) (p : ParkedHandle) (before after : StockVal
   pub long : length before.view.words ≡ length p.note.view.words
   pub after_is : after ≡ record before { view = united before.view p.note.view; registers = slice_set before.registers reg (register_of p) }
 
--- so what was found, or nothing
+-- What was found was taken in, and the register has it. If nothing was found, the register is empty.
 abbrev pub TakesIn : ℕ → Option ParkedHandle → (before after : StockValue) → Type 0
 TakesIn reg None before after = after ≡ record before { registers = slice_set before.registers reg Empty }
 TakesIn reg (Some p) before after = TakesHandleIn reg p before after
 
--- Nothing was done but that a handle went out and came back: the registers and the lists are the same; and the seat has each title,
--- each stake and its log, and the budget as before, and has seen the same numbers and lists.
+-- Nothing was done but that a handle went out and came back. The registers and the lists are the same. The seat has each title, each
+-- stake and its log, and the budget as before, and has seen the same numbers and lists.
 pub record IsUndone (before after : StockValue) : Type 0 where
   pub thread : after.thread ≡ before.thread
   pub partitions : after.partitions ≡ before.partitions

@@ -1,8 +1,8 @@
 -- Titles that go back to the root of their partition: how that changes a worker's thread state, and what was entered for it.
 use Rattle.std.specs.Prelude.{◌≡◌, ℕ, ◌+◌, ◌*◌, ◌<◌, ◌≤◌, ◌==◌, ◌&&◌, ◌++◌, List, [], ◌∷◌, map, take, drop, Contains, slice_index, if◌then◌else◌}
-use Rattle.pa_machine.specs.declared.title.Title.{Title}
-use Rattle.pa_machine.specs.Titles.{IsWellFormed}
-use Rattle.pa_machine.specs.Holdings.{Thing}
+use Rattle.pa_slot.specs.declared.title.Title.{Title}
+use Rattle.pa_slot.specs.Titles.{IsWellFormed}
+use Rattle.pa_slot.specs.Holdings.{Thing}
 use Rattle.pa_record.specs.declared.root.RootAct.{RootAct}
 use Rattle.pa_record.specs.declared.root.RootAct.TheVariants.{Give}
 use Rattle.pa_record.specs.Numbers.{root_numbers}
@@ -74,13 +74,13 @@ GivesTail line p class keep before after =
     Gives line p (gives (drop keep (listed_in before p class)))
     (with_titles p class (take keep (titles_in before.caches p class)) (titles_in before.caches)) before after
 
--- the first 16 of them went back, in one entry
+-- the first 16 titles of a list after its first `keep` went back, in one entry
 abbrev pub GivesBatch : (line p class keep : ℕ) (before after : StockValue) → Type 0
 GivesBatch line p class keep before after =
     Gives line p (Give (numbered_by before.view (batch_after keep (titles_in before.caches p class))) ∷ [])
     (with_titles p class (rest_after keep (titles_in before.caches p class)) (titles_in before.caches)) before after
 
--- So many batches of 16 of a list's titles after the first `keep` went back: the list has the others, and the acts so far are the
+-- This many batches of 16 of a list's titles after the first `keep` went back. The list has the others, and the acts so far are the
 -- first of those of the whole tail.
 pub record GivesBatches (line p class keep batches : ℕ) (before after : StockValue) : Type 0 where
   pub acts : List RootAct

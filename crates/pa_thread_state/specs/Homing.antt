@@ -1,7 +1,7 @@
 -- Where a slot goes that a step returned, if its list has no room for it: alone back to its root, or to the front of its list after
 -- the list's tail went back.
 use Rattle.std.specs.Prelude.{◌≡◌, ℕ, ◌-◌, ◌/◌, ◌<◌, ◌⊎◌, [], ◌∷◌, Option, Some, None}
-use Rattle.pa_machine.specs.declared.title.Title.{Title}
+use Rattle.pa_slot.specs.declared.title.Title.{Title}
 use Rattle.pa_buckets.specs.Limits.{class_count}
 use Rattle.pa_buckets.specs.Bands.{limit_of}
 use Rattle.pa_region.specs.declared.view.View.{View}
@@ -19,7 +19,7 @@ abbrev pub ComesHome : Option ℕ → (r p line : ℕ) → (v after note : View)
 ComesHome None r p line v after note t = UnmapTakes r p line v after note t
 ComesHome (Some class) r p line v after note t = GiveTakes r p line v after note (t ∷ [])
 
--- the seat without a free title, and the note that has it
+-- the view of the seat without a free title
 abbrev pub without_title : Title → View → View
 without_title t v = left_after (frees_parcel (t ∷ [])) v
 
@@ -41,7 +41,7 @@ pub record Spills (line : ℕ) (h : Handle) (class : ℕ) (before after : StockV
   pub gives : GivesTail line h.partition class (limit_of class / 2 - 1) before between
   pub front : BecomesFront h class between after
 
--- The slot is where it belongs: a direct map, or a slot of a class that keeps no list, is in its root; else its list spilled.
+-- The slot is where it belongs. A direct map, or a slot of a class that keeps no list, is in its root. Else its list spilled.
 abbrev pub IsSettled : ℕ → Handle → (before after : StockValue) → Type 0
 IsSettled line h before after =
     (((class : ℕ) → h.class ≡ Some class → (class < class_count) × (limit_of class ≡ 0)) × GoesHome line h before after)

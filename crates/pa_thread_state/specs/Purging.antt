@@ -1,6 +1,6 @@
 -- A purge of one partition: its lists go back whole, and then its root is purged.
 use Rattle.std.specs.Prelude.{◌≡◌, ℕ, ◌-◌, ◌==◌, ◌&&◌, ◌++◌, List, [], nat_lt, if◌then◌else◌}
-use Rattle.pa_machine.specs.declared.title.Title.{Title}
+use Rattle.pa_slot.specs.declared.title.Title.{Title}
 use Rattle.pa_buckets.specs.Limits.{class_count}
 use Rattle.pa_record.specs.declared.root.RootAct.{RootAct}
 use Rattle.pa_rules.specs.Caches.{purge_acts, listed_slots}

@@ -1,7 +1,7 @@
 -- What a new heap parts the first seat of its region into, and the seat with which its workers begin.
 use Rattle.std.specs.Prelude.{◌≡◌, ℕ, ◌+◌, [], ◌∷◌, map}
-use Rattle.pa_machine.specs.declared.title.Title.{Title}
-use Rattle.pa_machine.specs.Holdings.{RawByte}
+use Rattle.pa_slot.specs.declared.title.Title.{Title}
+use Rattle.pa_slot.specs.Holdings.{RawByte}
 use Rattle.pa_region.specs.declared.marks.Mark.TheVariants.{Stake, Keeper}
 use Rattle.pa_region.specs.declared.view.View.{View}
 use Rattle.pa_region.specs.Views.{HasEveryStake, held_of_view, free_of, own_of, ref_of, seen_of}
@@ -12,7 +12,7 @@ use Rattle.pa_region.specs.Marks.{parcel_of}
 use Rattle.pa_region.specs.Start.{stakes_from}
 use Rattle.pa_region.specs.Waiting.{unclean_of}
 
--- a keeper; all 16 stakes, and this many counted steps
+-- a parcel of keeper k and nothing else
 abbrev pub keeper_parcel : ℕ → Parcel
 keeper_parcel k = parcel_of [] 0 (Keeper k ∷ [])
 
@@ -20,7 +20,7 @@ keeper_parcel k = parcel_of [] 0 (Keeper k ∷ [])
 abbrev pub stakes_parcel : ℕ → Parcel
 stakes_parcel budget = parcel_of [] budget (map Stake (numbers_from 0 16))
 
--- It has every stake, each with an empty log, and this many counted steps; and nothing more, no title, no byte, no keeper and
+-- The view has every stake, each with an empty log, and this many counted steps, and nothing more: no title, no byte, no keeper and
 -- no lease. It has seen no step, and nothing of any list.
 pub record HasAllStakes (budget : ℕ) (v : View) : Type 0 where
   pub all : v.stakes ≡ stakes_from 0 16

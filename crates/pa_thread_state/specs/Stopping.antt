@@ -1,8 +1,8 @@
 -- What is left of a worker's thread state after a call that ran out of memory.
 use Rattle.std.specs.Prelude.{◌≡◌, ℕ, ◌+◌, ◌-◌, ◌*◌, ◌/◌, ◌<◌, ◌⊎◌, length, Some, Contains}
-use Rattle.pa_machine.specs.declared.title.Title.{Title}
-use Rattle.pa_machine.specs.declared.word.Step.{Step}
-use Rattle.pa_machine.specs.Run.{IsReturning}
+use Rattle.pa_slot.specs.declared.title.Title.{Title}
+use Rattle.pa_slot.specs.declared.word.Step.{Step}
+use Rattle.pa_slot.specs.Run.{IsReturning}
 use Rattle.pa_buckets.specs.Limits.{class_count}
 use Rattle.pa_buckets.specs.Bands.{limit_of}
 use Rattle.pa_record.specs.declared.entry.Seen.{Seen}
@@ -17,7 +17,7 @@ use Rattle.pa_thread_state.specs.Changes.{IsBack, LetsGo, NeedsRoot}
 use Rattle.pa_thread_state.specs.Giving.{GivesBatches, TakesBack, with_titles}
 use Rattle.pa_thread_state.specs.Purging.{GivesLists}
 
--- It is of the same thread, and has its stake.
+-- The thread state is of the same thread, and has its stake.
 pub record KeepsItsStake (before after : StockValue) : Type 0 where
   pub thread : after.thread ≡ before.thread
   pub stake : HasItsStake after
@@ -47,8 +47,8 @@ pub record StopsTail (line p class keep : ℕ) (before after : StockValue) : Typ
   pub gave : GivesBatches line p class keep batches before between
   pub refused : RefusesBatch p class keep between after
 
--- Of a purge of partition p the lists of the first `classes` classes went back. The next list's tail stopped; or those were all, and the
--- root wasn't purged.
+-- Of a purge of partition p the lists of the first `classes` classes went back. Then the next list's tail stopped, or those were all,
+-- and the root wasn't purged.
 pub record StopsPartition (line p : ℕ) (before after : StockValue) : Type 0 where
   pub classes : ℕ
   pub between : StockValue
@@ -56,14 +56,14 @@ pub record StopsPartition (line p : ℕ) (before after : StockValue) : Type 0 wh
   pub stopped : ((classes < class_count) × StopsTail line p classes 0 between after) ⊎ ((classes ≡ class_count) × (after ≡ between))
 
 -- A slot that a step returned isn't where it belongs: its title is free in the seat and on no list. It was to go to its root alone,
--- and nothing else is another; or the tail of its list stopped, of which more than half the limit was to go back.
+-- and nothing else is another, or the tail of its list stopped, of which more than half the limit was to go back.
 pub record IsLeftOver (line : ℕ) (h : Handle) (before after : StockValue) : Type 0 where
   pub back : IsBack h after
   pub stopped :
       (((class : ℕ) → h.class ≡ Some class → limit_of class ≡ 0) × KeepsAll before after)
       ⊎ ((class : ℕ) × (h.class ≡ Some class) × (0 < limit_of class) × StopsTail line h.partition class (limit_of class / 2 - 1) before after)
 
--- A reset or a free ran out of memory. Its step is made, and the register has `instead`, as if it hadn't; the step returned the slot,
+-- A reset or a free ran out of memory. Its step is made, and the register has `instead`, as if it hadn't. The step returned the slot,
 -- whose list has no room or isn't there, so that it needs the root: nowhere else does memory run out. The slot is left over.
 pub record StopsRelease (line : ℕ) (step : Step) (h : Handle) (reg : ℕ) (instead : StockRegister) (v : View) (before after : StockValue) : Type 0 where
   pub seen : Seen

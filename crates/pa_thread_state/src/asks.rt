@@ -12,9 +12,9 @@ use crate::roots::with_root;
 use arrayvec::ArrayVec;
 use pa_buckets::Class;
 use pa_direct::Shape;
-use pa_machine::Title;
 use pa_region::{Name, Note, Seat};
 use pa_root::{FillFault, Root};
+use pa_slot::Title;
 use std::sync::{Mutex, Wait};
 
 // Asks the root of a partition for a fill of the class.

@@ -13,8 +13,8 @@ use pa_root::{Root, pools_are_read};
 use std::sync::{Mutex, Wait};
 
 impl<N: Name> Heap<N> {
-    /// What the root of a partition has, by its journal so far; the seat has seen all of that then. It makes no entry. A seat that
-    /// has every stake sees nothing new by it.
+    /// What the root of a partition has, by its journal so far, all of which the seat has seen then. It makes no entry. A seat
+    /// that has every stake sees nothing new by it.
     pub fn census<R: Wait>(&self, rt: &R, seat: &mut Seat, partition: u32) -> Census
         requires region { seat.old.region ≡ N.region }
         requires partition { partition < most_partitions }

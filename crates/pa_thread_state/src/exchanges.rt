@@ -12,13 +12,14 @@ use pa_cells::{
     Handle, Parked, givers_lack_handles, slots_stay_seen, takers_have_handles,
     what_was_handed_can_wait,
 };
-use pa_machine::{Item, OutOfMemory, Title};
+use pa_machine::Item;
 use pa_region::{Name, Note, Region, beginnings_join};
 use pa_rules::Register;
+use pa_slot::{OutOfMemory, Title};
 use std::sync::Wait;
 
 impl<N: Name> Stock<N> {
-    /// Hands over the handle of a register, which is empty then; or nothing, if it has none.
+    /// Hands over the handle of a register, which is empty then, or nothing, if it has none.
     pub fn park(&mut self, region: &Region, reg: u32) -> Option<Parked>
         requires region { region.now ≡ N.region }
         requires stake { HasItsStake self.old }

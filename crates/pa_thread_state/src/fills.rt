@@ -4,8 +4,8 @@ ghost use Rattle.pa_buckets.specs.Bands.{fill_of};
 ghost use Rattle.pa_trace.specs.Limits.{most_partitions};
 ghost use Rattle.pa_cache.specs.Caches.{HoldsFree};
 ghost use Rattle.pa_direct.specs.Shapes.{IsShape};
-ghost use Rattle.pa_machine.specs.declared.title.Title.{Title};
-ghost use Rattle.pa_machine.specs.Titles.{IsWellFormed};
+ghost use Rattle.pa_slot.specs.declared.title.Title.{Title};
+ghost use Rattle.pa_slot.specs.Titles.{IsWellFormed};
 ghost use Rattle.pa_region.specs.Shares.{byte_word_count};
 ghost use Rattle.pa_root.specs.Handing.{FillGives, HasOnly, MapGives};
 ghost use Rattle.pa_op_specs.specs.Stocks.{titles_in};
@@ -21,9 +21,9 @@ use pa_buckets::Class;
 use pa_cache::other_lists_stay;
 use pa_cells::slots_stay_seen;
 use pa_direct::Shape;
-use pa_machine::Title;
 use pa_region::{Name, Note, Seat};
 use pa_root::FillFault;
+use pa_slot::Title;
 use std::sync::Wait;
 
 impl<N: Name> Stock<N> {

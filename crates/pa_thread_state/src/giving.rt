@@ -22,9 +22,10 @@ use arrayvec::ArrayVec;
 use pa_buckets::Class;
 use pa_cache::other_lists_stay;
 use pa_cells::slots_stay_seen;
-use pa_machine::{Item, OutOfMemory, Title};
+use pa_machine::Item;
 use pa_region::{Name, Note, Region, Seat, kept_numbers_stay, seen_lists_join, seen_numbers_join};
 use pa_root::Root;
+use pa_slot::{OutOfMemory, Title};
 use std::sync::{Mutex, Wait};
 
 // How many titles go back in one entry.
@@ -193,7 +194,8 @@ fn free_items(titles: &[Title]) -> [Item; 16]
     items
 }
 
-// Gives the titles of a note to the root of this partition. The note comes back if this runs out of memory; nothing changed then.
+// Gives the titles of a note to the root of this partition. If this runs out of memory, the note comes back, and nothing
+// changed.
 fn give_to<N: Name, R: Wait>(
     rt: &R,
     heap: &Heap<N>,
@@ -219,7 +221,7 @@ fn give_to<N: Name, R: Wait>(
     with_root!(heap, partition, root => give_in(rt, heap, root, seat, line, note, titles))
 }
 
-// Gives them to the root behind this lock.
+// Gives the titles of a note to the root behind this lock.
 fn give_in<N: Name, R: Wait, const P: u32>(
     rt: &R,
     heap: &Heap<N>,

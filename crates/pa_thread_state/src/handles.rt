@@ -5,9 +5,9 @@ ghost use Rattle.pa_op_specs.specs.Stocks.{HasHandleTo, HasNoHandle, register_in
 ghost use Rattle.pa_op_specs.specs.Workers.{HasItsStake};
 ghost use Rattle.pa_rules.specs.declared.register.Register.TheVariants.{Ref, Own};
 ghost use Rattle.pa_thread_state.specs.Changes.{LooksAtSlot, ReadsAt, CanFill, WritesTo, PointsTo, LetsGo};
-ghost use Rattle.pa_machine.specs.Titles.{content_count};
-ghost use Rattle.pa_machine.specs.declared.word.Step.TheVariants as steps;
-ghost use Rattle.pa_machine.specs.Run.{IsReturning};
+ghost use Rattle.pa_slot.specs.Titles.{content_count};
+ghost use Rattle.pa_slot.specs.declared.word.Step.TheVariants as steps;
+ghost use Rattle.pa_slot.specs.Run.{IsReturning};
 ghost use Rattle.pa_count.specs.declared.steps.Fate.TheVariants as fates;
 ghost use Rattle.pa_region.specs.Views.{free_of};
 ghost use Rattle.pa_quarantine.specs.Filling.{poisoned};

@@ -11,10 +11,10 @@ ghost use Rattle.pa_region.specs.Hands.{left_after, given_after};
 ghost use Rattle.pa_thread_state.specs.Starts.{HasAllStakes, keeper_parcel, stakes_parcel};
 
 use pa_cells::Cells;
-use pa_machine::OutOfMemory;
 use pa_pool::Pool;
 use pa_region::{Mark, Name, Note, Region, Seat};
 use pa_root::Root;
+use pa_slot::OutOfMemory;
 use std::alloc::Global;
 use std::marker::Model;
 use std::sync::Mutex;
@@ -52,7 +52,7 @@ pub struct Heap<N: Name> {
     pub(crate) cells: Mutex<Cells<N>>,
 }
 
-/// The parts of a heap: the region; behind their locks the pool, the roots of partitions 0 to 3, and the cells.
+/// The parts of a heap: the region, and, each behind its lock, the pool, the roots of partitions 0 to 3, and the cells.
 pub type HeapParts<N> = (
     Region,
     Mutex<Pool<N>>,
@@ -76,7 +76,7 @@ impl<N: Name> Model for Heap<N> {
 
 impl<N: Name> Heap<N> {
     /// A heap over a new region of this many super pages, 1 to 16, with the region's first seat. The seat that comes back has
-    /// every stake, each with an empty log, and the whole budget; the heap has all else.
+    /// every stake, each with an empty log, and the whole budget. The heap has all else.
     pub fn open(
         alloc: Global,
         supers: u32,
@@ -108,7 +108,7 @@ impl<N: Name> Heap<N> {
         Ok((heap, workers.seat()))
     }
 
-    /// What it shared: the region; behind their locks the pool, the roots of partitions 0 to 3, and the cells.
+    /// What the heap shared: the region, and, each behind its lock, the pool, the roots of partitions 0 to 3, and the cells.
     pub fn parts(self) -> HeapParts<N>
         ensures { result.0 ≡ N.region }
     {

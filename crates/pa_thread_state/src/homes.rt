@@ -1,6 +1,6 @@
 //! Slots that a step returned and that their lists have no room for.
 ghost use Rattle.std.specs.Prelude.{◌≡◌, ◌-◌, ◌/◌, ◌<◌, ◌≤◌, List, [], ◌∷◌, length, Some, OnOk, IfErr, OnErr};
-ghost use Rattle.pa_machine.specs.declared.title.Title.{Title};
+ghost use Rattle.pa_slot.specs.declared.title.Title.{Title};
 ghost use Rattle.pa_buckets.specs.Bands.{limit_of};
 ghost use Rattle.pa_region.specs.Views.{least_stake};
 ghost use Rattle.pa_region.specs.Hands.{IsParted, united};
@@ -18,9 +18,10 @@ use crate::stock::Stock;
 use arrayvec::ArrayVec;
 use pa_buckets::{Class, cache_limit};
 use pa_cells::{Handle, slots_stay_seen};
-use pa_machine::{Item, OutOfMemory};
+use pa_machine::Item;
 use pa_region::{Name, Note, Seat, beginnings_join, seen_lists_join, seen_numbers_join};
 use pa_root::Root;
+use pa_slot::OutOfMemory;
 use std::sync::{Mutex, Wait};
 
 impl<N: Name> Stock<N> {

@@ -1,7 +1,7 @@
 //! What the workers of a heap share, what each of them has, and the single calls that its ops are made of.
 //!
 //! A heap has the region and, each behind a lock of its own, the pool, the roots and the cells. A worker's thread state is its seat of
-//! the region, its registers and its lists of free slots; each call here says how it changes the thread state.
+//! the region, its registers and its lists of free slots. Each call here says how it changes the thread state.
 #![tactic(auto)]
 
 mod asks;

@@ -14,9 +14,9 @@ use crate::roots::with_root;
 use crate::stock::Stock;
 use pa_buckets::CLASSES;
 use pa_cells::slots_stay_seen;
-use pa_machine::OutOfMemory;
 use pa_region::{Name, Seat, kept_numbers_stay};
 use pa_root::Root;
+use pa_slot::OutOfMemory;
 use std::sync::{Mutex, Wait};
 
 impl<N: Name> Stock<N> {

@@ -1,6 +1,6 @@
 //! Resets and frees, with what becomes of a slot that they return.
 ghost use Rattle.std.specs.Prelude.{◌≡◌, ◌+◌, ◌<◌, ◌≤◌, IfOk, OnOk, OnErr};
-ghost use Rattle.pa_machine.specs.declared.word.Step.TheVariants as steps;
+ghost use Rattle.pa_slot.specs.declared.word.Step.TheVariants as steps;
 ghost use Rattle.pa_trace.specs.Limits.{register_count};
 ghost use Rattle.pa_quarantine.specs.Filling.{poisoned};
 ghost use Rattle.pa_rules.specs.declared.register.Register.TheVariants as registers;
@@ -14,14 +14,15 @@ use crate::heap::Heap;
 use crate::stock::Stock;
 use pa_cells::Handle;
 use pa_count::Fate;
-use pa_machine::OutOfMemory;
 use pa_record::Seen;
 use pa_region::{Name, counted_steps_leave, owns_change, states_are_owns};
+use pa_slot::OutOfMemory;
 use std::sync::Wait;
 
 impl<N: Name> Stock<N> {
     /// Resets the `raw_ptr` of a register, which is cleared, and brings a slot that this returns where it belongs. It runs out
-    /// of memory only if that needs the root; then the step remains made, and the seat has the slot's title, which is on no list.
+    /// of memory only if that needs the root. The step remains made then, and the seat has the slot's title, which is on no
+    /// list.
     pub fn reset<R: Wait>(
         &mut self,
         rt: &R,
@@ -51,8 +52,8 @@ impl<N: Name> Stock<N> {
         }
     }
 
-    /// Poisons the slot that a register owns and frees it, and brings it where it belongs if this returns it. It runs out
-    /// of memory only if that needs the root; then the step remains made, and the seat has the slot's title, which is on no list.
+    /// Poisons the slot that a register owns and frees it, and brings it where it belongs if this returns it. It runs out of
+    /// memory only if that needs the root. The step remains made then, and the seat has the slot's title, which is on no list.
     pub fn free<R: Wait>(
         &mut self,
         rt: &R,

@@ -12,7 +12,7 @@ use pa_totals::{Owed, settle_all, whole_settlings_leave};
 use pa_trace::MOST_PARTITIONS;
 
 impl<N: Name> Stock<N> {
-    /// Adds what the thread owes to the totals words of each partition, in bytes; then it owes nothing.
+    /// Adds what the thread owes to the totals words of each partition, in bytes. It owes nothing then.
     pub fn settle_totals(&mut self, region: &Region, owed: &mut [Owed; MOST_PARTITIONS as usize])
         requires region { region.now ≡ N.region }
         requires stake { HasItsStake self.old }

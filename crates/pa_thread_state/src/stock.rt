@@ -1,6 +1,6 @@
 ghost use Rattle.std.specs.Prelude.{◌≡◌, ℕ, ◌<◌, ◌≤◌, length};
-ghost use Rattle.pa_machine.specs.Titles.{IsWellFormed};
-ghost use Rattle.pa_machine.specs.Links.{AreLinked};
+ghost use Rattle.pa_slot.specs.Titles.{IsWellFormed};
+ghost use Rattle.pa_slot.specs.Links.{AreLinked};
 ghost use Rattle.pa_layout.specs.Limits.{most_words};
 ghost use Rattle.pa_record.specs.Spans.{name_of};
 ghost use Rattle.pa_trace.specs.Limits.{register_count};
@@ -13,9 +13,9 @@ ghost use Rattle.pa_op_specs.specs.Stocks.{IsStock, HasHandleTo, register_in, ti
 
 use pa_cache::Cache;
 use pa_cells::Handle;
-use pa_machine::{SlotName, Title};
 use pa_region::{Name, Note, Seat};
 use pa_rules::Register;
+use pa_slot::{SlotName, Title};
 use std::marker::{Model, PhantomData};
 
 /// A worker's thread state: its seat, its registers and its lists of free slots, with the number of its thread and of the run's
@@ -46,7 +46,7 @@ impl<N: Name> Model for Stock<N> {
 }
 
 impl<N: Name> Stock<N> {
-    /// What the type keeps, and the type of its seat. It costs nothing.
+    /// What the thread state's type keeps, and the type of its seat. It costs nothing.
     pub fn kept(&self)
         ensures stock { IsStock self.now }
         ensures links { (p class : ℕ) → AreLinked self.now.view.words (slot_names (titles_in self.now.caches p class)) }
@@ -99,7 +99,7 @@ impl<N: Name> Stock<N> {
         self.registers[reg as usize]
     }
 
-    /// Its seat, once its stake is handed over.
+    /// The thread state's seat, once its stake is handed over.
     pub fn into_note(self) -> Note
         requires { (k : ℕ) → stake_of self.view k ≡ 0 }
         ensures region { result.region ≡ N.region }

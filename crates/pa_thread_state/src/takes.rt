@@ -9,10 +9,10 @@ use crate::listing::place_of;
 use crate::stock::{Stock, slot_name};
 use pa_buckets::Class;
 use pa_cells::Handle;
-use pa_machine::Title;
 use pa_record::{Answer, Seen};
 use pa_region::{Name, Region, counted_steps_leave, filled_words_have_the_value};
 use pa_rules::Register;
+use pa_slot::Title;
 
 impl<N: Name> Stock<N> {
     /// Takes the front title off the list of a partition and a class, or returns `None` if and only if the list is empty.
@@ -27,7 +27,7 @@ impl<N: Name> Stock<N> {
         cache.pop(region, &mut self.seat)
     }
 
-    /// Issues the free title of a slot, and the register owns it: its content is zeroed before.
+    /// Issues the free title of a slot to a register, which owns it then. Its content is zeroed before.
     pub fn issue(&mut self, region: &Region, handle: Handle, reg: u32) -> Answer
         requires region { region.now ≡ N.region }
         requires stake { HasItsStake self.old }

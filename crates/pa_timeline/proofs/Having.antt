@@ -4,8 +4,8 @@ use Rattle.std.specs.Prelude.{Contains, AllPairs, ◌==◌, nat_lt, slice_index_
 use Rattle.std.specs.List.{list_all}
 use Rattle.std.proofs.lemmas.Bool.{cases_eq, eq-eqb, ne_eqb, lt-ltb, eqb-true}
 use Rattle.std.proofs.lemmas.List.Elements.{All-from_recursion, All-contains}
-use Rattle.pa_machine.specs.Count.{number_of}
-use Rattle.pa_machine.specs.Run.{Mark}
+use Rattle.pa_slot.specs.Count.{number_of}
+use Rattle.pa_slot.specs.Run.{Mark}
 use Rattle.pa_trace.specs.declared.script.Op.{Op}
 use Rattle.pa_trace.specs.declared.script.Op.TheVariants as ops
 use Rattle.pa_record.specs.declared.entry.Seen.{Seen}
@@ -30,7 +30,7 @@ use Rattle.pa_timeline.proofs.Places.{moment}
 
 -- ---- tests
 
--- each member passes beside those before it
+-- the test that each member passes beside those before it
 abbrev each_after : {A : Type 0} → (List A → A → Bool) → List A → List A → Bool
 each_after test before [] = true
 each_after test before (x ∷ xs) = test before x && each_after test (before ++ x ∷ []) xs

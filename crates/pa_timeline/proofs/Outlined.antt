@@ -4,7 +4,7 @@ use Rattle.std.specs.Prelude.{Contains, option_and_then}
 use Rattle.std.specs.List.{filter_map, flat_map, range_with_len}
 use Rattle.std.proofs.lemmas.Bool.{cases_Bool}
 use Rattle.std.proofs.lemmas.List.Elements.{All-contains, filter_map-append}
-use Rattle.pa_machine.specs.declared.word.SlotName.{SlotName}
+use Rattle.pa_slot.specs.declared.word.SlotName.{SlotName}
 use Rattle.pa_record.specs.declared.entry.Answer.{Answer}
 use Rattle.pa_record.specs.declared.entry.Answer.TheVariants as answers
 use Rattle.pa_record.specs.declared.root.RootAct.{RootAct}
@@ -37,7 +37,7 @@ stays_of x part = Some (moment x part)
 abbrev pub stays : Moment → Option Moment
 stays m = stays_of m.x m.part
 
--- it is itself
+-- a moment that stays is itself
 pub stays_is : (x : Played) (part : Part) (n : Moment) → stays_of x part ≡ Some n → moment x part ≡ n
 stays_is x (Spoiling word) n e = absurd cc
 stays_is x part n e = of_some (moment x part) n e

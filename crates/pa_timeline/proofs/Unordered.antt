@@ -1,10 +1,10 @@
 -- Four runs that have no timeline, by what their reads gave.
-use Rattle.std.proofs.Common.{◌≡◌, ℕ, ◌<◌, Bool, true, false, List, [], ◌∷◌, ◌++◌, map, drop, length, get_or, Some, refl, sym, ◌∙◌, ap, subst, arith, inl, inr, append_assoc, true≢false}
+use Rattle.std.proofs.Common.{◌≡◌, ℕ, ◌<◌, Bool, true, false, List, [], ◌∷◌, ◌++◌, map, drop, length, get_or, Some, refl, sym, ◌∙◌, ap, subst, arith, inl, inr, append_assoc}
 use Rattle.std.specs.Prelude.{Contains, AllPairs, ◌≢◌, ◌==◌, ◌||◌, ◌&&◌}
 use Rattle.std.specs.List.{flat_map, list_all}
-use Rattle.std.proofs.lemmas.Bool.{eqb-true}
-use Rattle.pa_machine.specs.declared.word.Step.TheVariants as steps
-use Rattle.pa_machine.specs.Titles.{poison}
+use Rattle.std.proofs.lemmas.Bool.{eqb-true, both_ways}
+use Rattle.pa_slot.specs.declared.word.Step.TheVariants as steps
+use Rattle.pa_slot.specs.Titles.{poison}
 use Rattle.pa_trace.specs.declared.script.Op.TheVariants as ops
 use Rattle.pa_record.specs.declared.entry.Answer.TheVariants as answers
 use Rattle.pa_record.specs.declared.history.CellEntry.{CellEntry}
@@ -43,9 +43,6 @@ among_all : (records : List Played) (journal : List RootEntry) (z : Moment) → 
 among_all records journal z of due =
     flat_in (λ x. map (moment x) (due_in records journal x)) records z.x z of (map_in (moment z.x) (due_in records journal z.x) z.part due)
 
-not_both : (b : Bool) → b ≡ true → b ≡ false → ⊥
-not_both b e f = true≢false (sym e ∙ f)
-
 not_zero : poison ≡ 0 → ⊥
 not_zero e = omega arith
 
@@ -78,7 +75,7 @@ the_poisoning : (records : List Played) (free : Played) (place : ℕ) (z : Momen
     leaves_as 0 (moment_leaves lower_slot place z) ≡ false → z ≡ moment free (Spoiling place)
 the_poisoning records free place z differ there line of test changes =
     elim (either_of (leaves_as 0 (moment_leaves lower_slot place z)) ((z.x.line == 7) && spoils place z.part) test) [
-      | inl clean ↦ absurd (not_both _ clean changes)
+      | inl clean ↦ absurd (both_ways _ changes clean)
       | inr both ↦
           let (at_line, part) = both_true (z.x.line == 7) (spoils place z.part) both in
           let same : z.x ≡ free = one_by (λ (y : Played). y.line) records z.x free differ of there (eqb-true z.x.line 7 at_line ∙ sym line) in
@@ -180,14 +177,14 @@ first_there [] ws = refl
 first_there (u ∷ us) ws = ap (λ b. spoils 0 u || b) (first_there us ws) ∙ or_true (spoils 0 u)
 
 never_back : (us vs ws : List Part) → Spoiling 0 ∷ Spoiling 1 ∷ Spoiling 2 ∷ Counting ∷ [] ≡ us ++ Spoiling 1 ∷ (vs ++ Spoiling 0 ∷ ws) → ⊥
-never_back [] vs ws e = not_both (has_first (Spoiling 1 ∷ Spoiling 2 ∷ Counting ∷ [])) (ap (λ zs. has_first (drop 1 zs)) e ∙ first_there vs ws) refl
+never_back [] vs ws e = both_ways (has_first (Spoiling 1 ∷ Spoiling 2 ∷ Counting ∷ [])) refl (ap (λ zs. has_first (drop 1 zs)) e ∙ first_there vs ws)
 never_back (u ∷ us) vs ws e =
     let later : has_first (us ++ Spoiling 1 ∷ (vs ++ Spoiling 0 ∷ ws)) ≡ true =
     ap has_first (sym (append_assoc us (Spoiling 1 ∷ vs) (Spoiling 0 ∷ ws))) ∙ first_there (us ++ Spoiling 1 ∷ vs) ws in
-    not_both (has_first (Spoiling 1 ∷ Spoiling 2 ∷ Counting ∷ [])) (ap (λ zs. has_first (drop 1 zs)) e ∙ later) refl
+    both_ways (has_first (Spoiling 1 ∷ Spoiling 2 ∷ Counting ∷ [])) refl (ap (λ zs. has_first (drop 1 zs)) e ∙ later)
 
 not_the_first : Spoiling 0 ≡ Spoiling 1 → ⊥
-not_the_first e = not_both (spoils 0 (Spoiling 1)) (sym (ap (spoils 0) e)) refl
+not_the_first e = both_ways (spoils 0 (Spoiling 1)) refl (sym (ap (spoils 0) e))
 
 pub second_word_has_none : SecondWordHasNone
 second_word_has_none report (ms, t) =
@@ -231,7 +228,7 @@ early_has_none report (ms, t) =
     let (n, z, at_z, low, of, among, changes) = changer_before all one_fill _ _ ms t 0 i (moment (early_at 4) Loading) at_i refl (refl, inl refl) in
     elim (either_of (leaves_as 0 (moment_leaves lower_slot 0 z)) (z.x.line == 10)
     (passes frees_last (moments_in all one_fill) z early_frees among)) [
-      | inl clean ↦ not_both _ clean changes
+      | inl clean ↦ both_ways _ changes clean
       | inr last ↦
           let same : z.x ≡ early_at 7 = one_by (λ (y : Played). y.line) all z.x (early_at 7) differ of (at_in all 7 (early_at 7) refl) (eqb-true z.x.line 10 last) in
           let c = by_line _ _ _ _ _ ms t.ordered k n (moment (early_at 6) Swapping) z at_k at_z (subst (λ y. StandsBefore (early_at 6) y) (sym same) (inl (refl, omega arith))) in
@@ -263,7 +260,7 @@ copied_has_none report (ms, t) =
     let (n, z, at_z, low, of, among, changes) = changer_before all one_fill _ _ ms t 0 i (moment (copied_at 4) Loading) at_i refl (refl, inl refl) in
     elim (either_of (leaves_as 0 (moment_leaves lower_slot 0 z)) (z.x.line == 10)
     (passes frees_last (moments_in all one_fill) z copied_frees among)) [
-      | inl clean ↦ not_both _ clean changes
+      | inl clean ↦ both_ways _ changes clean
       | inr last ↦
           let same : z.x ≡ copied_at 7 = one_by (λ (y : Played). y.line) all z.x (copied_at 7) differ of (at_in all 7 (copied_at 7) refl) (eqb-true z.x.line 10 last) in
           let c = by_line _ _ _ _ _ ms t.ordered k n (moment (copied_at 6) Counting) z at_k at_z (subst (λ y. StandsBefore (copied_at 6) y) (sym same) (inl (refl, omega arith))) in

@@ -1,10 +1,10 @@
 -- An order of all steps of a run, in which it could have been played one step after another.
 use Rattle.std.specs.Prelude.{◌≡◌, ℕ, ◌/◌, ◌==◌, ◌⊎◌, if◌then◌else◌, Bool, false, List, [], ◌∷◌, ◌++◌, map, filter, Option, Some, None, Contains, All, AllPairs, count_by}
 use Rattle.std.specs.List.{filter_map, flat_map, range_with_len}
-use Rattle.pa_machine.specs.declared.word.SlotName.{SlotName}
-use Rattle.pa_machine.specs.Count.{number_of}
-use Rattle.pa_machine.specs.Run.{Mark, same_slot}
-use Rattle.pa_machine.specs.Titles.{poison}
+use Rattle.pa_slot.specs.declared.word.SlotName.{SlotName}
+use Rattle.pa_slot.specs.Count.{number_of}
+use Rattle.pa_slot.specs.Run.{Mark, same_slot}
+use Rattle.pa_slot.specs.Titles.{poison}
 use Rattle.pa_trace.specs.declared.script.Op.{Op}
 use Rattle.pa_trace.specs.declared.script.Op.TheVariants as ops
 use Rattle.pa_trace.specs.declared.script.Trace.{Trace}
@@ -24,9 +24,9 @@ use Rattle.pa_rules.specs.Roots.{Journals}
 use Rattle.pa_rules.specs.Caches.{acts_of}
 use Rattle.pa_rules.specs.Told.{Told, records_of}
 
--- A step of a record: its entry in the pool; one in a partition's journal, with what it did; its exchange; a load of the count word; a
--- load of a content word; the poisoning of a content word; and its counted step. A write's stores are part of its counted step: while
--- it is made only its owner has a handle.
+-- A step of a record: its entry in the pool, one in a partition's journal, with what it did, its exchange, a load of the count
+-- word, a load of a content word, the poisoning of a content word, or its counted step. A write's stores are part of its
+-- counted step: while it is made only its owner has a handle.
 pub data Part : Type 0 where
   Asking : Part
   Entering : ℕ → RootAct → Part
@@ -43,7 +43,7 @@ pub record Moment : Type 0 where
 
 -- ---- the steps of a record
 
--- an entry of a journal, after the pool's entry if it names one
+-- these steps, after a step that is the entry in the pool, if one is named
 abbrev pub asking_before : Option ℕ → List Part → List Part
 asking_before None parts = parts
 asking_before (Some j) parts = Asking ∷ parts
@@ -97,7 +97,7 @@ parts_in line ms = map (λ (m : Moment). m.part) (filter (λ (m : Moment). m.x.l
 
 -- ---- the lists that moments make
 
--- what a moment enters in partition p's journal; that journal
+-- the entry that a step on this line makes in partition p's journal, if it makes one
 abbrev pub part_enters : ℕ → ℕ → Part → Option RootEntry
 part_enters p line (Entering q act) = if q == p then Some (record { line = line; act = act }) else None
 part_enters p line part = None
@@ -106,7 +106,7 @@ part_enters p line part = None
 abbrev pub journal_made : ℕ → List Moment → List RootEntry
 journal_made p ms = filter_map (λ (m : Moment). part_enters p m.x.line m.part) ms
 
--- the lines of the entries of the pool, and of the exchanges of cell k
+-- the line, if the step is an entry in the pool
 abbrev pub part_asks : ℕ → Part → Option ℕ
 part_asks line Asking = Some line
 part_asks line part = None
@@ -126,12 +126,12 @@ swap_lines k ms = filter_map (λ (m : Moment). part_swaps k m.x.line m.x.op m.pa
 
 -- ---- what moments leave in a slot
 
--- a mark of slot s
+-- the test whether a mark is of slot s
 abbrev pub is_of_slot : SlotName → Option Mark → Bool
 is_of_slot s None = false
 is_of_slot s (Some m) = same_slot m.slot s
 
--- how many of the moments are counted steps of slot s
+-- the test whether a record's step is a counted step of slot s
 abbrev pub is_counted_on : SlotName → Played → Part → Bool
 is_counted_on s x Counting = is_of_slot s (mark_of x)
 is_counted_on s x part = false
@@ -140,7 +140,7 @@ is_counted_on s x part = false
 abbrev pub counted_steps : SlotName → List Moment → ℕ
 counted_steps s ms = count_by (λ (m : Moment). is_counted_on s m.x m.part) ms
 
--- an issue leaves 0 in all content words, and a write its value
+-- what a counted step leaves in all content words, if it changes them: 0 by an issue, and its value by a write
 abbrev pub value_left : Op → Answer → Option ℕ
 value_left op (Made seen usable) = Some 0
 value_left (ops.Write reg value) (Done seen) = Some value
@@ -152,7 +152,7 @@ part_leaves place x Counting = value_left x.op x.answer
 part_leaves place x (Spoiling word) = if word == place then Some poison else None
 part_leaves place x part = None
 
--- the same of slot s alone
+-- what a moment leaves in content word `place` of slot s, if it changes it
 abbrev pub moment_leaves : SlotName → ℕ → Moment → Option ℕ
 moment_leaves s place m = if is_of_slot s (mark_of m.x) then part_leaves place m.x m.part else None
 
@@ -168,7 +168,7 @@ content_after s place content (m ∷ ms) = content_after s place (changed_to (mo
 
 -- ---- an order of all steps
 
--- a look or a counted step; a read of this word, which gave this value
+-- the step is a look or a counted step
 abbrev pub IsTouch : Part → Type 0
 IsTouch part = (part ≡ Looking) ⊎ (part ≡ Counting)
 
@@ -212,7 +212,7 @@ HasTimeline t r = (ms : List Moment) × IsTimeline (usable_in (records_of t r)) 
 abbrev pub outline_parts : ℕ → Journals → Played → List Part
 outline_parts partitions roots x = answer_parts 0 x.op (entry_parts partitions roots x.line) x.answer
 
--- a run has an outline if some moments are such an order of these steps; of what reads gave an outline says nothing
+-- a run has an outline if some moments are an order of its steps without the poisonings, which says nothing of what reads gave
 abbrev pub HasOutline : Trace → Told → Type 0
 HasOutline t r = (ms : List Moment) × IsStepOrder (outline_parts t.partitions r.roots) (records_of t r) r.pools r.roots r.cells ms
 

@@ -1,7 +1,7 @@
 -- Small runs of two threads that were worked out by hand: one that has a timeline, and five legal ones that have none.
 use Rattle.std.specs.Prelude.{ℕ, List, [], ◌∷◌, map, Some}
-use Rattle.pa_machine.specs.declared.word.SlotName.{SlotName}
-use Rattle.pa_machine.specs.Titles.{poison}
+use Rattle.pa_slot.specs.declared.word.SlotName.{SlotName}
+use Rattle.pa_slot.specs.Titles.{poison}
 use Rattle.pa_trace.specs.declared.script.Trace.{Trace}
 use Rattle.pa_trace.specs.declared.script.Line.{Line}
 use Rattle.pa_trace.specs.declared.script.Line.TheVariants.{Phase, Do}
@@ -30,11 +30,11 @@ told_as records journals pools histories report =
 abbrev pub trace_as : List Line → Trace
 trace_as lines = record { region = 1; partitions = 1; threads = 2; lines = lines }
 
--- the two slots of the runs, and what is found in one
+-- the first of the two slots of these runs
 abbrev pub lower_slot : SlotName
 lower_slot = record { start = 16384; born = 0 }
 
--- the second slot, 16 bytes after the first
+-- the second of the two slots of these runs, 16 bytes after the first
 abbrev pub upper_slot : SlotName
 upper_slot = record { start = 16400; born = 0 }
 
@@ -59,7 +59,7 @@ passed_on from to slot =
 
 -- ---- one that has a timeline
 
--- thread 0 hands a raw_ptr to thread 1 and frees the slot; the read of thread 1 finds the bit, and poison
+-- thread 0 hands a raw_ptr to thread 1 and frees the slot, and the read of thread 1 finds the bit, and poison
 abbrev pub read_trace : Trace
 read_trace =
     trace_as
@@ -72,7 +72,8 @@ read_trace =
     ∷ Do 1 (ops.Read 0 0)
     ∷ [])
 
--- its six records: the free of thread 0 and the read of thread 1 find the same count word, and the read gives poison
+-- the six records of `read_trace`: the free of thread 0 and the read of thread 1 find the same count word, and the read gives
+-- poison
 abbrev pub read_records : List Played
 read_records =
     record { line = 2; thread = 0; phase = 1; op = ops.Alloc 0 0 8; answer = answers.Made (slot_seen lower_slot 0) 8 }
@@ -83,7 +84,7 @@ read_records =
     ∷ record { line = 8; thread = 1; phase = 2; op = ops.Read 0 0; answer = answers.Value (slot_seen lower_slot 0x2000003) poison }
     ∷ []
 
--- this run has a timeline, whatever its report
+-- the run of `read_records` has a timeline, whatever its report
 abbrev pub ThreadsHaveOne : Type 0
 ThreadsHaveOne =
     (report : List ReportLine) →
@@ -112,7 +113,7 @@ two_slots_trace =
     ∷ Do 1 (ops.Reset 3)
     ∷ [])
 
--- its twelve records: the first slot was freed and then reset, and the second was reset and then freed
+-- the twelve records of `two_slots_trace`: the first slot was freed and then reset, and the second was reset and then freed
 abbrev pub two_slots_records : List Played
 two_slots_records =
     record { line = 2; thread = 0; phase = 1; op = ops.Alloc 0 0 8; answer = answers.Made (slot_seen lower_slot 0) 8 }
@@ -129,7 +130,7 @@ two_slots_records =
     ∷ record { line = 15; thread = 1; phase = 3; op = ops.Reset 3; answer = answers.Done (slot_seen upper_slot 0x2000003) }
     ∷ []
 
--- this run has no outline, whatever its report
+-- the run of `two_slots_records` has no outline, whatever its report
 abbrev pub TwoSlotsHaveNone : Type 0
 TwoSlotsHaveNone =
     (report : List ReportLine) →
@@ -143,7 +144,7 @@ TwoSlotsHaveNone =
 abbrev pub purges_trace : Trace
 purges_trace = record { region = 2; partitions = 2; threads = 2; lines = Do 0 ops.Purge ∷ Do 1 ops.Purge ∷ Do 1 ops.Purge ∷ [] }
 
--- its three records: each purge gives back no slot
+-- the three records of `purges_trace`: each purge gives back no slot
 abbrev pub purges_records : List Played
 purges_records =
     record { line = 2; thread = 0; phase = 1; op = ops.Purge; answer = answers.Purged 0 }
@@ -155,7 +156,7 @@ purges_records =
 abbrev pub purged_in : ℕ → ℕ → ℕ → List RootEntry
 purged_in i j k = purge i ∷ purge j ∷ purge k ∷ []
 
--- this run has no outline, whatever its report: the journals contradict each other
+-- the run of `purges_records` has no outline, whatever its report: the journals contradict each other
 abbrev pub PurgesHaveNone : Type 0
 PurgesHaveNone =
     (report : List ReportLine) →
@@ -183,7 +184,7 @@ slot_and_cell_trace =
     ∷ Do 1 (ops.Swap 1 9)
     ∷ [])
 
--- its eight records: the read of thread 1 finds the count word after thread 0's second copy
+-- the eight records of `slot_and_cell_trace`: the read of thread 1 finds the count word after thread 0's second copy
 abbrev pub slot_and_cell_records : List Played
 slot_and_cell_records =
     record { line = 2; thread = 0; phase = 1; op = ops.Alloc 0 0 8; answer = answers.Made (slot_seen lower_slot 0) 8 }
@@ -196,7 +197,7 @@ slot_and_cell_records =
     ∷ record { line = 10; thread = 1; phase = 2; op = ops.Swap 1 9; answer = answers.Swapped 0 }
     ∷ []
 
--- this run has no outline, whatever its report
+-- the run of `slot_and_cell_records` has no outline, whatever its report
 abbrev pub SlotAndCellHaveNone : Type 0
 SlotAndCellHaveNone =
     (report : List ReportLine) →
@@ -207,7 +208,7 @@ SlotAndCellHaveNone =
 abbrev pub journal_and_cell_trace : Trace
 journal_and_cell_trace = trace_as (Do 0 (ops.Swap 0 9) ∷ Do 0 ops.Purge ∷ Do 1 ops.Purge ∷ Do 1 (ops.Swap 0 9) ∷ [])
 
--- its four records: each purge gives back no slot, and each thread empties the cell
+-- the four records of `journal_and_cell_trace`: each purge gives back no slot, and each thread empties the cell
 abbrev pub journal_and_cell_records : List Played
 journal_and_cell_records =
     record { line = 2; thread = 0; phase = 1; op = ops.Swap 0 9; answer = answers.Swapped 1 }
@@ -216,7 +217,7 @@ journal_and_cell_records =
     ∷ record { line = 5; thread = 1; phase = 1; op = ops.Swap 0 9; answer = answers.Swapped 0 }
     ∷ []
 
--- this run has no outline, whatever its report: the journal and the cell contradict each other
+-- the run of `journal_and_cell_records` has no outline, whatever its report: the journal and the cell contradict each other
 abbrev pub JournalAndCellHaveNone : Type 0
 JournalAndCellHaveNone =
     (report : List ReportLine) →
@@ -239,7 +240,7 @@ early_trace =
     ∷ Do 0 (ops.Free 0)
     ∷ [])
 
--- its eight records: the read on line 7 gives poison, and only the free on line 10 poisons the slot
+-- the eight records of `early_trace`: the read on line 7 gives poison, and only the free on line 10 poisons the slot
 abbrev pub early_records : List Played
 early_records =
     record { line = 2; thread = 0; phase = 1; op = ops.Alloc 0 0 8; answer = answers.Made (slot_seen lower_slot 0) 8 }
@@ -252,7 +253,7 @@ early_records =
     ∷ record { line = 10; thread = 0; phase = 2; op = ops.Free 0; answer = answers.Done (slot_seen lower_slot 0x2000003) }
     ∷ []
 
--- this run has no timeline, whatever its report
+-- the run of `early_records` has no timeline, whatever its report
 abbrev pub ReadBeforeFreeHasNone : Type 0
 ReadBeforeFreeHasNone =
     (report : List ReportLine) →

@@ -1,6 +1,6 @@
 -- Three small runs of two threads that were worked out by hand, of which none has a timeline: by what their reads gave.
 use Rattle.std.specs.Prelude.{ℕ, List, [], ◌∷◌, Some}
-use Rattle.pa_machine.specs.Titles.{poison}
+use Rattle.pa_slot.specs.Titles.{poison}
 use Rattle.pa_trace.specs.declared.script.Trace.{Trace}
 use Rattle.pa_trace.specs.declared.script.Line.{Line}
 use Rattle.pa_trace.specs.declared.script.Line.TheVariants.{Phase, Do}
@@ -15,12 +15,12 @@ use Rattle.pa_timeline.specs.Worked.{told_as, trace_as, lower_slot, slot_seen, o
 
 -- ---- how each of them begins
 
--- thread 0 makes a slot of this many bytes, and hands a raw_ptr to it to thread 1; then these lines come
+-- thread 0 makes a slot of this many bytes, and hands a raw_ptr to it to thread 1, and then these lines come
 abbrev pub handed_lines : ℕ → List Line → List Line
 handed_lines size lines =
     Do 0 (ops.Alloc 0 0 size) ∷ Do 0 (ops.Copy 0 1) ∷ Do 0 (ops.Swap 0 1) ∷ Phase ∷ Do 1 (ops.Swap 0 0) ∷ lines
 
--- the records of this beginning, and these after them
+-- the records of `handed_lines` for a slot of this many bytes, and these after them
 abbrev pub handed_records : ℕ → List Played → List Played
 handed_records size records =
     record { line = 2; thread = 0; phase = 1; op = ops.Alloc 0 0 size; answer = answers.Made (slot_seen lower_slot 0) size }
@@ -31,11 +31,11 @@ handed_records size records =
 
 -- ---- poison, and then the content again
 
--- thread 0 frees the slot; thread 1 reads its one word twice, and finds poison and then the content
+-- thread 0 frees the slot, and thread 1 reads its one word twice, and finds poison and then the content
 abbrev pub gone_poison_trace : Trace
 gone_poison_trace = trace_as (handed_lines 8 (Do 0 (ops.Free 0) ∷ Do 1 (ops.Read 0 0) ∷ Do 1 (ops.Read 0 0) ∷ []))
 
--- its records: the free, and then reads of the one word that give poison and 0
+-- the records of `gone_poison_trace`: the free, and then reads of the one word that give poison and 0
 abbrev pub gone_poison_records : List Played
 gone_poison_records =
     handed_records 8
@@ -57,11 +57,11 @@ GonePoisonHasNone =
 abbrev pub wide_fill : List RootEntry
 wide_fill = fill 2 0 (Some 0) (slots 1 0 (16384 ∷ 16416 ∷ 16448 ∷ 16480 ∷ 16512 ∷ 16544 ∷ 16576 ∷ 16608 ∷ [])) ∷ []
 
--- thread 0 frees the slot; thread 1 finds poison in its second word, and then the content in its first
+-- thread 0 frees the slot, and thread 1 finds poison in its second word, and then the content in its first
 abbrev pub second_word_trace : Trace
 second_word_trace = trace_as (handed_lines 24 (Do 0 (ops.Free 0) ∷ Do 1 (ops.Read 0 1) ∷ Do 1 (ops.Read 0 0) ∷ []))
 
--- its records: the free, and then reads that give poison in word 1 and 0 in word 0
+-- the records of `second_word_trace`: the free, and then reads that give poison in word 1 and 0 in word 0
 abbrev pub second_word_records : List Played
 second_word_records =
     handed_records 24
@@ -80,13 +80,13 @@ SecondWordHasNone =
 
 -- ---- poison before a copy that the freeing thread found
 
--- thread 1 reads poison and then copies its raw_ptr; thread 0 copies too, and frees the slot. By the numbers of the slot thread 1's copy
--- came before thread 0's.
+-- Thread 1 reads poison and then copies its raw_ptr, and thread 0 copies its owner and frees the slot. By the numbers of the
+-- slot thread 1's copy came before thread 0's.
 abbrev pub copied_trace : Trace
 copied_trace =
     trace_as (handed_lines 8 (Do 1 (ops.Read 0 0) ∷ Do 1 (ops.Copy 0 1) ∷ Do 0 (ops.Copy 0 2) ∷ Do 0 (ops.Free 0) ∷ []))
 
--- its records: the read that gives poison, the copies of thread 1 and of thread 0, and then the free
+-- the records of `copied_trace`: the read that gives poison, the copies of thread 1 and of thread 0, and then the free
 abbrev pub copied_records : List Played
 copied_records =
     handed_records 8

@@ -28,7 +28,7 @@ added_kind p j bytes q small kind =
     let rest : (4 * p + j) % 4 ≡ j = omega arith in
     rw (lt-ltb (4 * p + j) 16 below, rest) refl
 
--- so it may be made, and leaves room for the other kinds
+-- the next addition may be made
 pub can_add : (p j bytes : ℕ) (v : View) (f : ℕ → ℕ) → p < 4 → j < 4 → HasRoom f v → bytes ≤ f j → CanAdd (4 * p + j) bytes v
 can_add p j bytes v f small kind room same =
     let rest : (4 * p + j) % 4 ≡ j = omega arith in
@@ -142,7 +142,7 @@ leaves_settle leaves p o v can =
 
 -- ---- all four partitions
 
--- where nothing is owed, that is so in each partition and of each kind
+-- if nothing is owed, that is so in each partition and of each kind
 pub owed_at_none : (p : ℕ) → owed_at none_owed p ≡ nothing_owed
 owed_at_none zero = refl
 owed_at_none (suc zero) = refl

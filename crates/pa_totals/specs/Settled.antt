@@ -25,7 +25,7 @@ pub record CanSettle (p : ℕ) (o : Owed) (v : View) : Type 0 where
   pub stake : HasStake v
   pub covered : (q : ℕ) → sum_by (added_as q) (least_log v.stakes) + owed_to q o ≤ sum_by (owes_as q) (least_log v.stakes)
 
--- the view after it: one addition to each of the partition's words, in the order of the kinds
+-- the view after what is owed to partition p was settled: one addition to each of the partition's words, in the order of the kinds
 abbrev pub after_settle : ℕ → Owed → View → View
 after_settle p o v =
     after_add (4 * p + 3) o.left (after_add (4 * p + 2) o.entered (after_add (4 * p + 1) o.freed (after_add (4 * p) o.issued v)))
@@ -34,13 +34,13 @@ after_settle p o v =
 abbrev pub added_in : View → ℕ → ℕ
 added_in v k = logged_of v (added_to k)
 
--- the four additions, as entries of a log
+-- the four additions of a settling of one partition, as entries of a log
 abbrev pub four_added : ℕ → Owed → List Entry
 four_added p o =
     Added (4 * p) o.issued ∷ Added (4 * p + 1) o.freed ∷ Added (4 * p + 2) o.entered ∷ Added (4 * p + 3) o.left ∷ []
 
--- What a settling leaves of logs: the least stake's log ends with the four additions, the others are as before, and so are the
--- stakes.
+-- What a settling of one partition leaves of logs: the least stake's log ends with the four additions, the others are as before, and
+-- so are the stakes.
 pub record LeavesSettle (p : ℕ) (o : Owed) (v w : View) : Type 0 where
   pub least : least_stake w.stakes ≡ least_stake v.stakes
   pub log : log_of (least_stake v.stakes) w ≡ log_of (least_stake v.stakes) v ++ four_added p o
@@ -57,7 +57,7 @@ SettleLeaves = (p : ℕ) (o : Owed) (v : View) → CanSettle p o v → LeavesSet
 abbrev pub owed_at : List Owed → ℕ → Owed
 owed_at owed p = slice_index_or owed p nothing_owed
 
--- nothing is owed to any
+-- nothing is owed to the words of any partition
 abbrev pub none_owed : List Owed
 none_owed = nothing_owed ∷ nothing_owed ∷ nothing_owed ∷ nothing_owed ∷ []
 
@@ -66,23 +66,24 @@ abbrev pub owed_in : ℕ → List Owed → ℕ
 owed_in q owed =
     owed_to q (owed_at owed 0) + (owed_to q (owed_at owed 1) + (owed_to q (owed_at owed 2) + owed_to q (owed_at owed 3)))
 
--- A seat with this view may settle all of it: it has a stake, and of each kind the least stake's log owes as much.
+-- A seat with this view may settle what is owed to all four partitions: it has a stake, and of each kind the least stake's log owes
+-- as much.
 pub record CanSettleAll (owed : List Owed) (v : View) : Type 0 where
   pub stake : HasStake v
   pub covered : (q : ℕ) → sum_by (added_as q) (least_log v.stakes) + owed_in q owed ≤ sum_by (owes_as q) (least_log v.stakes)
 
--- the view after it: one partition settled after the other
+-- the view after all that is owed was settled, one partition after the other
 abbrev pub after_settle_all : List Owed → View → View
 after_settle_all owed v =
     after_settle 3 (owed_at owed 3) (after_settle 2 (owed_at owed 2) (after_settle 1 (owed_at owed 1) (after_settle 0 (owed_at owed 0) v)))
 
--- the sixteen additions, as entries of a log
+-- the sixteen additions of a settling of all four partitions, as entries of a log
 abbrev pub all_added : List Owed → List Entry
 all_added owed =
     four_added 0 (owed_at owed 0) ++ (four_added 1 (owed_at owed 1) ++ (four_added 2 (owed_at owed 2) ++ four_added 3 (owed_at owed 3)))
 
--- What it leaves of logs: the least stake's log ends with the sixteen additions, and added no more than it owes; the others are as
--- before, and so are the stakes. To each word of these was added what was owed to it.
+-- What a settling of all four partitions leaves of logs. The least stake's log ends with the sixteen additions, and added no more
+-- than it owes. The other logs are as before, and so are the stakes. To each of the sixteen words was added what was owed to it.
 pub record LeavesSettleAll (owed : List Owed) (v w : View) : Type 0 where
   pub least : least_stake w.stakes ≡ least_stake v.stakes
   pub log : log_of (least_stake v.stakes) w ≡ log_of (least_stake v.stakes) v ++ all_added owed

@@ -13,7 +13,7 @@ pub struct Owed {
     pub left: u64,
 }
 
-/// Adds what is owed to the partition's four totals words, by the seat's least stake; then nothing is owed.
+/// Adds what is owed to the partition's four totals words, by the seat's least stake. Nothing is owed then.
 pub fn settle(region: &Region, seat: &mut Seat, partition: u32, owed: &mut Owed)
     requires region { seat.old.region ≡ region.now }
     requires able { CanSettle partition owed.old seat.old.view }
@@ -34,7 +34,7 @@ pub fn settle(region: &Region, seat: &mut Seat, partition: u32, owed: &mut Owed)
     };
 }
 
-/// Adds what is owed to the words of all four partitions, one partition after the other; then nothing is owed.
+/// Adds what is owed to the words of all four partitions, one partition after the other. Nothing is owed then.
 pub fn settle_all(region: &Region, seat: &mut Seat, owed: &mut [Owed; 4])
     requires region { seat.old.region ≡ region.now }
     requires able { CanSettleAll owed.old seat.old.view }

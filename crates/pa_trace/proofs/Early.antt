@@ -72,7 +72,7 @@ lines_extend (b ∷ bytes) more = front_extends b (lines_of bytes) (lines_of (by
 
 -- ---- the fault of the shorter is the fault of the longer
 
--- the fault of a line that is past is that it is past, and so is that of a longer line in its place
+-- if a line is past and its fault says so, a longer line in its place that is past has this fault
 pub past_stays : (n : ℕ) (past bad over past_longer bad_longer over_longer : Type 0) (e : TraceFault) → past → past_longer
     → IsFaultOf n past bad over e → IsFaultOf n past_longer bad_longer over_longer e
 past_stays n past bad over past_longer bad_longer over_longer (BadLine m) full longer h = absurd (h.1 full)

@@ -340,7 +340,7 @@ pub field_and_word_is : (bytes v : List ℕ) → field_and_word_in bytes v ≡ (
 unfolding field_and_word_in field_and_word_at
 field_and_word_is bytes v = ap (λ (r : Result (Option ℕ × List ℕ) LineFault). r >>= λ a. behind (codes " ") a.1 >>= λ rest. word_in rest >>= λ value. ended value.1 >>= λ end. Ok (a.0, value.0)) (field_handed v bytes) ∙ word_cases (field_at v bytes)
 
--- what the reader of sixteen digits tells is what is read
+-- what the reader of sixteen digits returns is what is read
 pub word_some : (bytes : List ℕ) (value : ℕ) (rest : List ℕ) → value < 18446744073709551616 → bytes ≡ hex 16 value ++ rest → word_in bytes ≡ Ok (value, rest)
 word_some bytes value rest lt parts = ap word_in parts ∙ word_again value rest lt
 

@@ -1,6 +1,6 @@
 -- What is read within the limits is what is spelled and within the limits.
 use Rattle.std.proofs.Common.{◌≡◌, ℕ, ◌<◌, ◌≤◌, Bool, true, false, cond, eqb, ltb, leb, ◌&&◌, List, [], ◌∷◌, Result, Ok, Err, codes, refl, sym, subst, ◌∙◌, inl, inr, arith}
-use Rattle.std.proofs.lemmas.Bool.{ltb-true, leb-true, lt-ltb, le-ltb, le-leb, lt-leb, and_parts, and_from, cases_lt}
+use Rattle.std.proofs.lemmas.Bool.{ltb-true, leb-true, lt-ltb, le-ltb, le-leb, lt-leb, and_parts, and_from, cases_lt, both_ways}
 use Rattle.std.specs.Prelude.{nat_eq}
 use Rattle.std.specs.Cmp.Lexicographic.{pointwise}
 use Rattle.pa_text.specs.Reading.{fit, number_at}
@@ -283,10 +283,6 @@ pub kept_out : {A : Type 0} (b : Bool) (x : A) (d : LineFault) → cond b (Ok x)
 kept_out true x d e = absurd cc
 kept_out false x d e = (refl, cc)
 
-pub not_both : (b : Bool) → b ≡ true → b ≡ false → ⊥
-not_both true e f = cc
-not_both false e f = cc
-
 -- ---- what is read of a line
 
 err_parts : {A : Type 0} (f d : LineFault) → Outside ≡ f → ◌≡◌ {A = Result A LineFault} (Err f) (Err d) → Outside ≡ d
@@ -310,7 +306,7 @@ module _ (partitions threads : ℕ) (few : partitions ≤ 4294967296) (few_threa
   not_read_cases bytes (Ok line) d same e =
       let t = kept_out (line_ok partitions threads line) line d e in
       let past : IsNotRead partitions threads Past bytes =
-      (line, line_takes bytes line same, λ h. not_both (line_ok partitions threads line) (within_line partitions threads line h) t.0) in
+      (line, line_takes bytes line same, λ h. both_ways (line_ok partitions threads line) t.0 (within_line partitions threads line h)) in
       subst (λ (k : LineFault). IsNotRead partitions threads k bytes) (sym t.1) past
   not_read_cases bytes (Err f) d same e =
       let out : IsNotRead partitions threads Outside bytes =
@@ -336,7 +332,7 @@ IsHeadNotRead Past bytes = (region partitions threads : ℕ) × IsHeadText regio
 head_cases_of : (bytes : List ℕ) (r : Result (ℕ × ℕ × ℕ) LineFault) (d : LineFault) → head_at bytes ≡ r → (r >>= checked_head) ≡ Err d → IsHeadNotRead d bytes
 head_cases_of bytes (Ok x) d same e =
     let t = kept_out (head_ok x) (head_with x.0 x.1 x.2) d e in
-    let past : IsHeadNotRead Past bytes = (x.0, x.1, x.2, head_takes bytes x same, λ h. not_both (head_ok x) (within_head x.0 x.1 x.2 h) t.0) in
+    let past : IsHeadNotRead Past bytes = (x.0, x.1, x.2, head_takes bytes x same, λ h. both_ways (head_ok x) t.0 (within_head x.0 x.1 x.2 h)) in
     subst (λ (k : LineFault). IsHeadNotRead k bytes) (sym t.1) past
 head_cases_of bytes (Err f) d same e =
     let out : IsHeadNotRead Outside bytes =

@@ -21,6 +21,7 @@ lines_more ls l bytes line after e text h = (line, after, text, h, e)
 pub lines_join : (done ls : List Line) (l : Line) → (done ++ l ∷ []) ++ ls ≡ done ++ (l ∷ ls)
 lines_join done ls l = append_assoc done (l ∷ []) ls
 
+-- what holds of each line of a list, and of one line more, holds of the longer list
 pub all_push : (P : Line → Type 0) (done : List Line) (l : Line) → AllByRecursion P done → P l → AllByRecursion P (done ++ l ∷ [])
 all_push P [] l h p = (p, tt)
 all_push P (d ∷ done) l h p = (h.0, all_push P done l h.1 p)
@@ -33,7 +34,8 @@ ok_line x y e = cc
 pub one_line_of : (k l : Line) (text : List ℕ) → IsLineText k text → IsLineText l text → k ≡ l
 one_line_of k l text hk hl = ok_line k l (sym (line_again k text hk) ∙ line_again l text hl)
 
-ok_head : (x y : ℕ × ℕ × ℕ) → ◌≡◌ {A = Result (ℕ × ℕ × ℕ) LineFault} (Ok x) (Ok y) → x ≡ y
+-- if two readings of three numbers are the same, so are the numbers
+pub ok_head : (x y : ℕ × ℕ × ℕ) → ◌≡◌ {A = Result (ℕ × ℕ × ℕ) LineFault} (Ok x) (Ok y) → x ≡ y
 ok_head x y e = cc
 
 -- the numbers of a head, one after the other

@@ -11,7 +11,7 @@ abbrev pub with_front : ℕ → List (List ℕ) → List (List ℕ)
 with_front b [] = (b ∷ []) ∷ []
 with_front b (line ∷ lines) = if b == 10 then (b ∷ []) ∷ line ∷ lines else (b ∷ line) ∷ lines
 
--- the lines of a text, each with its LF; the last may have none
+-- the lines of a text, each with its LF, which only the last may lack
 unfoldable pub lines_of : List ℕ → List (List ℕ)
 lines_of [] = []
 lines_of (b ∷ bytes) = with_front b (lines_of bytes)
@@ -28,7 +28,7 @@ IsHeadLine region partitions threads line = (text : List ℕ) × IsHeadText regi
 abbrev pub IsBodyLine : Line → List ℕ → Type 0
 IsBodyLine l line = (text : List ℕ) × IsLineText l text × (line ≡ text ++ 10 ∷ [])
 
--- the line is outside the grammar or has no LF, as a head and as a line after a head
+-- as a head, the line is outside the grammar or has no LF
 abbrev pub IsBadHead : List ℕ → Type 0
 IsBadHead line = (region partitions threads : ℕ) → IsHeadLine region partitions threads line → ⊥
 
@@ -36,7 +36,7 @@ IsBadHead line = (region partitions threads : ℕ) → IsHeadLine region partiti
 abbrev pub IsBadLine : List ℕ → Type 0
 IsBadLine line = (l : Line) → IsBodyLine l line → ⊥
 
--- the line is in the grammar and a number passes its limit, as a head and as a line after a head
+-- as a head, the line is in the grammar and a number passes its limit
 abbrev pub IsHeadOverLimit : List ℕ → Type 0
 IsHeadOverLimit line =
     (region partitions threads : ℕ) × IsHeadLine region partitions threads line × (IsHeadWithin region partitions threads → ⊥)
@@ -51,8 +51,8 @@ IsFaultOf n past bad over (BadLine m) = (m ≡ n) × (past → ⊥) × bad
 IsFaultOf n past bad over (Limit m) = (m ≡ n) × (past ⊎ over)
 IsFaultOf n past bad over OutOfMemory = ⊥
 
--- the first faulty line after a head: the first of these lines is line n, and comes after that many bytes:
--- it is faulty itself, or it is in the grammar and the limits and a later one is the first faulty one
+-- The first fault of the lines after a head, of which the first is line n and comes after this many bytes. That line is faulty
+-- itself, or it is in the grammar and the limits and a later one is the first faulty one.
 abbrev pub IsFirstBehind : ℕ → ℕ → ℕ → ℕ → List (List ℕ) → TraceFault → Type 0
 IsFirstBehind partitions threads n before [] e = ⊥
 IsFirstBehind partitions threads n before (line ∷ lines) e =
@@ -60,7 +60,7 @@ IsFirstBehind partitions threads n before (line ∷ lines) e =
     ⊎ ((l : Line) × IsBodyLine l line × IsLineWithin partitions threads l × (IsPast n before line → ⊥)
     × IsFirstBehind partitions threads (n + 1) (before + length line) lines e)
 
--- the first faulty one of all lines; if there is none, line 1 is bad
+-- the fault of the first faulty one of all lines, which is at line 1 if there is no line at all
 abbrev pub IsFirstOf : List (List ℕ) → TraceFault → Type 0
 IsFirstOf [] e = e ≡ BadLine 1
 IsFirstOf (line ∷ lines) e =

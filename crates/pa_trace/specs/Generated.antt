@@ -17,8 +17,8 @@ abbrev pub parts : (ℕ → List Line) → ℕ → List Line
 parts part zero = []
 parts part (suc n) = parts part n ++ part n
 
--- A round draws 32 words: 8 for each thread, 2 for each of its objects. These are the indices of an object's two words, counted
--- from 0: its size is made of the first, and its value is the second.
+-- the index of the first of an object's two words, of which its size is made: a round draws 32 words, 8 for each thread, 2 for
+-- each of its objects
 abbrev pub size_place : ℕ → ℕ → ℕ → ℕ
 size_place round thread object = 32 * round + 8 * thread + 2 * object
 
@@ -30,8 +30,9 @@ value_place round thread object = size_place round thread object + 1
 abbrev pub object_lines : ℕ → ℕ → ℕ → ℕ → List Line
 object_lines thread object size value = Do thread (Alloc object thread (8 + size % 3993)) ∷ Do thread (Write object value) ∷ []
 
--- object 0 gets two raw_ptrs, in registers 8 and 9; the second goes into a cell, whose handle takes its place; object 0 is read,
--- freed and read again through the first, which is reset; what the cell held is read and reset; and the other objects are freed
+-- Object 0 gets two raw_ptrs, in registers 8 and 9. The second goes into a cell, whose handle takes its place. Object 0 is
+-- read, freed and read again through the first, which is reset. What the cell held is read and reset, and the other objects are
+-- freed.
 abbrev pub pointer_lines : ℕ → ℕ → List Line
 pointer_lines round thread =
     Do thread (Copy 0 8)
@@ -61,7 +62,7 @@ thread_lines words round thread = parts (drawn_object words round thread) 4 ++ p
 abbrev pub round_lines : List ℕ → ℕ → List Line
 round_lines words round = parts (thread_lines words round) 4
 
--- a `phase` separates two rounds
+-- a `phase` before each round but the first
 abbrev pub phase_before : ℕ → List Line
 phase_before zero = []
 phase_before (suc round) = Phase ∷ []

@@ -9,7 +9,7 @@ use Rattle.pa_trace.specs.declared.script.Op.{Op}
 use Rattle.pa_trace.specs.declared.script.Op.TheVariants.{Alloc, Copy, Reset, Free, Write, Read, Swap, Purge}
 use Rattle.pa_trace.specs.Grammar.{IsTraceText}
 
--- the registers of a thread, and the cells
+-- how many registers each thread has
 abbrev pub register_count : ℕ
 register_count = 64
 
@@ -17,7 +17,7 @@ register_count = 64
 abbrev pub cell_count : ℕ
 cell_count = 64
 
--- the most partitions and the most threads of a trace
+-- the most partitions of a trace
 abbrev pub most_partitions : ℕ
 most_partitions = 4
 
@@ -48,7 +48,7 @@ IsHeadWithin region partitions threads =
     ((1 ≤ region) × (region ≤ most_supers)) × ((1 ≤ partitions) × (partitions ≤ most_partitions)) × ((1 ≤ threads)
     × (threads ≤ most_threads))
 
--- the most lines of a trace, the head included, and the most bytes of its text
+-- the most lines of a trace, the head included
 abbrev pub most_lines : ℕ
 most_lines = 65536
 

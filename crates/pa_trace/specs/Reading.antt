@@ -27,12 +27,12 @@ Gives view (Err e) read = read ≡ Err e
 unfoldable pub behind : List ℕ → List ℕ → Result (List ℕ) LineFault
 behind word bytes = if pointwise nat_eq (take (length word) bytes) word then Ok (drop (length word) bytes) else Err Outside
 
--- no result is a line outside the grammar
+-- what was read, or a line outside the grammar if nothing was
 abbrev pub or_outside : {A : Type 0} → Option A → Result A LineFault
 or_outside None = Err Outside
 or_outside (Some x) = Ok x
 
--- what is passed on of a number that was read
+-- a number that was read, with its value only if it has 32 bits, or a line outside the grammar
 abbrev pub hand_on : Option (ℕ × List ℕ) → Result (Option ℕ × List ℕ) LineFault
 hand_on None = Err Outside
 hand_on (Some x) = Ok (fitted x)
@@ -55,7 +55,7 @@ ended bytes = if length bytes == 0 then Ok tt else Err Outside
 unfoldable pub word_in : List ℕ → Result (ℕ × List ℕ) LineFault
 word_in bytes = or_outside (hexes_at 16 bytes)
 
--- all of the bytes are one, two or three words, each with a number
+-- all of the bytes are a word with a number
 unfoldable pub one_in : List ℕ → List ℕ → Result (Option ℕ) LineFault
 one_in bytes first = do
   a ← field_in first bytes
@@ -88,7 +88,7 @@ field_and_word_in bytes first = do
   end ← ended value.1
   Ok (a.0, value.0)
 
--- the number, if it is below the limit, has 32 bits, or is from 1 to the most
+-- the number, if it is below the limit
 abbrev pub below : Option ℕ → ℕ → Result ℕ LineFault
 below None limit = Err Past
 below (Some n) limit = if nat_lt n limit then Ok n else Err Past

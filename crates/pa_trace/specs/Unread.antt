@@ -20,8 +20,9 @@ pub record Unread : Type 0 where
 abbrev pub trace_with : Head → List Line → Trace
 trace_with head ls = record { region = head.region; partitions = head.partitions; threads = head.threads; lines = ls }
 
--- Of these bytes the head and these lines are read, all within the limits, and this is unread: whichever lines the rest is the
--- text of, the bytes are the text of the trace with those lines appended; and the first faulty line of both is the same.
+-- Of these bytes the head and these lines are read, all within the limits, and this is unread. Whichever lines the rest is the
+-- text of, the bytes are the text of the trace with those lines appended. The first faulty line of the rest is the first of
+-- all.
 pub record IsReadUpTo (bytes : List ℕ) (ls : List Line) (u : Unread) : Type 0 where
   pub head : IsHeadWithin u.head.region u.head.partitions u.head.threads
   pub lines : AllByRecursion (IsLineWithin u.head.partitions u.head.threads) ls
@@ -44,6 +45,6 @@ pub record IsEndRead (u v : Unread) : Type 0 where
   pub stays : v ≡ u
   pub read : (bytes : List ℕ) (ls : List Line) → IsReadUpTo bytes ls u → IsInput (trace_with u.head ls) bytes
 
--- a fault was read: it is that of the bytes
+-- a fault was read, which is the fault of the bytes
 abbrev pub IsFaultRead : Unread → TraceFault → Type 0
 IsFaultRead u e = (bytes : List ℕ) (ls : List Line) → IsReadUpTo bytes ls u → IsFault e bytes

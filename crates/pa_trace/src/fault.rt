@@ -1,7 +1,7 @@
 ghost use Rattle.std.specs.Prelude.{◌≡◌};
 ghost use Rattle.pa_trace.specs.declared.fault.TraceFault.TheVariants as faults;
 
-use pa_machine::OutOfMemory;
+use pa_slot::OutOfMemory;
 use std::alloc::{AllocError, AllocFailed};
 use std::error::Error;
 use std::fmt;

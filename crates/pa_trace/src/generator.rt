@@ -3,12 +3,12 @@ ghost use Rattle.pa_trace.specs.Limits.{IsWithinLimits};
 ghost use Rattle.pa_trace.specs.Generated.{IsGenerated, drawn_words, object_lines, pointer_lines, thread_lines, round_lines, phase_before};
 
 use crate::script::{Line, Lines, Op, Trace};
-use pa_machine::OutOfMemory;
+use pa_slot::OutOfMemory;
 use rand_core::utils::NextWord;
 use rand_pcg::Lcg64Xsh32;
 use std::alloc::Global;
 
-// The threads, and the objects of each in a round.
+// The threads of a round. Each allocates as many objects as `OBJECTS` says.
 const THREADS: u32 = 4;
 
 const OBJECTS: u32 = 4;
@@ -44,7 +44,7 @@ pub fn generate(alloc: Global, rounds: u32, key: u64) -> Result<Trace, OutOfMemo
     })
 }
 
-// The first words of this key.
+// The first `count` words that the random numbers of this key give.
 fn draw(alloc: Global, key: u64, count: usize) -> Result<Vec<u32>, OutOfMemory>
     ensures { IfOk result (λ words. words.items ≡ drawn_words key count) }
 {

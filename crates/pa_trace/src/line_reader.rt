@@ -1,4 +1,4 @@
-ghost use Rattle.std.specs.Prelude.{◌≡◌, ◌<◌, ◌≤◌, ◌⊎◌, ◌↔◌, ◌++◌, ◌∷◌, [], IsTrue, IfOk, IfErr, MatchOption};
+ghost use Rattle.std.specs.Prelude.{◌≡◌, ◌≢◌, ◌<◌, ◌≤◌, ◌⊎◌, ◌↔◌, ◌++◌, ◌∷◌, [], IsTrue, IfOk, IfErr, OnErr, MatchOption};
 ghost use Rattle.pa_trace.specs.Limits.{most_lines};
 ghost use Rattle.pa_trace.specs.Faults.{IsFault};
 ghost use Rattle.pa_trace.specs.Cut.{IsOneLine, told};
@@ -35,10 +35,11 @@ impl<'a> Model for LineReader<'a> {
 }
 
 impl<'a> LineReader<'a> {
-    /// Reads the head, which is line 1.
+    /// Reads the head, which is line 1. It needs no memory.
     pub fn of(bytes: &'a [u8]) -> Result<LineReader<'a>, TraceFault>
         ensures head { IfOk result (IsReadUpTo bytes.now []) }
         ensures fault { IfErr result (λ e. IsFault e bytes.now) }
+        ensures never { IfErr result (λ e. e ≢ faults.OutOfMemory) }
     {
         let Some((first, rest)) = cut_line(bytes) else {
             return Err(without_end(1, bytes.len(), MOST_BYTES));
@@ -65,11 +66,13 @@ impl<'a> LineReader<'a> {
         self.head
     }
 
-    /// Reads the next line. `None` is the end: the bytes are a trace.
+    /// Reads the next line. `None` is the end: the bytes are a trace. It needs no memory, and after a fault the reader is as it was.
     #[inline(always)]
     pub fn next(&mut self) -> Result<Option<Line>, TraceFault>
         ensures line { IfOk result (λ found. MatchOption found (IsEndRead self.old self.new) (λ l. IsLineRead self.old l self.new)) }
         ensures fault { IfErr result (IsFaultRead self.old) }
+        ensures never { IfErr result (λ e. e ≢ faults.OutOfMemory) }
+        ensures same { OnErr result (self.new ≡ self.old) }
     {
         let n = self.number;
         let rest = self.rest;
@@ -118,7 +121,8 @@ fn is_past(n: u32, length: usize, room: usize) -> bool
 
 /// The fault of line `n`, which is neither one line nor one byte too many.
 pub fn fault_at(n: u32, fault: LineFault) -> TraceFault
-    ensures { result ≡ told n fault }
+    ensures told { result ≡ told n fault }
+    ensures never { result ≢ faults.OutOfMemory }
 {
     match fault {
         LineFault::Outside => TraceFault::BadLine(n),
@@ -130,6 +134,7 @@ pub fn fault_at(n: u32, fault: LineFault) -> TraceFault
 fn without_end(n: u32, length: usize, room: usize) -> TraceFault
     ensures past { (most_lines < n) ⊎ (room < length) → result ≡ faults.Limit n }
     ensures bad { n ≤ most_lines → length ≤ room → result ≡ faults.BadLine n }
+    ensures never { result ≢ faults.OutOfMemory }
 {
     if is_past(n, length, room) {
         TraceFault::Limit(n)

@@ -6,10 +6,10 @@ use crate::field::{
 };
 use crate::script::Op;
 
-/// The registers of a thread.
+/// How many registers a thread has.
 pub const REGISTERS: u32 = 64;
 
-/// The cells of a heap.
+/// How many cells a heap has.
 pub const CELLS: u32 = 64;
 
 // The op, which is the whole rest of the line.

@@ -7,7 +7,7 @@ ghost use Rattle.pa_trace.specs.Printed.{LineInBits, word_then_number, head_text
 
 use crate::line::Head;
 use crate::script::{Line, Op};
-use pa_machine::OutOfMemory;
+use pa_slot::OutOfMemory;
 use pa_text::{Text, push_byte, push_bytes, push_number, push_word};
 
 // Appends the head and an LF. If memory runs out, a first part of it may have been appended.

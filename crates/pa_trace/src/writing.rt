@@ -9,7 +9,7 @@ ghost use Rattle.pa_trace.specs.Printed.{head_text, line_text};
 use crate::line::Head;
 use crate::printing::{head_is, line_is, print_head, print_line};
 use crate::script::{Line, Trace};
-use pa_machine::OutOfMemory;
+use pa_slot::OutOfMemory;
 use pa_text::Text;
 use std::alloc::Global;
 

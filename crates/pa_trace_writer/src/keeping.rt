@@ -3,7 +3,7 @@ ghost use Rattle.pa_trace.specs.Grammar.{IsTraceText};
 ghost use Rattle.pa_trace.specs.Unread.{trace_with};
 ghost use Rattle.pa_trace_writer.specs.Lines.{LinesSoFar, no_lines, with_line};
 
-use pa_machine::OutOfMemory;
+use pa_slot::OutOfMemory;
 use pa_text::{Past, Text};
 use pa_trace::{Head, Line, Lines, Trace, push_head, push_line};
 use std::alloc::Global;
@@ -37,7 +37,7 @@ impl<K: Keeper> Model for Kept<K> {
 }
 
 impl<K: Keeper> Kept<K> {
-    /// The keeper, to be seen so.
+    /// The keeper, from now on seen as what it was given.
     pub fn of(keeper: K) -> Kept<K>
         ensures { result ≡ K.lines keeper }
     {
@@ -80,7 +80,7 @@ impl LineList {
         }
     }
 
-    /// The trace of them.
+    /// The trace of the head and the lines.
     pub fn into_trace(self) -> Trace
         ensures { result ≡ trace_with self.head self.items.items }
     {
@@ -138,7 +138,7 @@ impl LineText {
         })
     }
 
-    /// The text of their trace.
+    /// The text of the trace of the head and the lines.
     pub fn into_text(self) -> Vec<u8>
         ensures { IsTraceText (trace_with self.head self.items) result.items }
     {

@@ -1,14 +1,13 @@
 -- The clause of the holders, record by record and entry by entry.
-use Rattle.std.proofs.Common.{◌≡◌, ℕ, ◌+◌, true, List, [], ◌∷◌, ◌++◌, refl, subst, sym, ◌∙◌, ap, arith, inl, inr}
+use Rattle.std.proofs.Common.{◌≡◌, ℕ, true, List, [], ◌∷◌, ◌++◌, refl, subst, sym, ◌∙◌, ap, arith, inl, inr}
 use Rattle.std.specs.Prelude.{Contains, AllPairs}
 use Rattle.std.proofs.lemmas.Bool.{eq-eqb, eqb-true, and_parts}
 use Rattle.pa_trace.specs.declared.script.Trace.{Trace}
-use Rattle.pa_machine.specs.declared.word.SlotName.{SlotName}
-use Rattle.pa_machine.specs.Count.{number_of}
-use Rattle.pa_machine.specs.Run.{Mark, IsFirstAt, IsRunFrom, Slots}
-use Rattle.pa_machine.proofs.Runs.{same_slot_yes, same_slot_eq, number_stepped}
+use Rattle.pa_slot.specs.declared.word.SlotName.{SlotName}
+use Rattle.pa_slot.specs.Count.{number_of}
+use Rattle.pa_slot.specs.Run.{Mark, IsFirstAt, Slots}
+use Rattle.pa_slot.proofs.Runs.{same_slot_yes, same_slot_eq}
 use Rattle.pa_record.specs.declared.root.RootEntry.{RootEntry}
-use Rattle.pa_lists.proofs.Members.{not_in_none, in_cases}
 use Rattle.pa_rules.specs.declared.played.Played.{Played}
 use Rattle.pa_rules.specs.declared.verdict.Clause.TheVariants as clauses
 use Rattle.pa_rules.specs.declared.verdict.Place.TheVariants as places
@@ -19,7 +18,7 @@ use Rattle.pa_rules.specs.Order.{IsOfLine}
 use Rattle.pa_rules.specs.Holders.{Holder, WithThread, Move, is_move_of, moves_at, IsReturnedBy, IsFirstHolder, made_by, needed_by, HolderAfter, MovesFit, HasHolders, AreHolders}
 use Rattle.pa_rules.specs.HeapDemands.{MovesOfEntryFit, RecordHolds}
 use Rattle.pa_rules.proofs.Marking.{mark_line}
-use Rattle.pa_rules.proofs.Running.{OtherRecord, one_mark, run_rises, marks_differ}
+use Rattle.pa_rules.proofs.Running.{OtherRecord, one_mark, marks_differ, same_word}
 use Rattle.pa_rules.proofs.ByLines.{same_record}
 use Rattle.pa_rules.proofs.Phases.{mark_in}
 use Rattle.pa_verdict.specs.Clauses.{IsMet, HoldersArePlaces}
@@ -75,34 +74,6 @@ holders_meet t r h (places.Report i) = tt
 
 -- ---- from each place to the clause
 
--- the words of a run differ in their numbers
-run_number : (ms : List Mark) (s : SlotName) (u : ℕ) (vs : List ℕ) (x y : ℕ) → IsRunFrom ms s u vs → Contains (u ∷ vs) x → Contains (u ∷ vs) y → number_of x ≡ number_of y → x ≡ y
-run_number ms s u [] x y run first second same = elim (in_cases u x [] first) [
-  | inr none ↦ absurd (not_in_none x none)
-  | inl e ↦ elim (in_cases u y [] second) [
-    | inr none ↦ absurd (not_in_none y none)
-    | inl e' ↦ sym e ∙ e'
-  ]
-]
-run_number ms s u (v ∷ vs) x y (m, p, at, can, is, rest) first second same =
-    let up : number_of v ≡ number_of u + 1 = ap number_of is ∙ number_stepped p u can in
-    elim (in_cases u x (v ∷ vs) first) [
-      | inl e ↦ elim (in_cases u y (v ∷ vs) second) [
-        | inl e' ↦ sym e ∙ e'
-        | inr after ↦
-            let low = run_rises ms s v vs y rest after in
-            let one : number_of u ≡ number_of x = ap number_of e in
-            absurd (omega arith)
-      ]
-      | inr after ↦ elim (in_cases u y (v ∷ vs) second) [
-        | inl e' ↦
-            let low = run_rises ms s v vs x rest after in
-            let one : number_of u ≡ number_of y = ap number_of e' in
-            absurd (omega arith)
-        | inr after' ↦ run_number ms s v vs x y rest after after' same
-      ]
-    ]
-
 -- what is known of the records
 record AreKnown (ps : List Played) : Type 0 where
   differ : AllPairs OtherRecord ps
@@ -115,7 +86,7 @@ returned_one ps s k x y known (among, m, p, is, slot, made, back, number) (among
     let there = mark_in ps x m among is in
     let there' = mark_in ps y n among' is' in
     let numbers : number_of m.found ≡ number_of n.found = omega arith in
-    let word = run_number ms s 0 vs m.found n.found run (one.found m there slot) (one.found n there' slot') numbers in
+    let word = same_word ms s 0 vs m.found n.found run (one.found m there slot) (one.found n there' slot') numbers in
     let first = (one.used m p there slot made).0 in
     let second = (one.used n q there' slot' made').0 in
     let mark = one_mark ms s n.found m n p q (marks_differ ps known.differ) (subst (λ z. IsFirstAt ms s z m p) word first) second in

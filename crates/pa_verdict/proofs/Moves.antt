@@ -3,16 +3,14 @@ use Rattle.std.proofs.Common.{◌≡◌, ℕ, zero, suc, Bool, true, List, [], �
 use Rattle.std.specs.Prelude.{slice_get}
 use Rattle.std.proofs.lemmas.Bool.{cases_Bool}
 use Rattle.std.proofs.lemmas.List.Elements.{filter-append}
-use Rattle.pa_machine.specs.declared.word.SlotName.{SlotName}
+use Rattle.pa_slot.specs.declared.word.SlotName.{SlotName}
 use Rattle.pa_record.specs.declared.root.RootEntry.{RootEntry}
 use Rattle.pa_lists.proofs.Members.{of_some, not_some}
 use Rattle.pa_lists.proofs.Cuts.{append_cut}
+use Rattle.pa_lists.proofs.Joined.{filter_here}
 use Rattle.pa_rules.specs.Holders.{Move, moves_by, is_move_of, moves_at}
 
 -- ---- filtered lists and their parts
-
-filter_hit : {A : Type 0} (test : A → Bool) (x : A) (xs : List A) → test x ≡ true → filter test (x ∷ xs) ≡ x ∷ filter test xs
-filter_hit test x xs hit = rw hit refl
 
 -- a member of a filtered list, and what comes before it
 record IsFiltered {A : Type 0} (test : A → Bool) (xs pre : List A) (x : A) : Type 0 where
@@ -45,7 +43,7 @@ filtered_hit test y ys (z ∷ pre) rest x hit e further =
       after = u.after;
       parts = ap (λ zs. y ∷ zs) u.parts;
       passes = u.passes;
-      first = filter_hit test y u.before hit ∙ ap (λ w. w ∷ filter test u.before) same ∙ ap (λ zs. z ∷ zs) u.first;
+      first = filter_here test y u.before hit ∙ ap (λ w. w ∷ filter test u.before) same ∙ ap (λ zs. z ∷ zs) u.first;
     }
 
 filtered : {A : Type 0} (test : A → Bool) (xs pre rest : List A) (x : A) → filter test xs ≡ pre ++ x ∷ rest → IsFiltered test xs pre x
@@ -54,7 +52,7 @@ filtered test (y ∷ ys) pre rest x e = elim (cases_Bool (test y)) [
   | inr miss ↦
       let u = filtered test ys pre rest x (rw miss at e) in
       record { before = y ∷ u.before; after = u.after; parts = ap (λ zs. y ∷ zs) u.parts; passes = u.passes; first = rw miss u.first }
-  | inl hit ↦ filtered_hit test y ys pre rest x hit (sym (filter_hit test y ys hit) ∙ e) (λ next. filtered test ys next rest x)
+  | inl hit ↦ filtered_hit test y ys pre rest x hit (sym (filter_here test y ys hit) ∙ e) (λ next. filtered test ys next rest x)
 ]
 
 -- ---- the moves of a journal at a slot and a number
@@ -75,7 +73,7 @@ moves_split [] s k j e before after m at parts hit = absurd (not_some e at)
 moves_split (d ∷ es) s k zero e before after m at parts hit =
     let test = is_move_of s k in
     let here = ap entry_moves (of_some d e at) ∙ parts in
-    let cut = ap (filter test) here ∙ filter-append test before (m ∷ after) ∙ ap (λ zs. filter test before ++ zs) (filter_hit test m after hit) in (
+    let cut = ap (filter test) here ∙ filter-append test before (m ∷ after) ∙ ap (λ zs. filter test before ++ zs) (filter_here test m after hit) in (
       filter test after ++ moves_at es s k,
       one_more d es s k ∙ ap (λ zs. zs ++ moves_at es s k) cut ∙ append_assoc (filter test before) (m ∷ filter test after) (moves_at es s k),
     )

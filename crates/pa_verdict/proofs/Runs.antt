@@ -2,11 +2,11 @@
 use Rattle.std.proofs.Common.{◌≡◌, ℕ, ◌⊎◌, List, [], ◌∷◌, Some, refl, sym, ◌∙◌, ap, subst, inl, inr}
 use Rattle.std.specs.Prelude.{Contains, AllPairs}
 use Rattle.pa_trace.specs.declared.script.Trace.{Trace}
-use Rattle.pa_machine.specs.declared.word.SlotName.{SlotName}
-use Rattle.pa_machine.specs.declared.word.Step.{Step}
-use Rattle.pa_machine.specs.Count.{CanStep, stepped}
-use Rattle.pa_machine.specs.Run.{Mark, IsFirstAt, IsRunFrom, IsOneRun, Slots}
-use Rattle.pa_machine.proofs.Runs.{same_slot_cases}
+use Rattle.pa_slot.specs.declared.word.SlotName.{SlotName}
+use Rattle.pa_slot.specs.declared.word.Step.{Step}
+use Rattle.pa_slot.specs.Count.{CanStep, stepped}
+use Rattle.pa_slot.specs.Run.{Mark, IsFirstAt, IsRunFrom, IsOneRun, Slots}
+use Rattle.pa_slot.proofs.Runs.{same_slot_cases}
 use Rattle.pa_lists.proofs.Members.{not_in_none, first_in, later_in, in_cases, of_some}
 use Rattle.pa_rules.specs.declared.verdict.Clause.TheVariants as clauses
 use Rattle.pa_rules.specs.declared.verdict.Place.TheVariants as places

@@ -1,7 +1,7 @@
 -- A clause of a legal run holds if and only if each place of the run meets what the clause requires of it.
 use Rattle.std.specs.Prelude.{◌↔◌}
 use Rattle.pa_trace.specs.declared.script.Trace.{Trace}
-use Rattle.pa_machine.specs.Run.{Slots}
+use Rattle.pa_slot.specs.Run.{Slots}
 use Rattle.pa_rules.specs.declared.verdict.Clause.{Clause}
 use Rattle.pa_rules.specs.declared.verdict.Clause.TheVariants as clauses
 use Rattle.pa_rules.specs.declared.verdict.Place.{Place}
@@ -23,7 +23,7 @@ use Rattle.pa_rules.specs.Verdicts.{Demand}
 abbrev pub IsMet : Clause → Trace → Told → Type 0
 IsMet c t r = (place : Place) → Demand c t r place
 
--- the clauses that need nothing of those before them
+-- the clause of the lines holds if and only if each place meets it
 abbrev pub LinesArePlaces : Type 0
 LinesArePlaces = (t : Trace) (r : Told) → AreDue t.lines r.entries ↔ IsMet clauses.Lines t r
 
@@ -49,7 +49,7 @@ ReportIsPlaces =
     (t : Trace) (r : Told) →
     IsReport (phases_in t.lines) t.partitions t.threads (records_of t r) r.pools r.roots r.report ↔ IsMet clauses.Report t r
 
--- the clauses that need the lines alone
+-- if the lines are right, the clause of the cells holds if and only if each place meets it
 abbrev pub CellsArePlaces : Type 0
 CellsArePlaces = (t : Trace) (r : Told) → AreDue t.lines r.entries → AreCells r.cells (records_of t r) ↔ IsMet clauses.Cells t r
 
@@ -69,14 +69,14 @@ RootsArePlaces =
     (t : Trace) (r : Told) → AreDue t.lines r.entries →
     AreRoots t.partitions (records_of t r) r.pools r.roots ↔ IsMet clauses.Roots t r
 
--- Titles of the journals up to each line are those of the whole journals. If the journals and the pool's entries are
--- right, so are they at each place: the clause is never the first that fails.
+-- If each place meets the clause of the titles, the titles of the whole journals are right. If the journals and the pool's
+-- entries are right, each place meets it, so the clause is never the first that fails.
 pub record TitlesArePlaces : Type 0 where
   pub whole : (t : Trace) (r : Told) → IsMet clauses.Titles t r → AreAllTitles r.pools r.roots
   pub met : (t : Trace) (r : Told) → AreRoots t.partitions (records_of t r) r.pools r.roots
       → IsPoolOf t.region (records_of t r) r.pools r.roots → IsMet clauses.Titles t r
 
--- the clause that needs the lines and the slots, by which a free slot has one first holder
+-- if the lines and the slots are right, the clause of the holders holds if and only if each place meets it
 abbrev pub HoldersArePlaces : Type 0
 HoldersArePlaces =
     (t : Trace) (r : Told) → AreDue t.lines r.entries → Slots (marks_of (records_of t r)) →

@@ -15,7 +15,7 @@ use std::io::ErrorKind;
 use std::process::ExitCode;
 use std::{env, io};
 
-// The program's exit code if its words can't be had, for any reason but lack of memory.
+// The program's exit code if its words can't be had, for any reason but out of memory.
 const NO_WORDS: u8 = 8;
 
 fn main(rt: HostRuntime) -> ExitCode {

@@ -3,9 +3,9 @@ use Rattle.std.proofs.Common.{◌≡◌, ℕ, ◌<◌, ◌≤◌, false, List, [
 use Rattle.std.specs.Prelude.{Some, None, ◌++◌, take, drop, Contains}
 use Rattle.std.specs.List.{AllByRecursion as Each}
 use Rattle.std.proofs.lemmas.Bool.{cases_eq}
-use Rattle.pa_machine.specs.declared.title.Title.{Title}
-use Rattle.pa_machine.specs.declared.word.SlotName.{SlotName}
-use Rattle.pa_machine.specs.Titles.{poison}
+use Rattle.pa_slot.specs.declared.title.Title.{Title}
+use Rattle.pa_slot.specs.declared.word.SlotName.{SlotName}
+use Rattle.pa_slot.specs.Titles.{poison}
 use Rattle.pa_buckets.specs.Table.{rows, row_of, slot_of}
 use Rattle.pa_region.specs.History.{reached}
 use Rattle.pa_region.specs.Moves.{no_deeds}
@@ -20,7 +20,7 @@ use Rattle.pa_rules.specs.declared.played.Played.{Played}
 use Rattle.pa_rules.specs.Played.{mark_of}
 use Rattle.pa_rules.specs.Registers.{Row}
 use Rattle.pa_rules.specs.Report.{until}
-use Rattle.pa_machine.specs.Kinds.{issues, frees, enters, leaves}
+use Rattle.pa_slot.specs.Kinds.{issues, frees, enters, leaves}
 use Rattle.pa_examples.specs.Worked.{tally, report_line, seen_at, two_threads_trace, two_threads_journal, two_threads_report, two_threads_census}
 use Rattle.pa_examples.proofs.worked.Lists.{each}
 use Rattle.pa_examples.proofs.worked.OneFill.{the_slot}
@@ -345,7 +345,7 @@ threads_say = record {
   freed = says (answers.Dangling (seen_at 16384 0 0x3000002) poison) 0x3000002 poison 3 freed_fits;
 }
 
--- so each is legal
+-- the run with each read is legal
 fine : (read : Worked) → SaysWith read → IsFineWith read
 fine read h = record {
   played = layers_tell_all.played two_threads_trace (told_with read) (seat_last read) (reading_so read) h;

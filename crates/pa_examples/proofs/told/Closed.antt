@@ -2,8 +2,8 @@
 use Rattle.std.proofs.Common.{◌≡◌, ℕ, zero, suc, ◌<◌, List, [], ◌∷◌, map, refl, sym, ◌∙◌, ap, subst, arith, inl, inr}
 use Rattle.std.specs.Prelude.{Contains}
 use Rattle.std.proofs.lemmas.Bool.{cases_eq}
-use Rattle.pa_machine.specs.declared.title.Title.{Title}
-use Rattle.pa_machine.specs.declared.word.SlotName.{SlotName}
+use Rattle.pa_slot.specs.declared.title.Title.{Title}
+use Rattle.pa_slot.specs.declared.word.SlotName.{SlotName}
 use Rattle.pa_buckets.specs.Table.{rows, row_of, slot_of, pages_of, slots_of}
 use Rattle.pa_buckets.specs.Bands.{fill_of}
 use Rattle.pa_record.specs.declared.entry.Answer.{Answer}
@@ -18,7 +18,7 @@ use Rattle.pa_lists.proofs.Members.{not_in_none}
 use Rattle.pa_rules.specs.Caches.{no_caches}
 use Rattle.pa_rules.specs.Report.{until}
 use Rattle.pa_rules.proofs.Known.{IsKnown, all_known}
-use Rattle.pa_machine.specs.Titles.{poison}
+use Rattle.pa_slot.specs.Titles.{poison}
 use Rattle.pa_examples.specs.Worked.{seen_at, two_threads_trace, two_threads_records, two_threads_journal, two_threads_pool}
 use Rattle.pa_examples.proofs.worked.OneFill.{roots}
 use Rattle.pa_examples.proofs.worked.ThreadsHeld.{rooted, pooled, after_3, cached_3}

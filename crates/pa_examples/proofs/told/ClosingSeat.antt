@@ -1,9 +1,9 @@
 -- The seat that closes the worked run of two threads: it is as a seat's type keeps it, and it has the slots of the span free.
 use Rattle.std.proofs.Common.{◌≡◌, ℕ, ◌<◌, false, List, [], refl, sym, ◌∙◌, ap, subst, arith, inl, inr}
-use Rattle.pa_machine.specs.declared.title.Title.{Title}
-use Rattle.pa_machine.specs.Count.{number_of, held_of, refs_of}
-use Rattle.pa_machine.specs.Titles.{same_title, count_word}
-use Rattle.pa_machine.proofs.Same.{title_tells}
+use Rattle.pa_slot.specs.declared.title.Title.{Title}
+use Rattle.pa_slot.specs.Count.{number_of, held_of, refs_of}
+use Rattle.pa_slot.specs.Titles.{same_title, count_word}
+use Rattle.pa_slot.proofs.Same.{title_tells}
 use Rattle.pa_region.specs.declared.view.View.{View}
 use Rattle.pa_region.specs.Views.{seen_among, names, logged_of, HasTitle}
 use Rattle.pa_region.specs.AllReads.{HasAllLogs}
@@ -23,7 +23,7 @@ use Rattle.pa_examples.proofs.told.PhaseEnds.{KnowsUntil, fits_3, knows_3}
 use Rattle.pa_examples.proofs.told.Played.{so_read}
 use Rattle.pa_examples.proofs.told.Seats.{FitsSeat, FitsHolding, weighed, all_logs, history_is, has_logs}
 
--- What is known of the last seat's logs: all of them, and the last word of the slot's history; another title has none.
+-- All of the last seat's logs are known, and the last word of the slot's history. Another title has no history.
 pub record KnowsLast (ts : List ToldRecord) : Type 0 where
   pub until : KnowsUntil ts 3
   pub first : reached (until.knows.all.history its_title) ≡ 0x4000000

@@ -94,7 +94,7 @@ asked_none list x es a b c d e none = (enters x es [] a b c d e, inl (record { p
     each zero = none
     each (suc p) = refl
 
--- and one that asked once, of partition 0
+-- a record that asked the pool once, for partition 0, names its entry there
 pub asked_once : (list : List Made) (x : ToldRecord) (es : List RootEntry) (m : Made) (f : PoolEntry) (e : RootEntry) (j : ℕ) →
     map (λ (m : Made). m.numbers) (entered_in 0 x.stretch) ≡ map root_numbers es → entered_in 1 x.stretch ≡ [] → entered_in 2 x.stretch ≡ [] → entered_in 3 x.stretch ≡ [] →
     entered_in 4 x.stretch ≡ m ∷ [] → m.numbers ≡ pool_numbers f → 0 ≡ f.partition → filter asks es ≡ e ∷ [] → asked_by e.act ≡ Some j → StandsAt list m j → Asked list x

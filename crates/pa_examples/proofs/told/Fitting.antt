@@ -6,7 +6,7 @@ use Rattle.pa_trace.specs.declared.script.Op.TheVariants as ops
 use Rattle.pa_record.specs.declared.entry.Answer.TheVariants as answers
 use Rattle.pa_record.specs.declared.history.CellEntry.{CellEntry}
 use Rattle.pa_record.specs.declared.history.Held.TheVariants as held
-use Rattle.pa_machine.specs.declared.title.Title.{Title}
+use Rattle.pa_slot.specs.declared.title.Title.{Title}
 use Rattle.pa_logs.proofs.Filters.{only_one}
 use Rattle.pa_record.specs.Worked.{full, map_made, map_gone, pool_take, pool_give, purge_journal, purge_pool, direct_map_again_pool, direct_map_again_journal}
 use Rattle.pa_lists.proofs.Members.{not_in_none, first_in, later_in}

@@ -5,10 +5,10 @@ use Rattle.std.specs.List.{sum_by}
 use Rattle.std.proofs.lemmas.Bool.{true≢false}
 use Rattle.std.proofs.lemmas.List.{length-append}
 use Rattle.std.proofs.lemmas.List.Sums.{sum_by-cons}
-use Rattle.pa_machine.specs.declared.title.Title.{Title}
-use Rattle.pa_machine.specs.Titles.{same_title, Covers, count_word, count_place}
-use Rattle.pa_machine.specs.Holdings.{one, Piece, FreePiece, RawByte, held_in, amount}
-use Rattle.pa_machine.proofs.Same.{title_tells}
+use Rattle.pa_slot.specs.declared.title.Title.{Title}
+use Rattle.pa_slot.specs.Titles.{same_title, Covers, count_word, count_place}
+use Rattle.pa_slot.specs.Holdings.{one, Piece, FreePiece, RawByte, held_in, amount}
+use Rattle.pa_slot.proofs.Same.{title_tells}
 use Rattle.pa_buckets.specs.Table.{slot_of}
 use Rattle.pa_region.specs.Start.{blank}
 use Rattle.pa_region.proofs.FirstLists.{blank_at}
@@ -44,7 +44,7 @@ stands_in (u ∷ us) t among =
       | inr later ↦ let again = stands_in us t later in omega arith
     ]
 
--- and what is in it is one of it
+-- a title that is counted among these is one of them
 pub one_of_them : (ts : List Title) (t : Title) → 0 < times_in ts t → Contains ts t
 one_of_them ts t some_times =
     let (u, among, same) = sum_some (λ v. one (same_title v t)) ts some_times in
@@ -90,7 +90,7 @@ slot_is count t among =
     let (low, high) = numbers_in 0 count n counted in
     (n, omega arith, is)
 
--- none of their bytes is raw
+-- free titles hold no raw bytes
 pub none_raw : (ts : List Title) (rest : List Piece) (b : ℕ) → held_in (map FreePiece ts ++ rest) (RawByte b) ≡ held_in rest (RawByte b)
 none_raw [] rest b = refl
 none_raw (t ∷ ts) rest b =

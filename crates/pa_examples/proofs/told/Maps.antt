@@ -1,10 +1,10 @@
 -- The worked run of direct maps meets all that is required of annotated records.
 use Rattle.std.proofs.Common.{◌≡◌, ℕ, ◌<◌, Bool, false, ◌⊎◌, List, [], ◌∷◌, map, lit<, lit≤, refl, sym, ◌∙◌, ap, subst, arith, inl, inr}
 use Rattle.std.specs.Prelude.{Contains, if◌then◌else◌}
-use Rattle.pa_machine.specs.declared.title.Title.{Title}
-use Rattle.pa_machine.specs.declared.word.Step.TheVariants.{Issue, Copy, Reset, Free}
-use Rattle.pa_machine.specs.Titles.{IsWellFormed, same_title}
-use Rattle.pa_machine.proofs.Same.{title_tells, title_is}
+use Rattle.pa_slot.specs.declared.title.Title.{Title}
+use Rattle.pa_slot.specs.declared.word.Step.TheVariants.{Issue, Copy, Reset, Free}
+use Rattle.pa_slot.specs.Titles.{IsWellFormed, same_title}
+use Rattle.pa_slot.proofs.Same.{title_tells, title_is}
 use Rattle.pa_region.specs.declared.view.View.{View}
 use Rattle.pa_region.specs.Views.{names}
 use Rattle.pa_region.specs.History.{Done, IsChained}

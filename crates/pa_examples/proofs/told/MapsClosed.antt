@@ -1,11 +1,11 @@
 -- The worked run of direct maps is closed: its seat is as required, so the words at the end hold the run.
 use Rattle.std.proofs.Common.{◌≡◌, ℕ, zero, suc, ◌+◌, ◌<◌, ◌≤◌, [], lit<, lit≤, refl, sym, ◌∙◌, ap, subst, arith, inl, inr}
 use Rattle.std.specs.Prelude.{Contains}
-use Rattle.pa_machine.specs.declared.title.Title.{Title}
-use Rattle.pa_machine.specs.Count.{held_of}
-use Rattle.pa_machine.specs.Titles.{same_title, count_word}
-use Rattle.pa_machine.specs.Holdings.{one}
-use Rattle.pa_machine.proofs.Same.{title_tells}
+use Rattle.pa_slot.specs.declared.title.Title.{Title}
+use Rattle.pa_slot.specs.Count.{held_of}
+use Rattle.pa_slot.specs.Titles.{same_title, count_word}
+use Rattle.pa_slot.specs.Holdings.{one}
+use Rattle.pa_slot.proofs.Same.{title_tells}
 use Rattle.pa_buckets.specs.Table.{rows, row_of, slot_of, pages_of, slots_of}
 use Rattle.pa_region.specs.Views.{seen_among, names, uncuts, logged_of, uncut_of, undone_of, HasTitle}
 use Rattle.pa_region.specs.AllReads.{HasAllLogs}
@@ -35,7 +35,7 @@ use Rattle.pa_examples.proofs.told.OneThread.{fits_seat, fits_knows}
 use Rattle.pa_examples.proofs.told.Seats.{FitsSeat, FitsHolding, weighed, all_logs, history_is, has_logs}
 use Rattle.pa_examples.proofs.told.Uncuts.{unmaps_none, unmaps_one, only_unmaps}
 
--- it has one title, as an owner
+-- the last seat has one title, that of the third map
 has_third : (t : Title) → HasTitle seat_maps t → map_title 5 ≡ t
 has_third t has = elim (title_tells (map_title 5) t) [
   | inl y ↦ y.1

@@ -3,9 +3,9 @@ use Rattle.std.proofs.Common.{◌≡◌, ℕ, ◌<◌, ◌≤◌, List, [], ◌�
 use Rattle.std.specs.Prelude.{◌==◌, if◌then◌else◌, Contains}
 use Rattle.std.specs.List.{AllByRecursion as Each}
 use Rattle.std.proofs.lemmas.Bool.{ne_eqb}
-use Rattle.pa_machine.specs.declared.title.Title.{Title}
-use Rattle.pa_machine.specs.declared.word.SlotName.{SlotName}
-use Rattle.pa_machine.proofs.Same.{title_tells}
+use Rattle.pa_slot.specs.declared.title.Title.{Title}
+use Rattle.pa_slot.specs.declared.word.SlotName.{SlotName}
+use Rattle.pa_slot.proofs.Same.{title_tells}
 use Rattle.pa_buckets.specs.Table.{rows, row_of, slot_of}
 use Rattle.pa_region.specs.declared.view.SeenNumber.{SeenNumber}
 use Rattle.pa_region.specs.Views.{seen_among, counted_on}
@@ -25,7 +25,7 @@ use Rattle.pa_rules.specs.Report.{HasSize, until}
 use Rattle.pa_rules.specs.Sizes.{slot_size_for}
 use Rattle.pa_rules.specs.Legal.{IsLegalTold}
 use Rattle.pa_legal.specs.Known.{IsKnown}
-use Rattle.pa_machine.specs.Kinds.{issues, frees, enters, leaves}
+use Rattle.pa_slot.specs.Kinds.{issues, frees, enters, leaves}
 use Rattle.pa_legal.proofs.Converse.{legal_is_known}
 use Rattle.pa_examples.specs.Worked.{seen_at, tally, report_line, direct_map_trace, direct_map_records, direct_map_report}
 use Rattle.pa_examples.proofs.worked.Lists.{each}

@@ -2,10 +2,10 @@
 use Rattle.std.proofs.Common.{◌≡◌, ℕ, false, List, [], ◌∷◌, ◌++◌, map, lit<, refl, sym, ◌∙◌, ap, arith, inl, inr}
 use Rattle.std.proofs.lemmas.List.{append_assoc}
 use Rattle.std.proofs.lemmas.Bool.{ne_eqb}
-use Rattle.pa_machine.specs.declared.word.Step.TheVariants.{Issue, Copy, Reset, Free}
-use Rattle.pa_machine.specs.declared.title.Title.{Title}
-use Rattle.pa_machine.specs.Titles.{poison}
-use Rattle.pa_machine.proofs.Same.{title_tells}
+use Rattle.pa_slot.specs.declared.word.Step.TheVariants.{Issue, Copy, Reset, Free}
+use Rattle.pa_slot.specs.declared.title.Title.{Title}
+use Rattle.pa_slot.specs.Titles.{poison}
+use Rattle.pa_slot.proofs.Same.{title_tells}
 use Rattle.pa_region.specs.declared.view.Entry.{Entry}
 use Rattle.pa_region.specs.declared.view.Entry.TheVariants.{Counted, Looked, Read}
 use Rattle.pa_region.specs.declared.view.Made.{Made}
@@ -35,7 +35,7 @@ until_1 =
     by_first (took the_take) ∷ by_first (filled the_fill) ∷ by_first (Counted its_title Issue 0 0) ∷ by_first (Counted its_title Copy 0x1000001 0)
     ∷ by_first (exchanged 0 the_gift 2) ∷ []
 
--- in the second it frees the slot, and the second thread takes the raw_ptr and looks, before the free or after it
+-- the steps of the second phase: the first thread frees the slot, and the second takes the raw_ptr and looks, before the free or after it
 abbrev the_free : Stamped
 the_free = by_first (Counted its_title Free 0x2000003 0)
 
@@ -58,7 +58,7 @@ told answer word value after = reading_so (so_read answer word value after)
 
 -- ---- the same with the poisoning of the slot's one content word
 
--- the steps of the first phase, the latest first; no word is poisoned in it
+-- The steps of the first phase, the latest first. No word is poisoned in it.
 abbrev steps_until_1 : List OneStep
 steps_until_1 =
     Logged (by_first (exchanged 0 the_gift 2)) ∷ Logged (by_first (Counted its_title Copy 0x1000001 0)) ∷ Logged (by_first (Counted its_title Issue 0 0))
@@ -112,7 +112,7 @@ held_poison = record {
   content = refl;
 }
 
--- or it looks after the free
+-- the steps of both phases if the second thread looks after the free
 abbrev pub freed_steps : List OneStep
 freed_steps = read_step poison ∷ look_step 0x3000002 ∷ taking_step ∷ Logged the_free ∷ Spoiled its_title 0 ∷ steps_until_1
 

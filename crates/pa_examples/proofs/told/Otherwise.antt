@@ -2,10 +2,10 @@
 use Rattle.std.proofs.Common.{◌≡◌, ℕ, ◌<◌, true, false, eqb, List, [], ◌∷◌, ◌++◌, lit<, refl, sym, ap, subst, arith, inl, inr}
 use Rattle.std.specs.Prelude.{take, drop}
 use Rattle.std.proofs.lemmas.Bool.{true≢false, eqb-true, cases_lt}
-use Rattle.pa_machine.specs.declared.title.Title.{Title}
-use Rattle.pa_machine.specs.Count.{number_of, held_of}
-use Rattle.pa_machine.specs.Titles.{poison}
-use Rattle.pa_machine.specs.Holdings.{one}
+use Rattle.pa_slot.specs.declared.title.Title.{Title}
+use Rattle.pa_slot.specs.Count.{number_of, held_of}
+use Rattle.pa_slot.specs.Titles.{poison}
+use Rattle.pa_slot.specs.Holdings.{one}
 use Rattle.pa_region.specs.declared.view.Entry.TheVariants.{Looked, Read}
 use Rattle.pa_region.specs.declared.view.View.{View}
 use Rattle.pa_region.specs.History.{IsChained}
@@ -35,7 +35,7 @@ read_gives w given t found value some_pair =
     found_is : (a b : Title) (m n : ℕ) → Looked a m ≡ Looked b n → m ≡ n
     found_is a b m n e = cc
 
--- none is through an Own
+-- no quiet read is through an Own
 never_owned : (w given : ℕ) (t : Title) (found value : ℕ) → 0 < quiet_read true t found value (Looked its_title w) (Read its_title 0 given no_deeds false false) → ⊥
 never_owned w given t found value some_pair =
     let is = quiet_tells true t found value (Looked its_title w) its_title 0 given no_deeds false false some_pair in

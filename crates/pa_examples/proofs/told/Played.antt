@@ -2,10 +2,10 @@
 use Rattle.std.proofs.Common.{◌≡◌, ℕ, ◌-◌, ◌*◌, ◌<◌, ◌≤◌, ◌&&◌, false, eqb, leb, List, [], ◌∷◌, filter, Some, lit≤, refl, sym, subst, arith, inl, inr}
 use Rattle.std.specs.Prelude.{if◌then◌else◌}
 use Rattle.std.proofs.lemmas.Bool.{cases_eq, ne_eqb}
-use Rattle.pa_machine.specs.declared.word.SlotName.{SlotName}
-use Rattle.pa_machine.specs.declared.word.Step.TheVariants as steps
-use Rattle.pa_machine.specs.Count.{held_of}
-use Rattle.pa_machine.specs.Titles.{poison}
+use Rattle.pa_slot.specs.declared.word.SlotName.{SlotName}
+use Rattle.pa_slot.specs.declared.word.Step.TheVariants as steps
+use Rattle.pa_slot.specs.Count.{held_of}
+use Rattle.pa_slot.specs.Titles.{poison}
 use Rattle.pa_buckets.specs.Bands.{limit_of}
 use Rattle.pa_buckets.specs.Table.{rows}
 use Rattle.pa_region.specs.declared.view.Entry.{Entry}

@@ -1,12 +1,13 @@
--- An order of what was logged, without reads, in which the poisonings of each free are put right before it, is one of steps that are in place.
+-- An order of what was logged, without reads, in which the poisonings of each free are put right before it, is one of steps that are in
+-- place.
 use Rattle.std.proofs.Common.{◌≡◌, ℕ, zero, suc, ◌+◌, ◌≤◌, Bool, true, false, ◌&&◌, List, [], ◌∷◌, ◌++◌, refl, sym, ◌∙◌, ap, arith, inl, inr, append-nil}
 use Rattle.std.specs.Prelude.{if◌then◌else◌}
 use Rattle.std.proofs.lemmas.List.{append_assoc}
-use Rattle.pa_machine.specs.declared.title.Title.{Title}
-use Rattle.pa_machine.specs.declared.word.Step.{Step}
-use Rattle.pa_machine.specs.declared.word.Step.TheVariants.{Issue, Copy, Reset, Free, Write}
-use Rattle.pa_machine.specs.Titles.{same_title, content_count}
-use Rattle.pa_machine.proofs.Same.{title_tells, title_self}
+use Rattle.pa_slot.specs.declared.title.Title.{Title}
+use Rattle.pa_slot.specs.declared.word.Step.{Step}
+use Rattle.pa_slot.specs.declared.word.Step.TheVariants.{Issue, Copy, Reset, Free, Write}
+use Rattle.pa_slot.specs.Titles.{same_title, content_count}
+use Rattle.pa_slot.proofs.Same.{title_tells, title_self}
 use Rattle.pa_region.specs.declared.view.Entry.{Entry}
 use Rattle.pa_region.specs.declared.view.Entry.TheVariants.{Counted, Looked, Read, Added, Entered, Uncut}
 use Rattle.pa_region.specs.Order.{Stamped, OneStep, Logged, Spoiled, logged_among, spoiled, IsAlone, AreInPlace}
@@ -115,11 +116,11 @@ all_ready older (m ∷ ms) unread h =
     let both = both_true (is_unread m.entry) (all_unread ms) unread in
     all_ready (Logged m ∷ readied m.entry older) ms both.1 (entry_ready m.stake m.entry older both.0 h)
 
--- so the steps are in place, and each poisoning has a free after it
+-- the steps of an order without reads are in place, and each poisoning has a free after it
 pub stepwise_placed : (ms : List Stamped) → all_unread ms ≡ true → AreInPlace (stepwise [] ms) × ((t : Title) → spoiled t (stepwise [] ms) ≡ 0)
 stepwise_placed ms unread = let h = all_ready [] ms unread (record { placed = tt; none = λ t. refl }) in (h.placed, h.none)
 
--- and what was logged is the order
+-- readying a step logs nothing
 step_logged : (p : Step) (t : Title) (older : List OneStep) → logged_among (readied_by p t older) ≡ logged_among older
 unfolding readied_by
 step_logged Issue t older = refl

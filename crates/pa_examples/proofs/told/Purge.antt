@@ -1,9 +1,9 @@
 -- The worked run with a purge meets all that is required of annotated records.
 use Rattle.std.proofs.Common.{◌≡◌, ℕ, ◌<◌, Bool, false, List, [], ◌∷◌, map, lit<, refl, sym, ◌∙◌, ap, subst, arith}
 use Rattle.std.specs.Prelude.{Contains}
-use Rattle.pa_machine.specs.declared.title.Title.{Title}
-use Rattle.pa_machine.specs.declared.word.Step.TheVariants.{Issue, Free}
-use Rattle.pa_machine.specs.Titles.{same_title}
+use Rattle.pa_slot.specs.declared.title.Title.{Title}
+use Rattle.pa_slot.specs.declared.word.Step.TheVariants.{Issue, Free}
+use Rattle.pa_slot.specs.Titles.{same_title}
 use Rattle.pa_region.specs.declared.view.View.{View}
 use Rattle.pa_region.specs.History.{Done, IsChained}
 use Rattle.pa_region.specs.Pairs.{pairs}

@@ -3,8 +3,8 @@ use Rattle.std.proofs.Common.{◌≡◌, ℕ, ◌<◌, ◌≤◌, [], ◌∷◌,
 use Rattle.std.specs.Prelude.{Contains}
 use Rattle.std.specs.List.{AllByRecursion as Each}
 use Rattle.std.proofs.lemmas.Bool.{ne_eqb}
-use Rattle.pa_machine.specs.declared.word.SlotName.{SlotName}
-use Rattle.pa_machine.proofs.Same.{title_tells}
+use Rattle.pa_slot.specs.declared.word.SlotName.{SlotName}
+use Rattle.pa_slot.proofs.Same.{title_tells}
 use Rattle.pa_buckets.specs.Table.{rows, row_of, slot_of}
 use Rattle.pa_region.specs.Views.{seen_among, counted_on}
 use Rattle.pa_region.specs.Lists.{list_of, entered_in}
@@ -25,7 +25,7 @@ use Rattle.pa_rules.specs.Sizes.{slot_size_for}
 use Rattle.pa_rules.specs.Legal.{IsLegalTold}
 use Rattle.pa_rules.specs.Worked.{first_slot, purge_records}
 use Rattle.pa_legal.specs.Known.{IsKnown}
-use Rattle.pa_machine.specs.Kinds.{issues, frees}
+use Rattle.pa_slot.specs.Kinds.{issues, frees}
 use Rattle.pa_legal.proofs.Converse.{legal_is_known}
 use Rattle.pa_examples.specs.Worked.{tally, report_line}
 use Rattle.pa_examples.specs.WorkedPurge.{purge_trace, purge_report}

@@ -3,11 +3,11 @@ use Rattle.std.proofs.Common.{◌≡◌, ℕ, ◌+◌, ◌≤◌, Bool, true, �
 use Rattle.std.specs.Prelude.{Contains}
 use Rattle.std.specs.List.{list_all}
 use Rattle.std.proofs.lemmas.Bool.{true≢false, cases_lt, and_parts, leb-true, ltb-true}
-use Rattle.pa_machine.specs.declared.title.Title.{Title}
-use Rattle.pa_machine.specs.Count.{number_of}
-use Rattle.pa_machine.specs.Titles.{same_title}
-use Rattle.pa_machine.specs.Holdings.{one}
-use Rattle.pa_machine.proofs.Same.{title_tells}
+use Rattle.pa_slot.specs.declared.title.Title.{Title}
+use Rattle.pa_slot.specs.Count.{number_of}
+use Rattle.pa_slot.specs.Titles.{same_title}
+use Rattle.pa_slot.specs.Holdings.{one}
+use Rattle.pa_slot.proofs.Same.{title_tells}
 use Rattle.pa_record.specs.declared.history.CellEntry.{CellEntry}
 use Rattle.pa_lists.proofs.Joined.{map_cases}
 use Rattle.pa_region.specs.declared.view.Entry.{Entry}
@@ -63,7 +63,7 @@ fits saw gives (Added word bytes) = true
 fits saw gives (Entered keeper made) = true
 fits saw gives (Uncut t) = true
 
--- The tests of worked records; `hands` says which line's exchange gave to which.
+-- The tests of worked records, in which `hands` says which line's exchange gave to which.
 abbrev pub are_seen : (ℕ → ℕ → Bool) → List Worked → Bool
 are_seen hands ws =
     list_all (λ (x : Worked). list_all (fits x.saw x.gives) x.stretch && covers x.saw x.gives) ws

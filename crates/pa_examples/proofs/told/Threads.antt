@@ -1,11 +1,11 @@
 -- The worked run of two threads meets all that is required of annotated records.
 use Rattle.std.proofs.Common.{◌≡◌, ℕ, zero, suc, ◌<◌, ◌⊎◌, Bool, true, false, ◌&&◌, eqb, List, [], ◌∷◌, map, lit<, lit≤, add-one, refl, sym, ◌∙◌, ap, subst, arith, inl, inr}
 use Rattle.std.proofs.lemmas.Bool.{true≢false, eqb-true, eq-eqb, and_from, cases_lt, cases_Bool}
-use Rattle.pa_machine.specs.declared.title.Title.{Title}
-use Rattle.pa_machine.specs.declared.word.Step.TheVariants.{Issue, Copy, Reset, Free}
-use Rattle.pa_machine.specs.Count.{number_of, held_of}
-use Rattle.pa_machine.specs.Titles.{poison}
-use Rattle.pa_machine.specs.Holdings.{one}
+use Rattle.pa_slot.specs.declared.title.Title.{Title}
+use Rattle.pa_slot.specs.declared.word.Step.TheVariants.{Issue, Copy, Reset, Free}
+use Rattle.pa_slot.specs.Count.{number_of, held_of}
+use Rattle.pa_slot.specs.Titles.{poison}
+use Rattle.pa_slot.specs.Holdings.{one}
 use Rattle.pa_region.specs.declared.view.Entry.{Entry}
 use Rattle.pa_region.specs.declared.view.Entry.TheVariants.{Looked, Read}
 use Rattle.pa_region.specs.declared.view.View.{View}
@@ -127,7 +127,7 @@ read_is t word found value some_pair =
     found_is : (a b : Title) (w u : ℕ) → Looked a w ≡ Looked b u → w ≡ u
     found_is a b w u e = cc
 
--- none is through an Own
+-- no quiet read is through an Own
 not_owned : (t : Title) (word found value : ℕ) → 0 < quiet_read true t found value (Looked its_title word) (Read its_title 0 poison no_deeds false false) → ⊥
 not_owned t word found value some_pair =
     let is = quiet_tells true t found value (Looked its_title word) its_title 0 poison no_deeds false false some_pair in

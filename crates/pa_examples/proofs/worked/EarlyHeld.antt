@@ -3,8 +3,8 @@ use Rattle.std.proofs.Common.{◌≡◌, ℕ, ◌≤◌, true, List, [], ◌∷�
 use Rattle.std.specs.Prelude.{AllPairs}
 use Rattle.std.specs.List.{AllByRecursion}
 use Rattle.std.proofs.lemmas.List.Elements.{All-from_recursion}
-use Rattle.pa_machine.specs.declared.word.Step.TheVariants as steps
-use Rattle.pa_machine.specs.Run.{IsLive, IsQuarantined}
+use Rattle.pa_slot.specs.declared.word.Step.TheVariants as steps
+use Rattle.pa_slot.specs.Run.{IsLive, IsQuarantined}
 use Rattle.pa_buckets.specs.Table.{rows, row_of, slot_of}
 use Rattle.pa_trace.specs.declared.script.Op.TheVariants as ops
 use Rattle.pa_record.specs.declared.entry.Answer.TheVariants as answers
@@ -17,6 +17,7 @@ use Rattle.pa_rules.specs.Caches.{Caches, with_cache, no_caches, DoneRow, Caches
 use Rattle.pa_rules.specs.Report.{until, IsTally, HasCensus, IsReportLine, IsReport}
 use Rattle.pa_rules.proofs.Following.{titles_follow}
 use Rattle.pa_rules.proofs.Running.{OtherLine}
+use Rattle.pa_legal.proofs.tallies.Levels.{is_live, live_is, is_live_of, is_quarantined, quarantined_is, is_quarantined_of}
 use Rattle.pa_examples.specs.Worked.{seen_at, tally, report_line, two_threads_journal, two_threads_pool, two_threads_census}
 use Rattle.pa_examples.specs.WorkedEarly.{early_read_records, early_read_report}
 use Rattle.pa_examples.proofs.worked.Pool.{pool_of_one}
@@ -24,7 +25,7 @@ use Rattle.pa_examples.proofs.worked.Holders.{HasIt, IsIssued, issued, no_moves}
 use Rattle.pa_examples.proofs.worked.Moves.{holders_of_one}
 use Rattle.pa_examples.proofs.worked.OneJournal.{IsMade, none_on, roots_of_one, census_of_one}
 use Rattle.pa_examples.proofs.worked.OneFill.{roots, the_slot, is_pool, is_journal, kept, made_row, has_size, counted}
-use Rattle.pa_examples.proofs.worked.Report.{other_lines, slots_of_kind, is_live, live-true, live-from, is_quarantined, quarantined-true, quarantined-from}
+use Rattle.pa_examples.proofs.worked.Report.{other_lines, slots_of_kind}
 use Rattle.pa_examples.proofs.worked.Slots.{Worded, are_worded}
 use Rattle.pa_examples.proofs.worked.Early.{follow, words, worded}
 use Rattle.pa_rules.proofs.Worked.{class_0}
@@ -138,19 +139,19 @@ alone_2 : AllPairs OtherLine (marks_of (records 2))
 alone_2 = other_lines (marks_of (records 2)) refl
 
 live_1 : IsTally IsLive roots (records 1) 0 (tally 1 16)
-live_1 = (_, 16 ∷ [], slots_of_kind IsLive is_live live-true live-from refl roots (records 1) 0 words_1 (16 ∷ []) alone_1 worded_1 (has_size, tt) refl, refl, refl)
+live_1 = (_, 16 ∷ [], slots_of_kind IsLive is_live live_is is_live_of refl roots (records 1) 0 words_1 (16 ∷ []) alone_1 worded_1 (has_size, tt) refl, refl, refl)
 
 quarantined_1 : IsTally IsQuarantined roots (records 1) 0 (tally 0 0)
-quarantined_1 = (_, [], slots_of_kind IsQuarantined is_quarantined quarantined-true quarantined-from refl roots (records 1) 0 words_1 [] alone_1 worded_1 tt refl, refl, refl)
+quarantined_1 = (_, [], slots_of_kind IsQuarantined is_quarantined quarantined_is is_quarantined_of refl roots (records 1) 0 words_1 [] alone_1 worded_1 tt refl, refl, refl)
 
 live_2 : IsTally IsLive roots (records 2) 0 (tally 0 0)
-live_2 = (_, [], slots_of_kind IsLive is_live live-true live-from refl roots (records 2) 0 words [] alone_2 worded tt refl, refl, refl)
+live_2 = (_, [], slots_of_kind IsLive is_live live_is is_live_of refl roots (records 2) 0 words [] alone_2 worded tt refl, refl, refl)
 
 quarantined_2 : IsTally IsQuarantined roots (records 2) 0 (tally 1 16)
 quarantined_2 = (
   _,
   16 ∷ [],
-  slots_of_kind IsQuarantined is_quarantined quarantined-true quarantined-from refl roots (records 2) 0 words (16 ∷ []) alone_2 worded (has_size, tt) refl,
+  slots_of_kind IsQuarantined is_quarantined quarantined_is is_quarantined_of refl roots (records 2) 0 words (16 ∷ []) alone_2 worded (has_size, tt) refl,
   refl,
   refl,
 )

@@ -1,7 +1,7 @@
 -- The registers of the worked run with an early read, and what was read.
 use Rattle.std.proofs.Common.{◌≡◌, ℕ, take, drop, refl, arith, inl, inr, lit<, lit≤}
 use Rattle.std.specs.List.{AllByRecursion}
-use Rattle.pa_machine.specs.Titles.{poison}
+use Rattle.pa_slot.specs.Titles.{poison}
 use Rattle.pa_buckets.specs.Table.{rows}
 use Rattle.pa_trace.specs.declared.script.Op.TheVariants as ops
 use Rattle.pa_record.specs.declared.entry.Answer.TheVariants as answers
@@ -35,7 +35,7 @@ after_back = with after_give 2 (Ref the_slot)
 abbrev after_free : Regs
 after_free = with after_back 0 Freed
 
--- those of the second after its lines
+-- the registers of the second thread after its lines
 abbrev after_take : Regs
 after_take = with (no_regs 1) 0 (Ref the_slot)
 

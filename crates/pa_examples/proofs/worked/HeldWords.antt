@@ -2,10 +2,10 @@
 use Rattle.std.proofs.Common.{◌≡◌, ℕ, zero, suc, ◌+◌, ◌*◌, ◌<◌, ◌≤◌, Bool, true, false, not, None, List, [], ◌∷◌, map, length, refl, sym, ◌∙◌, ap, subst, arith, inl, inr, lit<}
 use Rattle.std.specs.Prelude.{Contains, find, slice_index}
 use Rattle.std.proofs.lemmas.Bool.{not-true, both_ways, ne_eqb}
-use Rattle.pa_machine.specs.declared.title.Title.{Title}
-use Rattle.pa_machine.specs.declared.word.SlotName.{SlotName}
-use Rattle.pa_machine.specs.Count.{number_of, held_of, refs_of}
-use Rattle.pa_machine.specs.Titles.{poison, count_word}
+use Rattle.pa_slot.specs.declared.title.Title.{Title}
+use Rattle.pa_slot.specs.declared.word.SlotName.{SlotName}
+use Rattle.pa_slot.specs.Count.{number_of, held_of, refs_of}
+use Rattle.pa_slot.specs.Titles.{poison, count_word}
 use Rattle.pa_buckets.specs.Table.{rows, row_of, slot_of, pages_of, slots_of}
 use Rattle.pa_buckets.specs.Bands.{fill_of}
 use Rattle.pa_trace.specs.declared.script.Op.{Op}

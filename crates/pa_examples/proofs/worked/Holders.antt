@@ -3,10 +3,10 @@ use Rattle.std.proofs.Common.{◌≡◌, ℕ, zero, suc, ◌<◌, Bool, true, �
 use Rattle.std.specs.Prelude.{Contains, slice_get}
 use Rattle.std.specs.List.{AllByRecursion, list_all, list_any}
 use Rattle.std.proofs.lemmas.Bool.{and_parts, eqb-true, ltb-true, not-true}
-use Rattle.pa_machine.specs.declared.word.SlotName.{SlotName}
-use Rattle.pa_machine.specs.Count.{number_of}
-use Rattle.pa_machine.specs.Run.{Mark, same_slot}
-use Rattle.pa_machine.proofs.Runs.{same_slot_yes, same_slot_eq}
+use Rattle.pa_slot.specs.declared.word.SlotName.{SlotName}
+use Rattle.pa_slot.specs.Count.{number_of}
+use Rattle.pa_slot.specs.Run.{Mark, same_slot}
+use Rattle.pa_slot.proofs.Runs.{same_slot_yes, same_slot_eq}
 use Rattle.pa_record.specs.declared.entry.Seen.{Seen}
 use Rattle.pa_record.specs.declared.entry.Answer.TheVariants as answers
 use Rattle.pa_record.specs.declared.numbered.Numbered.{Numbered}
@@ -69,7 +69,7 @@ gone_by Purge = None
 abbrev pub names_slot : SlotName → RootEntry → Bool
 names_slot s e = list_any (λ (m : Move). same_slot m.slot s) (moves_by e.line e.act)
 
--- none of these entries names it
+-- none of these entries names the slot, if there is one
 abbrev pub stays_away : Option Numbered → List RootEntry → Bool
 stays_away None es = true
 stays_away (Some slot) es = list_all (λ (e : RootEntry). not (names_slot slot.slot e)) es

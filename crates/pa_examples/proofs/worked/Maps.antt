@@ -1,7 +1,7 @@
 -- The records of the worked run of direct maps: its registers, slots and contents.
 use Rattle.std.proofs.Common.{◌≡◌, ℕ, true, List, [], ◌∷◌, refl, rules, inl, inr, lit≤}
-use Rattle.pa_machine.specs.declared.word.SlotName.{SlotName}
-use Rattle.pa_machine.specs.Run.{Slots}
+use Rattle.pa_slot.specs.declared.word.SlotName.{SlotName}
+use Rattle.pa_slot.specs.Run.{Slots}
 use Rattle.pa_buckets.specs.Table.{rows}
 use Rattle.pa_rules.specs.declared.register.Register.TheVariants.{Own, Ref, Freed, Cleared}
 use Rattle.pa_rules.specs.Played.{marks_of, AreLines}

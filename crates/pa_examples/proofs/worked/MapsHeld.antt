@@ -3,7 +3,7 @@ use Rattle.std.proofs.Common.{[], ◌∷◌, refl, arith, inl, inr, lit<, lit≤
 use Rattle.std.specs.Prelude.{AllPairs}
 use Rattle.std.specs.List.{AllByRecursion, AllZip}
 use Rattle.std.proofs.lemmas.List.Elements.{All-from_recursion}
-use Rattle.pa_machine.specs.Run.{IsLive, IsQuarantined}
+use Rattle.pa_slot.specs.Run.{IsLive, IsQuarantined}
 use Rattle.pa_buckets.specs.Table.{rows, row_of, slot_of}
 use Rattle.pa_record.specs.Worked.{direct_map_again_pool, direct_map_again_journal, direct_map_again_census}
 use Rattle.pa_record.proofs.Worked.{direct_map_again}
@@ -12,11 +12,12 @@ use Rattle.pa_rules.proofs.Running.{OtherLine}
 use Rattle.pa_rules.specs.Holders.{InRoot, AreHolders}
 use Rattle.pa_rules.specs.Caches.{Caches, with_cache, no_caches, IsDirect, CachesTo, AreCaches}
 use Rattle.pa_rules.specs.Report.{HasSize, IsTally, InPhases, IsReportLine, IsReport}
+use Rattle.pa_legal.proofs.tallies.Levels.{is_live, live_is, is_live_of, is_quarantined, quarantined_is, is_quarantined_of}
 use Rattle.pa_examples.specs.Worked.{seen_at, tally, report_line, direct_map_records, direct_map_report}
 use Rattle.pa_examples.proofs.worked.Holders.{HasIt, IsIssued, issued, no_moves}
 use Rattle.pa_examples.proofs.worked.Moves.{holders_of_one}
 use Rattle.pa_examples.proofs.worked.OneJournal.{no_other, none_on, census_of_one}
-use Rattle.pa_examples.proofs.worked.Report.{other_lines, slots_passing, slots_of_kind, is_live, live-true, live-from, is_quarantined, quarantined-true, quarantined-from}
+use Rattle.pa_examples.proofs.worked.Report.{other_lines, slots_passing, slots_of_kind}
 use Rattle.pa_examples.proofs.worked.Maps.{slot_by, words, worded}
 use Rattle.pa_examples.proofs.worked.MapsPlaced.{roots, direct}
 
@@ -112,10 +113,10 @@ third_size : AllZip (HasSize roots 0) (slots_passing is_live words) (2002944 ∷
 third_size = (inr (_, 5, (5, lit< tt, refl), refl), tt)
 
 live : IsTally IsLive roots direct_map_records 0 (tally 1 2002944)
-live = (_, 2002944 ∷ [], slots_of_kind IsLive is_live live-true live-from refl roots direct_map_records 0 words (2002944 ∷ []) alone worded third_size refl, refl, refl)
+live = (_, 2002944 ∷ [], slots_of_kind IsLive is_live live_is is_live_of refl roots direct_map_records 0 words (2002944 ∷ []) alone worded third_size refl, refl, refl)
 
 quarantined : IsTally IsQuarantined roots direct_map_records 0 (tally 0 0)
-quarantined = (_, [], slots_of_kind IsQuarantined is_quarantined quarantined-true quarantined-from refl roots direct_map_records 0 words [] alone worded tt refl, refl, refl)
+quarantined = (_, [], slots_of_kind IsQuarantined is_quarantined quarantined_is is_quarantined_of refl roots direct_map_records 0 words [] alone worded tt refl, refl, refl)
 
 in_phase_1 : AllByRecursion (InPhases direct_map_records 1) direct_map_again_journal
 in_phase_1 = (

@@ -3,12 +3,12 @@ use Rattle.std.proofs.Common.{◌≡◌, ℕ, zero, suc, ◌+◌, ◌<◌, Bool,
 use Rattle.std.specs.Prelude.{Contains, find, flat_map}
 use Rattle.std.specs.List.{AllByRecursion, list_all}
 use Rattle.std.proofs.lemmas.Bool.{and_parts, or_cases, eqb-true, false≢true}
-use Rattle.pa_machine.specs.declared.word.SlotName.{SlotName}
-use Rattle.pa_machine.specs.declared.word.Step.{Step}
-use Rattle.pa_machine.specs.declared.word.Step.TheVariants.{Issue, Copy, Reset, Free, Write}
-use Rattle.pa_machine.specs.Count.{number_of, refs_of, held_of}
-use Rattle.pa_machine.specs.Run.{Mark, IsReturning, same_slot}
-use Rattle.pa_machine.proofs.Runs.{same_slot_eq}
+use Rattle.pa_slot.specs.declared.word.SlotName.{SlotName}
+use Rattle.pa_slot.specs.declared.word.Step.{Step}
+use Rattle.pa_slot.specs.declared.word.Step.TheVariants.{Issue, Copy, Reset, Free, Write}
+use Rattle.pa_slot.specs.Count.{number_of, refs_of, held_of}
+use Rattle.pa_slot.specs.Run.{Mark, IsReturning, same_slot}
+use Rattle.pa_slot.proofs.Runs.{same_slot_eq}
 use Rattle.pa_record.specs.declared.numbered.Numbered.{Numbered}
 use Rattle.pa_record.specs.declared.root.RootEntry.{RootEntry}
 use Rattle.pa_record.specs.declared.root.RootAct.TheVariants.{Unmap}
@@ -40,11 +40,12 @@ of_line ps line = find (λ (x : Played). eqb x.line line) ps
 of_line-is : (ps : List Played) (line : ℕ) (x : Played) → of_line ps line ≡ Some x → IsOfLine ps line x
 of_line-is ps line x e = let (among, same) = find_is (λ (y : Played). eqb y.line line) ps x e in (among, eqb-true x.line line same)
 
--- the holder is the one that a move of this record needs; the holder that the move makes
+-- the holder is the one that a move of this record needs
 abbrev pub has_needed : Holder → Way → Option Played → Bool
 has_needed h way None = false
 has_needed h way (Some x) = same_holder h (needed_by way x)
 
+-- the holder that a move of this record makes, and the root if there is no record
 abbrev pub holder_made : Way → Option Played → Holder
 holder_made way None = InRoot
 holder_made way (Some x) = made_by way x

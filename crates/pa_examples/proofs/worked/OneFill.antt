@@ -1,7 +1,7 @@
 -- The journal of two worked runs, with the fill for one request of 8 bytes alone: its pool, the slots of the fill, and its
 -- census.
 use Rattle.std.proofs.Common.{◌≡◌, true, List, [], ◌∷◌, Some, refl, inl, lit<}
-use Rattle.pa_machine.specs.declared.word.SlotName.{SlotName}
+use Rattle.pa_slot.specs.declared.word.SlotName.{SlotName}
 use Rattle.pa_buckets.specs.Table.{rows, row_of, slot_of, pages_of, slots_of}
 use Rattle.pa_buckets.specs.Bands.{fill_of}
 use Rattle.pa_trace.specs.declared.script.Op.TheVariants as ops
@@ -51,7 +51,7 @@ made_row = inl (0, 0, filled, rest, (0, 8, refl, class_0), (Some 0, (refl, no_ot
 pub of_class : IsOfClass roots the_slot 0 0
 of_class = (_, Some 0, filled, (0, lit< tt, refl), refl, (0, lit< tt, refl))
 
--- it has 16 bytes
+-- the slot has 16 bytes
 pub has_size : HasSize roots 0 the_slot 16
 unfolding rows row_of slot_of
 has_size = inl (0, of_class, refl)

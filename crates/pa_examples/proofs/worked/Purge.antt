@@ -3,8 +3,8 @@ use Rattle.std.proofs.Common.{◌≡◌, ℕ, zero, suc, ◌<◌, true, List, []
 use Rattle.std.specs.Prelude.{AllPairs, slice_get}
 use Rattle.std.specs.List.{AllByRecursion}
 use Rattle.std.proofs.lemmas.List.Elements.{All-from_recursion}
-use Rattle.pa_machine.specs.declared.word.Step.TheVariants as steps
-use Rattle.pa_machine.specs.Run.{Slots, IsLive, IsQuarantined}
+use Rattle.pa_slot.specs.declared.word.Step.TheVariants as steps
+use Rattle.pa_slot.specs.Run.{Slots, IsLive, IsQuarantined}
 use Rattle.pa_buckets.specs.Table.{rows, row_of, slot_of}
 use Rattle.pa_buckets.specs.Bands.{limit_of}
 use Rattle.pa_trace.specs.declared.script.Op.TheVariants as ops
@@ -30,6 +30,7 @@ use Rattle.pa_rules.specs.Sizes.{slot_size_for, usable_of}
 use Rattle.pa_rules.specs.Worked.{first_slot, of_first_thread, purge_records}
 use Rattle.pa_rules.proofs.Following.{titles_follow}
 use Rattle.pa_rules.proofs.Running.{OtherLine}
+use Rattle.pa_legal.proofs.tallies.Levels.{is_live, live_is, is_live_of, is_quarantined, quarantined_is, is_quarantined_of}
 use Rattle.pa_examples.specs.Worked.{tally}
 use Rattle.pa_examples.specs.WorkedPurge.{purge_trace, purge_report}
 use Rattle.pa_one_run.specs.Parts.{pool_line}
@@ -39,7 +40,7 @@ use Rattle.pa_examples.proofs.worked.Alone.{no_cells, no_cell_used, seen_by_line
 use Rattle.pa_examples.proofs.worked.Holders.{HasIt, IsIssued, issued, no_moves}
 use Rattle.pa_examples.proofs.worked.Moves.{holders_of_one}
 use Rattle.pa_examples.proofs.worked.OneJournal.{IsMade, no_other, roots_of_one, census_of_one}
-use Rattle.pa_examples.proofs.worked.Report.{other_lines, slots_of_kind, is_live, live-true, live-from, is_quarantined, quarantined-true, quarantined-from}
+use Rattle.pa_examples.proofs.worked.Report.{other_lines, slots_of_kind}
 use Rattle.pa_examples.proofs.worked.OneFill.{the_slot, filled, rest}
 use Rattle.pa_lists.proofs.Indexed.{at_in}
 use Rattle.pa_rules.proofs.Worked.{class_0}
@@ -218,10 +219,10 @@ unfolding rows row_of slot_of
 has_size = inl (0, of_class, refl)
 
 live : IsTally IsLive roots purge_records 0 (tally 1 16)
-live = (_, 16 ∷ [], slots_of_kind IsLive is_live live-true live-from refl roots purge_records 0 words (16 ∷ []) alone worded (has_size, tt) refl, refl, refl)
+live = (_, 16 ∷ [], slots_of_kind IsLive is_live live_is is_live_of refl roots purge_records 0 words (16 ∷ []) alone worded (has_size, tt) refl, refl, refl)
 
 quarantined : IsTally IsQuarantined roots purge_records 0 (tally 0 0)
-quarantined = (_, [], slots_of_kind IsQuarantined is_quarantined quarantined-true quarantined-from refl roots purge_records 0 words [] alone worded tt refl, refl, refl)
+quarantined = (_, [], slots_of_kind IsQuarantined is_quarantined quarantined_is is_quarantined_of refl roots purge_records 0 words [] alone worded tt refl, refl, refl)
 
 in_phase_1 : AllByRecursion (InPhases purge_records 1) purge_journal
 in_phase_1 = (

@@ -1,12 +1,11 @@
 -- The report of a written run: which of its slots have words of a kind.
-use Rattle.std.proofs.Common.{◌≡◌, ◌≢◌, ℕ, Bool, true, false, ◌&&◌, not, eqb, ltb, List, [], ◌∷◌, map, Option, Some, None, refl, ◌∙◌, subst, filter, inl, inr}
+use Rattle.std.proofs.Common.{◌≡◌, ◌≢◌, ℕ, Bool, true, false, not, eqb, List, [], ◌∷◌, map, Option, Some, None, refl, ◌∙◌, subst, filter, inl, inr}
 use Rattle.std.specs.Prelude.{Contains, AllPairs, find}
 use Rattle.std.specs.List.{AllZip}
-use Rattle.std.proofs.lemmas.Bool.{and_parts, and_from, eqb-true, ltb-true, eq-eqb, lt-ltb, not-true, both_ways}
-use Rattle.pa_machine.specs.declared.word.SlotName.{SlotName}
-use Rattle.pa_machine.specs.Count.{held_of, refs_of}
-use Rattle.pa_machine.specs.Run.{Mark, IsLive, IsQuarantined, same_slot}
-use Rattle.pa_machine.proofs.Runs.{same_slot_yes, same_slot_eq}
+use Rattle.std.proofs.lemmas.Bool.{eq-eqb, not-true, both_ways}
+use Rattle.pa_slot.specs.declared.word.SlotName.{SlotName}
+use Rattle.pa_slot.specs.Run.{Mark, same_slot}
+use Rattle.pa_slot.proofs.Runs.{same_slot_yes, same_slot_eq}
 use Rattle.pa_lists.proofs.Members.{find_is, in_cases, not_in_none}
 use Rattle.pa_lists.proofs.Joined.{map_cases, map_in, filter_cases, filter_in}
 use Rattle.pa_rules.specs.declared.played.Played.{Played}
@@ -66,22 +65,3 @@ module _ (P : ℕ → Type 0) (test : ℕ → Bool) (says : (w : ℕ) → test w
     all = λ s. (into s sized, λ h. out_of s (find (is_named s) named) h.1 refl h.3 h.4);
     sized = sized;
   }
-
--- the words of live and of quarantined slots
-abbrev pub is_live : ℕ → Bool
-is_live w = eqb (held_of w) 1
-
-abbrev pub is_quarantined : ℕ → Bool
-is_quarantined w = eqb (held_of w) 0 && ltb 0 (refs_of w)
-
-pub live-true : (w : ℕ) → is_live w ≡ true → IsLive w
-live-true w h = eqb-true _ _ h
-
-pub live-from : (w : ℕ) → IsLive w → is_live w ≡ true
-live-from w h = eq-eqb _ _ h
-
-pub quarantined-true : (w : ℕ) → is_quarantined w ≡ true → IsQuarantined w
-quarantined-true w h = let (a, b) = and_parts (eqb (held_of w) 0) (ltb 0 (refs_of w)) h in (eqb-true _ _ a, ltb-true _ _ b)
-
-pub quarantined-from : (w : ℕ) → IsQuarantined w → is_quarantined w ≡ true
-quarantined-from w (a, b) = and_from _ _ (eq-eqb _ _ a) (lt-ltb _ _ b)

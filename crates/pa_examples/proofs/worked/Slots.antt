@@ -3,12 +3,12 @@ use Rattle.std.proofs.Common.{◌≡◌, ℕ, ◌+◌, Bool, true, false, ◌&&�
 use Rattle.std.specs.Prelude.{Contains, find, is_some}
 use Rattle.std.specs.List.{list_all}
 use Rattle.std.proofs.lemmas.Bool.{and_parts, and_from, eqb-true, ltb-true, leb-true, eq-eqb, not-true, both_ways, false≢true}
-use Rattle.pa_machine.specs.declared.word.SlotName.{SlotName}
-use Rattle.pa_machine.specs.declared.word.Step.{Step}
-use Rattle.pa_machine.specs.declared.word.Step.TheVariants.{Issue, Copy, Reset, Free, Write}
-use Rattle.pa_machine.specs.Count.{Enabled, HasRoom, CanStep, stepped, number_of, refs_of, held_of}
-use Rattle.pa_machine.specs.Run.{Mark, IsFirstAt, IsRunFrom, IsOneRun, Slots, same_slot}
-use Rattle.pa_machine.proofs.Runs.{same_slot_yes, same_slot_eq}
+use Rattle.pa_slot.specs.declared.word.SlotName.{SlotName}
+use Rattle.pa_slot.specs.declared.word.Step.{Step}
+use Rattle.pa_slot.specs.declared.word.Step.TheVariants.{Issue, Copy, Reset, Free, Write}
+use Rattle.pa_slot.specs.Count.{Enabled, HasRoom, CanStep, stepped, number_of, refs_of, held_of}
+use Rattle.pa_slot.specs.Run.{Mark, IsFirstAt, IsRunFrom, IsOneRun, Slots, same_slot}
+use Rattle.pa_slot.proofs.Runs.{same_slot_yes, same_slot_eq}
 use Rattle.pa_lists.proofs.Members.{find_is, has}
 use Rattle.pa_examples.proofs.worked.Lists.{implies, implied}
 use Rattle.pa_lists.proofs.Elements.{passes}
@@ -52,10 +52,11 @@ can_step-true p w h =
     let (c, d) = and_parts (ltb (number_of w) 1099511627775) (has_room p (refs_of w)) b in
     (enabled-true p (refs_of w) (held_of w) a, ltb-true _ _ c, has_room-true p (refs_of w) d)
 
--- m makes a step of slot s at the word u; no mark that does has a lesser line
+-- m makes a step of slot s at the word u
 abbrev pub steps_at : SlotName → ℕ → Mark → Bool
 steps_at s u m = same_slot m.slot s && (eqb m.found u && is_some m.step)
 
+-- no mark that makes a step of slot s at the word u has a lesser line
 abbrev pub is_least : List Mark → SlotName → ℕ → ℕ → Bool
 is_least ms s u line = list_all (λ (n : Mark). implies (steps_at s u n) (leb line n.line)) ms
 
@@ -173,7 +174,7 @@ run_at ms named s (Some n) h e =
     let (among, same) = find_is (is_named s) named n e in
     subst (λ t. IsRunFrom ms t 0 n.words × IsOneRun ms t (0 ∷ n.words)) (same_slot_eq n.slot s same) (worded_run ms named n h among)
 
--- so each slot has one run
+-- each slot has one run, if the marks are of slots with these words
 pub worded_slots : (ms : List Mark) (named : List Worded) → are_worded ms named ≡ true → Slots ms
 worded_slots ms named h s =
     let (run, one) = run_at ms named s (find (is_named s) named) h refl in

@@ -1,7 +1,7 @@
 -- The slots of the worked run of two threads: pool and journal, holders and caches.
 use Rattle.std.proofs.Common.{[], ◌∷◌, Some, refl, arith, inl, inr, lit<}
 use Rattle.std.specs.List.{AllByRecursion}
-use Rattle.pa_machine.specs.declared.word.Step.TheVariants as steps
+use Rattle.pa_slot.specs.declared.word.Step.TheVariants as steps
 use Rattle.pa_buckets.specs.Bands.{limit_of}
 use Rattle.pa_trace.specs.declared.script.Op.TheVariants as ops
 use Rattle.pa_record.specs.declared.entry.Answer.TheVariants as answers

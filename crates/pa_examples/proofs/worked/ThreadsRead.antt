@@ -1,7 +1,7 @@
 -- The registers of the worked run of two threads, and what they read.
 use Rattle.std.proofs.Common.{◌≡◌, ℕ, take, drop, refl, arith, inl, inr, lit<, lit≤}
 use Rattle.std.specs.List.{AllByRecursion}
-use Rattle.pa_machine.specs.Titles.{poison}
+use Rattle.pa_slot.specs.Titles.{poison}
 use Rattle.pa_buckets.specs.Table.{rows}
 use Rattle.pa_trace.specs.declared.script.Op.TheVariants as ops
 use Rattle.pa_record.specs.declared.entry.Answer.TheVariants as answers
@@ -31,7 +31,7 @@ after_give = with after_copy 1 Empty
 abbrev after_free : Regs
 after_free = with after_give 0 Freed
 
--- those of the second after its lines
+-- the registers of the second thread after its lines
 abbrev pub after_take : Regs
 after_take = with (no_regs 1) 0 (Ref the_slot)
 

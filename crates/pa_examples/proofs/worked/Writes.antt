@@ -1,7 +1,7 @@
 -- The records of the worked run of writes: its registers, slot and contents.
 use Rattle.std.proofs.Common.{◌≡◌, true, List, [], ◌∷◌, refl, inl, inr, lit<, lit≤}
 use Rattle.std.specs.List.{AllByRecursion}
-use Rattle.pa_machine.specs.Run.{Slots}
+use Rattle.pa_slot.specs.Run.{Slots}
 use Rattle.pa_buckets.specs.Table.{rows}
 use Rattle.pa_trace.specs.declared.script.Op.TheVariants as ops
 use Rattle.pa_record.specs.declared.entry.Answer.TheVariants as answers

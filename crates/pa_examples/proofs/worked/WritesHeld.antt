@@ -3,8 +3,8 @@ use Rattle.std.proofs.Common.{[], ◌∷◌, Some, refl, arith, inl, inr, lit<, 
 use Rattle.std.specs.Prelude.{AllPairs}
 use Rattle.std.specs.List.{AllByRecursion}
 use Rattle.std.proofs.lemmas.List.Elements.{All-from_recursion}
-use Rattle.pa_machine.specs.declared.word.Step.TheVariants as steps
-use Rattle.pa_machine.specs.Run.{IsLive, IsQuarantined}
+use Rattle.pa_slot.specs.declared.word.Step.TheVariants as steps
+use Rattle.pa_slot.specs.Run.{IsLive, IsQuarantined}
 use Rattle.pa_buckets.specs.Table.{rows, row_of, slot_of}
 use Rattle.pa_trace.specs.declared.script.Op.TheVariants as ops
 use Rattle.pa_record.specs.declared.entry.Answer.TheVariants as answers
@@ -15,6 +15,7 @@ use Rattle.pa_rules.specs.Caches.{Caches, with_cache, no_caches, DoneRow, Caches
 use Rattle.pa_rules.specs.Report.{IsTally, IsReportLine, IsReport}
 use Rattle.pa_rules.proofs.Following.{titles_follow}
 use Rattle.pa_rules.proofs.Running.{OtherLine}
+use Rattle.pa_legal.proofs.tallies.Levels.{is_live, live_is, is_live_of, is_quarantined, quarantined_is, is_quarantined_of}
 use Rattle.pa_examples.specs.Worked.{seen_at, tally}
 use Rattle.pa_examples.specs.WorkedWrites.{writes_records, writes_journal, writes_pool, writes_report}
 use Rattle.pa_examples.proofs.worked.Holders.{HasIt, IsIssued, issued, no_moves}
@@ -22,7 +23,7 @@ use Rattle.pa_examples.proofs.worked.Moves.{holders_of_one}
 use Rattle.pa_examples.proofs.worked.Pool.{pool_of_one}
 use Rattle.pa_examples.proofs.worked.OneJournal.{IsMade, none_on, roots_of_one, census_of_one}
 use Rattle.pa_examples.proofs.worked.OneFill.{roots, is_pool, is_journal, kept, made_row, has_size, counted}
-use Rattle.pa_examples.proofs.worked.Report.{other_lines, slots_of_kind, is_live, live-true, live-from, is_quarantined, quarantined-true, quarantined-from}
+use Rattle.pa_examples.proofs.worked.Report.{other_lines, slots_of_kind}
 use Rattle.pa_examples.proofs.worked.Writes.{words, worded, follow}
 use Rattle.pa_rules.proofs.Worked.{class_0}
 
@@ -118,10 +119,10 @@ alone : AllPairs OtherLine (marks_of writes_records)
 alone = other_lines (marks_of writes_records) refl
 
 live : IsTally IsLive roots writes_records 0 (tally 1 16)
-live = (_, 16 ∷ [], slots_of_kind IsLive is_live live-true live-from refl roots writes_records 0 words (16 ∷ []) alone worded (has_size, tt) refl, refl, refl)
+live = (_, 16 ∷ [], slots_of_kind IsLive is_live live_is is_live_of refl roots writes_records 0 words (16 ∷ []) alone worded (has_size, tt) refl, refl, refl)
 
 quarantined : IsTally IsQuarantined roots writes_records 0 (tally 0 0)
-quarantined = (_, [], slots_of_kind IsQuarantined is_quarantined quarantined-true quarantined-from refl roots writes_records 0 words [] alone worded tt refl, refl, refl)
+quarantined = (_, [], slots_of_kind IsQuarantined is_quarantined quarantined_is is_quarantined_of refl roots writes_records 0 words [] alone worded tt refl, refl, refl)
 
 all_right : AllByRecursion (IsReportLine 1 1 writes_records writes_pool roots) writes_report
 unfolding rows row_of slot_of

@@ -1,6 +1,6 @@
 -- The worked run of two threads, with each of the three answers that its read may give, meets the obligations of all layers at once.
 use Rattle.std.specs.Prelude.{ℕ, suc, ◌+◌, ◌*◌, List, [], ◌∷◌, ◌++◌, ◌==◌, map, take, drop, if◌then◌else◌}
-use Rattle.pa_machine.specs.declared.title.Title.{Title}
+use Rattle.pa_slot.specs.declared.title.Title.{Title}
 use Rattle.pa_region.specs.declared.view.Made.{Made}
 use Rattle.pa_region.specs.declared.view.OwnTitle.{OwnTitle}
 use Rattle.pa_region.specs.declared.view.SeenNumber.{SeenNumber}
@@ -26,14 +26,14 @@ use Rattle.pa_examples.specs.told.Entered.{lists_of, gift_made, taking_made, thr
 use Rattle.pa_examples.specs.told.OtherReads.{content_read, freed_read, reading_so}
 use Rattle.pa_lists.specs.Numbers.{numbers}
 
--- What a seat holds: the titles that it has free, those that it has as an owner, and those that it uncut; and the words.
+-- What a seat holds: the titles that it has free, those that it has as an owner, those that it uncut, and the words.
 pub record Holding : Type 0 where
   pub frees : List Title
   pub owns : List OwnTitle
   pub uncut : List Title
   pub words : List ℕ
 
--- A seat with the 16 stakes; their logs are those of these records. It has seen these numbers and these lists, and holds this.
+-- A seat with the 16 stakes, whose logs are those of these records. It has seen these numbers and these lists, and holds this.
 abbrev pub seat_with : List ToldRecord → List SeenNumber → (ℕ → List Made) → Holding → View
 seat_with ts notes lists held = record {
   raws = [];
@@ -52,11 +52,11 @@ seat_with ts notes lists held = record {
       record { keeper = 0; entries = lists 0 } ∷ record { keeper = 4; entries = lists 4 } ∷ record { keeper = 5; entries = lists 5 } ∷ [];
 }
 
--- one that holds nothing
+-- a seat with those records, numbers and lists that holds nothing, over words that are all 0
 abbrev pub seat_of : List ToldRecord → List SeenNumber → (ℕ → List Made) → View
 seat_of ts notes lists = seat_with ts notes lists (record { frees = []; owns = []; uncut = []; words = blank 262144 })
 
--- the exchanges until the end of a phase, the lists, and the seat: the slot's number rises by 1 in each
+-- the exchanges until the end of phase n: the first one alone in phase 1, and both after it
 abbrev pub swaps_until : ℕ → List SwapMade
 swaps_until n = if n == 1 then gift_made ∷ [] else gift_made ∷ taking_made ∷ []
 
@@ -68,7 +68,7 @@ lists_until n = lists_of two_threads_journal two_threads_pool (map (λ (s : Swap
 abbrev pub seat_until : List ToldRecord → ℕ → View
 seat_until ts n = seat_of (told_until n ts) (seen_number (suc n)) (lists_until n)
 
--- slot `n` of the span, and the first slots of it
+-- slot `n` of the span
 abbrev pub title_number : ℕ → Title
 title_number n = record { start = 16384 + 16 * n; len = 16; born = 0 }
 
@@ -111,19 +111,20 @@ told_with read = record {
 abbrev pub SaysWith : Worked → Type 0
 SaysWith read = LayersSay two_threads_trace (told_with read) (seat_last read) (reading_so read)
 
--- so it is for each of the three: poison while the free is under way, the content, and that the slot was freed
+-- all layers meet their obligations with each of the three reads: poison while the free is under way, the content, and that the slot was
+-- freed
 pub record ThreadsSay : Type 0 where
   pub poison : SaysWith the_read
   pub content : SaysWith content_read
   pub freed : SaysWith freed_read
 
--- so all that is known of a run that was played out is known of each, and each is legal
+-- The run with that read was played out, so that all is known of it that is known of such a run, and it is legal.
 pub record IsFineWith (read : Worked) : Type 0 where
   pub played : IsPlayedOut (sizes_in two_threads_trace (told_with read)) (place_of (lists_until 3 5)) two_threads_trace (told_with read)
       (seat_last read) (reading_so read)
   pub legal : IsLegalTold two_threads_trace (told_with read)
 
--- so it is for each of the three reads
+-- with each of the three reads the run was played out and is legal
 pub record OtherReadsAreLegal : Type 0 where
   pub poison : IsFineWith the_read
   pub content : IsFineWith content_read
@@ -141,7 +142,7 @@ pub record IsClosed (t : Trace) (r : Told) (v : View) (ts : List ToldRecord) (wo
 abbrev pub ClosesWith : Worked → Type 0
 ClosesWith read = IsClosed two_threads_trace (told_with read) (seat_last read) (reading_so read) last_words
 
--- so it is for each of the three reads
+-- with each of the three reads the run is closed
 pub record ThreadsClose : Type 0 where
   pub poison : ClosesWith the_read
   pub content : ClosesWith content_read

@@ -17,7 +17,7 @@ use Rattle.pa_examples.specs.told.Maps.{maps_told}
 use Rattle.pa_examples.specs.told.Purge.{purge_told}
 use Rattle.pa_examples.specs.told.Threads.{seen_number, the_gift, the_taking, threads_told}
 
--- entries of the first thread in the lists of a root and of the pool
+-- an entry of the first thread in a root's list
 abbrev pub in_root : RootEntry → Made
 in_root e = record { stake = 0; numbers = root_numbers e; seen = [] }
 
@@ -25,7 +25,7 @@ in_root e = record { stake = 0; numbers = root_numbers e; seen = [] }
 abbrev pub in_pool : PoolEntry → Made
 in_pool e = record { stake = 0; numbers = pool_numbers e; seen = [] }
 
--- the six lists: that of the first root, which has this journal, of the pool, and of the cells; the other roots' are empty
+-- The six lists: those of the first root, which has this journal, of the pool and of the cells. Those of the other roots are empty.
 abbrev pub lists_of : List RootEntry → List PoolEntry → List Made → ℕ → List Made
 lists_of journal pools swaps q = slice_index_or (map in_root journal ∷ [] ∷ [] ∷ [] ∷ map in_pool pools ∷ swaps ∷ []) q []
 
@@ -38,7 +38,7 @@ pub record ListsFit (lists : ℕ → List Made) (pools : List PoolEntry) (roots 
   pub cuts : (q : ℕ) → q < 6 → HasCuts q (lists q) ts
   pub asked : AreAsked (lists 4) ts
 
--- the two exchanges: a raw_ptr is given through the cell, and taken out of it
+-- the first exchange: on line 4 the first thread puts the raw_ptr into cell 0
 abbrev pub gift_made : SwapMade
 gift_made = record { made = record { stake = 0; numbers = cell_numbers the_gift; seen = seen_number 2 }; cell = 0; entry = the_gift }
 
@@ -54,21 +54,21 @@ threads_swaps = gift_made ∷ taking_made ∷ []
 abbrev pub threads_lists : ℕ → List Made
 threads_lists = lists_of two_threads_journal two_threads_pool (map (λ (s : SwapMade). s.made) threads_swaps)
 
--- the histories of its cells: that of cell 0 has the two exchanges, the others are empty
+-- the histories of the cells in the run of two threads: that of cell 0 has the two exchanges, and the others are empty
 abbrev pub threads_cells : ℕ → List CellEntry
 threads_cells = history_at (two_threads_history ∷ [])
 
--- the lists of the run of two threads, and what is required of the cells' list besides
+-- the lists of the run of two threads meet what is required of lists, and of the cells' list besides
 pub record TwoThreadsHaveLists : Type 0 where
   pub lists : ListsFit threads_lists two_threads_pool (journal_at (two_threads_journal ∷ [])) threads_told
   pub swapped : AreSwapped (threads_lists 5) threads_cells threads_swaps threads_told
   pub answered : AreAnswered threads_cells threads_swaps threads_told
 
--- the lists of the run with a purge
+-- the lists of the run with a purge meet what is required of lists
 abbrev pub PurgeHasLists : Type 0
 PurgeHasLists = ListsFit (lists_of purge_journal purge_pool []) purge_pool (journal_at (purge_journal ∷ [])) purge_told
 
--- the lists of the run of direct maps
+-- the lists of the run of direct maps meet what is required of lists
 abbrev pub DirectMapHasLists : Type 0
 DirectMapHasLists =
     ListsFit (lists_of direct_map_again_journal direct_map_again_pool []) direct_map_again_pool

@@ -1,9 +1,9 @@
 -- The worked run of direct maps, with its log, its lists and its seat: one map goes back as it is freed, one is
 -- quarantined and goes back with the reset of its raw_ptr, and for one there is no room.
 use Rattle.std.specs.Prelude.{ℕ, List, [], ◌∷◌, map, Some, None}
-use Rattle.pa_machine.specs.declared.title.Title.{Title}
-use Rattle.pa_machine.specs.declared.word.SlotName.{SlotName}
-use Rattle.pa_machine.specs.declared.word.Step.TheVariants.{Issue, Copy, Reset, Free}
+use Rattle.pa_slot.specs.declared.title.Title.{Title}
+use Rattle.pa_slot.specs.declared.word.SlotName.{SlotName}
+use Rattle.pa_slot.specs.declared.word.Step.TheVariants.{Issue, Copy, Reset, Free}
 use Rattle.pa_region.specs.declared.view.Entry.{Entry}
 use Rattle.pa_region.specs.declared.view.Entry.TheVariants.{Counted, Uncut}
 use Rattle.pa_region.specs.declared.view.SeenNumber.{SeenNumber}
@@ -25,7 +25,7 @@ use Rattle.pa_examples.specs.told.Threads.{took, filled}
 abbrev pub map_long : SlotName → ℕ
 map_long s = 2002944
 
--- the direct map of this entry of the pool, and a note that it was seen at a number
+-- the direct map of this entry of the pool
 abbrev pub map_title : ℕ → Title
 map_title born = record { start = 16384; len = 2002944; born = born }
 
@@ -33,11 +33,11 @@ map_title born = record { start = 16384; len = 2002944; born = born }
 abbrev pub seen_map : ℕ → ℕ → SeenNumber
 seen_map born n = record { title = map_title born; number = n }
 
--- what an allocation's log gains
+-- what the log gains by an allocation of a direct map
 abbrev pub mapped : ℕ → ℕ → List Entry
 mapped line born = took (pool_take line 0 1 (Some 0)) ∷ filled (map_made line born 16384 2002944) ∷ Counted (map_title born) Issue 0 0 ∷ []
 
--- what it gains when a map goes back, of that entry of the pool, which this one gives back, at this number
+-- what the log gains when the map of entry `born` of the pool goes back at this number, by entry `asked`
 abbrev pub unmapped : ℕ → ℕ → ℕ → ℕ → List Entry
 unmapped line asked born number =
     took (pool_give line 0 1 0) ∷ filled (map_gone line asked 16384 born number) ∷ Uncut (map_title born) ∷ []

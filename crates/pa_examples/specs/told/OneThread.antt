@@ -1,8 +1,8 @@
--- The worked runs of one thread, with a purge and with direct maps, meet the obligations of all layers at once; and the seats that close
+-- The worked runs of one thread, with a purge and with direct maps, meet the obligations of all layers at once, and the seats that close
 -- them are as required.
 use Rattle.std.specs.Prelude.{ℕ, List, [], ◌∷◌, map, false}
-use Rattle.pa_machine.specs.declared.title.Title.{Title}
-use Rattle.pa_machine.specs.declared.title.OwnState.TheVariants.{Clean}
+use Rattle.pa_slot.specs.declared.title.Title.{Title}
+use Rattle.pa_slot.specs.declared.title.OwnState.TheVariants.{Clean}
 use Rattle.pa_region.specs.declared.view.Made.{Made}
 use Rattle.pa_region.specs.declared.view.OwnTitle.{OwnTitle}
 use Rattle.pa_region.specs.declared.view.View.{View}
@@ -28,7 +28,7 @@ owner_of t = record { title = t; state = Clean; idle = false }
 
 -- ---- the run with a purge
 
--- the run's lists: there are no exchanges
+-- the lists of the run with a purge, which has no exchanges
 abbrev pub told_purge : Told
 told_purge = record {
   entries = map entry_of purge_records;
@@ -38,7 +38,7 @@ told_purge = record {
   report = purge_report;
 }
 
--- its six lists, of which the root's and the pool's have entries
+-- the six lists of the run with a purge, of which the root's and the pool's have entries
 abbrev pub purge_lists : ℕ → List Made
 purge_lists = lists_of purge_journal purge_pool []
 
@@ -69,7 +69,7 @@ PurgeIsClosed = IsClosed purge_trace told_purge seat_purge purge_told purge_word
 
 -- ---- the run of direct maps
 
--- the run's lists: there are no exchanges
+-- the lists of the run of direct maps, which has no exchanges
 abbrev pub told_maps : Told
 told_maps = record {
   entries = map entry_of direct_map_records;
@@ -79,7 +79,7 @@ told_maps = record {
   report = direct_map_report;
 }
 
--- its six lists, of which the root's and the pool's have entries
+-- the six lists of the run of direct maps, of which the root's and the pool's have entries
 abbrev pub maps_lists : ℕ → List Made
 maps_lists = lists_of direct_map_again_journal direct_map_again_pool []
 

@@ -4,7 +4,7 @@ use Rattle.std.specs.Prelude.{ℕ, List, [], ◌∷◌, ◌++◌, take, drop, fa
 use Rattle.pa_region.specs.declared.view.Entry.{Entry}
 use Rattle.pa_region.specs.declared.view.Entry.TheVariants.{Looked, Read}
 use Rattle.pa_region.specs.Moves.{no_deeds}
-use Rattle.pa_machine.specs.Titles.{poison}
+use Rattle.pa_slot.specs.Titles.{poison}
 use Rattle.pa_trace.specs.declared.script.Op.TheVariants as ops
 use Rattle.pa_record.specs.declared.entry.Answer.{Answer}
 use Rattle.pa_record.specs.declared.entry.Answer.TheVariants as answers
@@ -27,12 +27,12 @@ read_with answer stretch after = record {
   gives = seen_number after;
 }
 
--- it gave the content, which is 0 as the slot was made; it found the slot freed
+-- the read that gave the content, which is 0 as the slot was made
 abbrev pub content_read : Worked
 content_read =
     read_with (answers.Value (seen_at 16384 0 0x2000003) 0) (Looked its_title 0x2000003 ∷ Read its_title 0 0 no_deeds false false ∷ []) 2
 
--- it found the slot freed, and gave poison; its seat has then seen number 3
+-- the read that found the slot freed and gave poison, after which its seat has seen number 3
 abbrev pub freed_read : Worked
 freed_read = read_with (answers.Dangling (seen_at 16384 0 0x3000002) poison) (read_poison 0x3000002) 3
 
@@ -47,7 +47,7 @@ pub record LogsFit (ts : List ToldRecord) : Type 0 where
   pub ends : HaveEnds ts
   pub viewed : AreViewed (history_at (two_threads_history ∷ [])) ts
 
--- so it is if the read gave the content, and if it found the slot freed
+-- the records meet that if the read gave the content, and if it found the slot freed
 pub record OtherReadsFit : Type 0 where
   pub content : LogsFit (reading_so content_read)
   pub freed : LogsFit (reading_so freed_read)

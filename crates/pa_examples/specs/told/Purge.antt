@@ -1,7 +1,7 @@
 -- The worked run with a purge, with its log, its lists and its seat: a slot is freed, goes back with the purge, and
 -- is taken again.
 use Rattle.std.specs.Prelude.{List, [], ◌∷◌, ◌++◌, map, take, drop}
-use Rattle.pa_machine.specs.declared.word.Step.TheVariants.{Issue, Free}
+use Rattle.pa_slot.specs.declared.word.Step.TheVariants.{Issue, Free}
 use Rattle.pa_region.specs.declared.view.Entry.TheVariants.{Counted}
 use Rattle.pa_trace.specs.declared.script.Op.TheVariants as ops
 use Rattle.pa_record.specs.declared.entry.Answer.TheVariants as answers

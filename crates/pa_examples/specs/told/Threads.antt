@@ -1,8 +1,8 @@
 -- The worked run of two threads with its logs, its lists and its seats: one thread gives the other a raw_ptr
 -- through a cell and frees the slot, while the other reads it and finds poison.
 use Rattle.std.specs.Prelude.{ℕ, List, [], ◌∷◌, map, false, Some}
-use Rattle.pa_machine.specs.declared.word.Step.TheVariants.{Issue, Copy, Reset, Free}
-use Rattle.pa_machine.specs.Titles.{poison}
+use Rattle.pa_slot.specs.declared.word.Step.TheVariants.{Issue, Copy, Reset, Free}
+use Rattle.pa_slot.specs.Titles.{poison}
 use Rattle.pa_region.specs.declared.view.Entry.{Entry}
 use Rattle.pa_region.specs.declared.view.Entry.TheVariants.{Counted, Looked, Read, Entered}
 use Rattle.pa_region.specs.declared.view.SeenNumber.{SeenNumber}
@@ -24,11 +24,11 @@ use Rattle.pa_logs.specs.Whole.{IsPlayedOut}
 use Rattle.pa_logs.specs.Worked.{sixteen, its_title, view_of}
 use Rattle.pa_examples.specs.told.Worked.{Worked, told_records}
 
--- the slot was seen at this number
+-- a note that the slot was seen at this number
 abbrev pub seen_number : ℕ → List SeenNumber
 seen_number n = record { title = its_title; number = n } ∷ []
 
--- what the two threads entered in the lists of the pool, of the root and of the cells
+-- an entry of the pool's list, made with stake 0
 abbrev pub took : PoolEntry → Entry
 took e = Entered 4 (record { stake = 0; numbers = pool_numbers e; seen = [] })
 
@@ -40,7 +40,7 @@ filled e = Entered 0 (record { stake = 0; numbers = root_numbers e; seen = [] })
 abbrev pub exchanged : ℕ → CellEntry → ℕ → Entry
 exchanged stake e n = Entered 5 (record { stake = stake; numbers = cell_numbers e; seen = seen_number n })
 
--- the entries of the first and of the only others
+-- the pool's one entry: on line 2 partition 0 took super page 0
 abbrev pub the_take : PoolEntry
 the_take = pool_take 2 0 1 (Some 0)
 
@@ -69,7 +69,7 @@ the_read = record {
   gives = seen_number 2;
 }
 
--- the eight records
+-- the eight records of the run of two threads, with their log segments and notes
 abbrev pub threads_worked : List Worked
 threads_worked =
     record {
@@ -121,7 +121,7 @@ threads_worked =
 abbrev pub threads_told : List ToldRecord
 threads_told = told_records threads_worked
 
--- a run with the lists that were worked out meets, with these records, all that is required; a line's place is its number
+-- with these records, a run with the lists that were worked out meets all that is required, if a line's place is its number
 abbrev pub TwoThreadsArePlayedOut : Type 0
 TwoThreadsArePlayedOut =
     (r : Run) →

@@ -6,7 +6,7 @@ use Rattle.pa_region.specs.Views.{seen_among}
 use Rattle.pa_rules.specs.declared.played.Played.{Played}
 use Rattle.pa_logs.specs.Told.{ToldRecord}
 
--- a record, its log segment of its thread's log, and notes of the numbers that its seat had seen before it and hands on
+-- a record, its segment of its thread's log, and notes of the numbers that its seat had seen before it and of those that it hands on
 pub record Worked : Type 0 where
   pub played : Played
   pub stretch : List Entry
@@ -22,6 +22,6 @@ told_record w = record {
   gives = λ t. seen_among t w.gives;
 }
 
--- all these records so, in order
+-- these records in order, each with the numbers looked up in its notes
 abbrev pub told_records : List Worked → List ToldRecord
 told_records ws = map told_record ws

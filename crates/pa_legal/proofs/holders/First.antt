@@ -2,12 +2,12 @@
 use Rattle.std.proofs.Common.{◌≡◌, ℕ, ◌+◌, ◌⊎◌, Bool, true, cond, List, [], ◌∷◌, Option, Some, None, refl, sym, ◌∙◌, ap, subst, arith, inl, inr}
 use Rattle.std.specs.Prelude.{Contains, AllPairs, ◌==◌}
 use Rattle.std.proofs.lemmas.Bool.{cases_Bool, cases_eq, eq-eqb, eqb-true, and_parts, false≢true}
-use Rattle.pa_machine.specs.declared.word.SlotName.{SlotName}
-use Rattle.pa_machine.specs.declared.word.Step.{Step}
-use Rattle.pa_machine.specs.declared.word.Step.TheVariants.{Issue, Copy, Reset, Free, Write}
-use Rattle.pa_machine.specs.Count.{number_of, held_of, refs_of}
-use Rattle.pa_machine.specs.Run.{Mark, IsReturning, Slots}
-use Rattle.pa_machine.proofs.Runs.{same_slot_eq, same_slot_yes}
+use Rattle.pa_slot.specs.declared.word.SlotName.{SlotName}
+use Rattle.pa_slot.specs.declared.word.Step.{Step}
+use Rattle.pa_slot.specs.declared.word.Step.TheVariants.{Issue, Copy, Reset, Free, Write}
+use Rattle.pa_slot.specs.Count.{number_of, held_of, refs_of}
+use Rattle.pa_slot.specs.Run.{Mark, IsReturning, Slots}
+use Rattle.pa_slot.proofs.Runs.{same_slot_eq, same_slot_yes}
 use Rattle.pa_lists.proofs.Members.{not_in_none, first_in, later_in, in_cases}
 use Rattle.pa_lists.proofs.Pairs.{pairs_head, pairs_tail}
 use Rattle.pa_rules.specs.declared.played.Played.{Played}

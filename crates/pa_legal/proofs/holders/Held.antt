@@ -4,7 +4,7 @@ use Rattle.std.specs.Prelude.{Contains, AllPairs, ◌==◌, count_by}
 use Rattle.std.proofs.lemmas.Bool.{eq-eqb, ne_eqb, true≢false}
 use Rattle.std.proofs.lemmas.List.{append-nil}
 use Rattle.std.proofs.lemmas.List.Elements.{Contains-append_left}
-use Rattle.pa_machine.specs.declared.word.SlotName.{SlotName}
+use Rattle.pa_slot.specs.declared.word.SlotName.{SlotName}
 use Rattle.pa_record.specs.declared.pool.PoolEntry.{PoolEntry}
 use Rattle.pa_lists.proofs.Members.{first_in, later_in}
 use Rattle.pa_rules.specs.declared.played.Played.{Played}

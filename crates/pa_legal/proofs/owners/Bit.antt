@@ -2,12 +2,12 @@
 use Rattle.std.proofs.Common.{◌≡◌, ℕ, zero, suc, ◌+◌, ◌≤◌, List, ◌∷◌, Some, refl, sym, ◌∙◌, ap, subst, arith, inl, inr}
 use Rattle.std.specs.Prelude.{Contains}
 use Rattle.std.proofs.lemmas.Bool.{cases_lt}
-use Rattle.pa_machine.specs.declared.word.SlotName.{SlotName}
-use Rattle.pa_machine.specs.declared.word.Step.TheVariants.{Issue, Free}
-use Rattle.pa_machine.specs.Count.{number_of, held_of, stepped}
-use Rattle.pa_machine.specs.Run.{Mark, IsRunFrom, IsOneRun}
-use Rattle.pa_machine.proofs.Arith.{stepped_is, held_small}
-use Rattle.pa_machine.proofs.Runs.{number_stepped}
+use Rattle.pa_slot.specs.declared.word.SlotName.{SlotName}
+use Rattle.pa_slot.specs.declared.word.Step.TheVariants.{Issue, Free}
+use Rattle.pa_slot.specs.Count.{number_of, held_of, stepped}
+use Rattle.pa_slot.specs.Run.{Mark, IsRunFrom, IsOneRun}
+use Rattle.pa_slot.proofs.Arith.{stepped_is, held_small}
+use Rattle.pa_slot.proofs.Runs.{number_stepped}
 use Rattle.pa_record.specs.declared.entry.Answer.TheVariants as answers
 use Rattle.pa_trace.specs.declared.script.Op.TheVariants as ops
 use Rattle.pa_rules.specs.declared.register.Register.TheVariants.{Empty, Own}

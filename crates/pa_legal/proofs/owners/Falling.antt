@@ -2,13 +2,13 @@
 use Rattle.std.proofs.Common.{◌≡◌, ℕ, zero, suc, ◌+◌, ◌-◌, ◌<◌, ◌≤◌, List, ◌∷◌, ◌∙◌, ap, arith, inl, inr, Some}
 use Rattle.std.specs.Prelude.{Contains, AllPairs}
 use Rattle.std.proofs.lemmas.Bool.{cases_lt}
-use Rattle.pa_machine.specs.declared.word.SlotName.{SlotName}
-use Rattle.pa_machine.specs.declared.word.Step.{Step}
-use Rattle.pa_machine.specs.declared.word.Step.TheVariants.{Issue, Copy, Reset, Free, Write}
-use Rattle.pa_machine.specs.Count.{CanStep, number_of, held_of, stepped}
-use Rattle.pa_machine.specs.Run.{Mark, IsFirstAt, IsRunFrom}
-use Rattle.pa_machine.proofs.Arith.{stepped_is}
-use Rattle.pa_machine.proofs.Runs.{number_stepped}
+use Rattle.pa_slot.specs.declared.word.SlotName.{SlotName}
+use Rattle.pa_slot.specs.declared.word.Step.{Step}
+use Rattle.pa_slot.specs.declared.word.Step.TheVariants.{Issue, Copy, Reset, Free, Write}
+use Rattle.pa_slot.specs.Count.{CanStep, number_of, held_of, stepped}
+use Rattle.pa_slot.specs.Run.{Mark, IsFirstAt, IsRunFrom}
+use Rattle.pa_slot.proofs.Arith.{stepped_is}
+use Rattle.pa_slot.proofs.Runs.{number_stepped}
 use Rattle.pa_rules.proofs.Running.{OtherLine, same_word}
 use Rattle.pa_legal.proofs.Words.{goes_on, goes_past}
 
@@ -23,7 +23,7 @@ pub record FirstFree (ms : List Mark) (s : SlotName) (vs : List ℕ) (a w : ℕ)
   pub held : (q : ℕ) → Contains (0 ∷ vs) q → number_of a ≤ number_of q → number_of q ≤ number_of free.found → held_of q ≡ 1
 
 module _ (ms : List Mark) (s : SlotName) (vs : List ℕ) (lines : AllPairs OtherLine ms) (run : IsRunFrom ms s 0 vs) where
-  -- from the next word it goes on to the same free
+  -- from the next word the run goes on to the same free
   later_free : (a w : ℕ) (p : Step) → Contains (0 ∷ vs) a → CanStep p a → held_of a ≡ 1 → FirstFree ms s vs (stepped p a) w
       → FirstFree ms s vs a w
   later_free a w p here can bit next =

@@ -1,9 +1,9 @@
 -- A record that looks at a slot or steps on it names it by the handle of its register, unless it makes the slot; and only an owner frees.
 use Rattle.std.proofs.Common.{◌≡◌, ℕ, ◌⊎◌, Option, Some, None, refl, sym, ◌∙◌, ap, inl, inr}
-use Rattle.pa_machine.specs.declared.word.SlotName.{SlotName}
-use Rattle.pa_machine.specs.declared.word.Step.{Step}
-use Rattle.pa_machine.specs.declared.word.Step.TheVariants as steps
-use Rattle.pa_machine.specs.Run.{Mark}
+use Rattle.pa_slot.specs.declared.word.SlotName.{SlotName}
+use Rattle.pa_slot.specs.declared.word.Step.{Step}
+use Rattle.pa_slot.specs.declared.word.Step.TheVariants as steps
+use Rattle.pa_slot.specs.Run.{Mark}
 use Rattle.pa_lists.proofs.Members.{of_some, not_some}
 use Rattle.pa_trace.specs.declared.script.Op.{Op}
 use Rattle.pa_trace.specs.declared.script.Op.TheVariants as ops
@@ -35,7 +35,19 @@ made_or_done line op (answers.StaleUse seen) m p mark step = absurd (not_look li
 made_or_done line op (answers.Shared seen) m p mark step = absurd (not_look line (Some seen) m p mark step)
 made_or_done line op answer m p mark step = absurd (not_some m mark)
 
-free_op : (op : Op) → step_of op ≡ Some steps.Free → (reg : ℕ) × (op ≡ ops.Free reg)
+-- no op has the step of an issue, which an answer alone makes
+pub no_op_issues : (op : Op) → step_of op ≡ Some steps.Issue → ⊥
+no_op_issues (ops.Alloc reg partition size) e = not_some steps.Issue e
+no_op_issues (ops.Copy from to) e = let same : steps.Copy ≡ steps.Issue = of_some steps.Copy steps.Issue e in cc
+no_op_issues (ops.Reset reg) e = let same : steps.Reset ≡ steps.Issue = of_some steps.Reset steps.Issue e in cc
+no_op_issues (ops.Free reg) e = let same : steps.Free ≡ steps.Issue = of_some steps.Free steps.Issue e in cc
+no_op_issues (ops.Write reg value) e = let same : steps.Write ≡ steps.Issue = of_some steps.Write steps.Issue e in cc
+no_op_issues (ops.Read reg place) e = not_some steps.Issue e
+no_op_issues (ops.Swap cell reg) e = not_some steps.Issue e
+no_op_issues ops.Purge e = not_some steps.Issue e
+
+-- the op whose step is a free is a free
+pub free_op : (op : Op) → step_of op ≡ Some steps.Free → (reg : ℕ) × (op ≡ ops.Free reg)
 free_op (ops.Alloc reg partition size) e = absurd (not_some steps.Free e)
 free_op (ops.Copy from to) e = let same : steps.Copy ≡ steps.Free = of_some steps.Copy steps.Free e in absurd cc
 free_op (ops.Reset reg) e = let same : steps.Reset ≡ steps.Free = of_some steps.Reset steps.Free e in absurd cc

@@ -2,7 +2,7 @@
 use Rattle.std.proofs.Common.{◌≡◌, ℕ, zero, suc, ◌+◌, ◌<◌, ◌⊎◌, List, Option, Some, refl, sym, ◌∙◌, ap, subst, arith, inl, inr}
 use Rattle.std.specs.Prelude.{Contains, option_map}
 use Rattle.std.proofs.lemmas.Bool.{cases_lt}
-use Rattle.pa_machine.specs.declared.word.SlotName.{SlotName}
+use Rattle.pa_slot.specs.declared.word.SlotName.{SlotName}
 use Rattle.pa_lists.proofs.Members.{of_some, not_some}
 use Rattle.pa_lists.proofs.Indexed.{one_at, option_cases}
 use Rattle.pa_trace.specs.declared.script.Op.{Op}
@@ -64,7 +64,8 @@ pub record Ends (cells : Cells) (ps : List Played) (s : SlotName) (reg : ℕ) (g
 put_reg : (reg k : ℕ) (r q : Reg) → ◌≡◌ {A = Option (ℕ × Reg)} (Some (reg, r)) (Some (k, q)) → reg ≡ k
 put_reg reg k r q e = ap (λ (p : ℕ × Reg). p.0) (of_some (reg, r) (k, q) e)
 
-made_from : (a : Answer) (m : SlotName × ℕ) → made_of a ≡ Some m → (seen : Seen) × (usable : ℕ) × (a ≡ Made seen usable) × (seen.slot ≡ m.0)
+-- an answer that makes a handle has a slot, that of the handle
+pub made_from : (a : Answer) (m : SlotName × ℕ) → made_of a ≡ Some m → (seen : Seen) × (usable : ℕ) × (a ≡ Made seen usable) × (seen.slot ≡ m.0)
 made_from (Made seen usable) m e = (seen, usable, refl, ap (λ (n : SlotName × ℕ). n.0) (of_some (seen.slot, usable) m e))
 made_from a m e = absurd (not_some m e)
 

@@ -5,9 +5,9 @@ use Rattle.std.specs.List.{AllZip}
 use Rattle.std.proofs.Math.Nat.{add-mul}
 use Rattle.std.proofs.lemmas.Bool.{and_parts, and_from, eqb-true, eq-eqb, false≢true}
 use Rattle.std.proofs.lemmas.List.Kept.{AllPairs-filter}
-use Rattle.pa_machine.specs.declared.word.SlotName.{SlotName}
-use Rattle.pa_machine.specs.declared.word.Step.{Step}
-use Rattle.pa_machine.specs.Run.{Mark, Slots, IsRunFrom, IsLive, IsQuarantined}
+use Rattle.pa_slot.specs.declared.word.SlotName.{SlotName}
+use Rattle.pa_slot.specs.declared.word.Step.{Step}
+use Rattle.pa_slot.specs.Run.{Mark, Slots, IsRunFrom, IsLive, IsQuarantined}
 use Rattle.pa_record.specs.declared.pool.PoolEntry.{PoolEntry}
 use Rattle.pa_record.specs.declared.report.Tally.{Tally}
 use Rattle.pa_lists.proofs.Members.{first_in, later_in}
@@ -20,7 +20,7 @@ use Rattle.pa_rules.specs.Flow.{steps_so}
 use Rattle.pa_rules.proofs.Running.{OtherRecord, Balances, one_if, run_levels, marks_differ}
 use Rattle.pa_rules.proofs.FourPlaces.{one_word}
 use Rattle.pa_rules.proofs.Totals.{total, total_add, total_same, total_ones}
-use Rattle.pa_machine.specs.Kinds.{issues, frees, enters, leaves}
+use Rattle.pa_slot.specs.Kinds.{issues, frees, enters, leaves}
 use Rattle.pa_legal.specs.Tallies.{weight_of, AreHomes, IsLeft, WentIn, TalliesFollow}
 use Rattle.pa_legal.proofs.Titling.{one_size}
 use Rattle.pa_legal.proofs.tallies.Levels.{is_live, live_balances, live_is, is_live_of, is_quarantined, quarantined_balances, quarantined_is, is_quarantined_of}

@@ -2,12 +2,12 @@
 use Rattle.std.proofs.Common.{◌≡◌, ℕ, ◌<◌, Bool, true, not, ◌&&◌, refl, sym, ◌∙◌, ap, arith, inl, inr}
 use Rattle.std.specs.Prelude.{◌==◌}
 use Rattle.std.proofs.lemmas.Bool.{cases_eq, eq-eqb, ne_eqb, eqb-true, and_parts, true≢false}
-use Rattle.pa_machine.specs.declared.word.Step.TheVariants.{Issue, Copy, Reset, Free, Write}
-use Rattle.pa_machine.specs.Count.{stepped, held_of, refs_of}
-use Rattle.pa_machine.specs.Run.{IsLive, IsQuarantined}
-use Rattle.pa_machine.proofs.Arith.{stepped_is}
+use Rattle.pa_slot.specs.declared.word.Step.TheVariants.{Issue, Copy, Reset, Free, Write}
+use Rattle.pa_slot.specs.Count.{stepped, held_of, refs_of}
+use Rattle.pa_slot.specs.Run.{IsLive, IsQuarantined}
+use Rattle.pa_slot.proofs.Arith.{stepped_is}
 use Rattle.pa_rules.proofs.Running.{Balances, one_if}
-use Rattle.pa_machine.specs.Kinds.{issues, frees, enters, leaves}
+use Rattle.pa_slot.specs.Kinds.{issues, frees, enters, leaves}
 
 -- ---- live
 
@@ -38,9 +38,11 @@ live_balances Free u can =
     omega arith
 live_balances Write u can = let (refs, held, some, none) = stepped_is Write u can in let a = live_same (stepped Write u) u held in omega arith
 
+-- a word that passes is live
 pub live_is : (w : ℕ) → is_live w ≡ true → IsLive w
 live_is w e = eqb-true (held_of w) 1 e
 
+-- and each live word passes
 pub is_live_of : (w : ℕ) → IsLive w → is_live w ≡ true
 is_live_of w e = eq-eqb (held_of w) 1 e
 
@@ -49,6 +51,7 @@ is_live_of w e = eq-eqb (held_of w) 1 e
 abbrev pub is_quarantined : ℕ → Bool
 is_quarantined w = (held_of w == 0) && not (refs_of w == 0)
 
+-- each quarantined word passes
 pub is_quarantined_of : (w : ℕ) → IsQuarantined w → is_quarantined w ≡ true
 is_quarantined_of w (held, some) = rw (eq-eqb (held_of w) 0 held, ne_eqb (refs_of w) 0 (λ e. omega arith)) refl
 
@@ -129,6 +132,7 @@ quarantined_balances Write u can =
     let b = quarantined_held (stepped Write u) (λ e. omega arith) in
     omega arith
 
+-- and what passes is quarantined
 pub quarantined_is : (w : ℕ) → is_quarantined w ≡ true → IsQuarantined w
 quarantined_is w e =
     let (a, b) = and_parts (held_of w == 0) (not (refs_of w == 0)) e in

@@ -1,16 +1,18 @@
--- Sums over the slots of some marks, each once.
-use Rattle.std.proofs.Common.{◌≡◌, ◌≢◌, ℕ, ◌+◌, ◌*◌, Bool, true, false, ◌&&◌, cond, List, [], ◌∷◌, map, filter, refl, sym, ◌∙◌, ap, subst, arith, inl, inr}
+-- Sums over the slots of some marks, each once, and what one record adds to what the marks weigh.
+use Rattle.std.proofs.Common.{◌≡◌, ◌≢◌, ℕ, ◌+◌, ◌*◌, Bool, true, false, ◌&&◌, cond, List, [], ◌∷◌, map, filter, Option, Some, None, refl, sym, ◌∙◌, ap, subst, arith, inl, inr}
 use Rattle.std.specs.Prelude.{Contains, AllPairs, sum, sum_by, count_by, if◌then◌else◌, ◌==◌}
 use Rattle.std.proofs.Math.Nat.{add-mul}
 use Rattle.std.proofs.lemmas.Bool.{cases_Bool, cases_eq, eq-eqb, ne_eqb}
 use Rattle.std.proofs.lemmas.List.Sums.{sum_by-cons, sum-map}
-use Rattle.pa_machine.specs.declared.word.SlotName.{SlotName}
-use Rattle.pa_machine.specs.declared.word.Step.{Step}
-use Rattle.pa_machine.specs.Run.{Mark, same_slot}
-use Rattle.pa_machine.proofs.Runs.{same_slot_yes, same_slot_no}
+use Rattle.pa_slot.specs.declared.word.SlotName.{SlotName}
+use Rattle.pa_slot.specs.declared.word.Step.{Step}
+use Rattle.pa_slot.specs.Run.{Mark, same_slot}
+use Rattle.pa_slot.proofs.Runs.{same_slot_yes, same_slot_no}
 use Rattle.pa_record.specs.Laws.{times}
 use Rattle.pa_lists.proofs.Members.{not_in_none, first_in, later_in, in_cases}
 use Rattle.pa_lists.proofs.Pairs.{pairs_none, pairs_cons, pairs_head, pairs_tail}
+use Rattle.pa_rules.specs.declared.played.Played.{Played}
+use Rattle.pa_rules.specs.Played.{mark_of, marks_of}
 use Rattle.pa_rules.specs.Flow.{at_step, steps_so}
 use Rattle.pa_rules.proofs.Totals.{total, total_add, total_same, some_times, total_none}
 use Rattle.pa_rules.proofs.FourPlaces.{times_member}
@@ -138,3 +140,22 @@ over_names test g ss (m ∷ ms) h inside =
         with_false : (p : Bool) (n : ℕ) → cond {A = ℕ} (p && false) n 0 ≡ 0
         with_false true n = refl
         with_false false n = refl
+
+-- ---- one record
+
+-- what one record's step weighs
+abbrev pub one_weight : (Step → ℕ → Bool) → (SlotName → ℕ) → Option Mark → ℕ
+one_weight test weight None = 0
+one_weight test weight (Some m) = if at_step test m.found m.step then weight m.slot else 0
+
+-- the first record of a list weighs that, beside the rest
+pub weight_first : (test : Step → ℕ → Bool) (weight : SlotName → ℕ) (x : Played) (xs : List Played) →
+    weight_of test weight (marks_of (x ∷ xs)) ≡ one_weight test weight (mark_of x) + weight_of test weight (marks_of xs)
+weight_first test weight x xs = go (mark_of x) refl
+  where
+    plain : (n : ℕ) → n ≡ 0 + n
+    plain n = omega arith
+
+    go : (o : Option Mark) → mark_of x ≡ o → weight_of test weight (marks_of (x ∷ xs)) ≡ one_weight test weight o + weight_of test weight (marks_of xs)
+    go None e = rw e (plain (weight_of test weight (marks_of xs)))
+    go (Some m) e = rw e (sum_by-cons (λ (n : Mark). if at_step test n.found n.step then weight n.slot else 0) m (marks_of xs))

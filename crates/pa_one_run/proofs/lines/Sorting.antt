@@ -13,7 +13,7 @@ use Rattle.pa_one_run.specs.Before.{below, on, past}
 use Rattle.pa_lists.proofs.Elements.{both_parts}
 use Rattle.pa_lists.proofs.Indexed.{in_at, at_in}
 
--- a list whose lines don't fall: the first has none greater after it
+-- if the lines of a list don't fall, those after its first one don't either
 pub rising_tail : {A : Type 0} (f : A → ℕ) (x : A) (xs : List A) → IsNonDecreasingBy f (x ∷ xs) → IsNonDecreasingBy f xs
 rising_tail f x xs h i j d low below' = h (suc i) (suc j) d (omega arith) (omega arith)
 
@@ -98,7 +98,7 @@ on_alone f n (x ∷ xs) (suc j) e at same alone =
     let other : f x ≡ n → ⊥ = λ here. let early : 0 ≡ suc j = alone 0 x refl here in absurd cc in
     rw (ne_eqb (f x) n other) (on_alone f n xs j e at same (λ k d there here. let late : suc k ≡ suc j = alone (suc k) d there here in cc))
 
--- where one entry stands on a line: its place, and that it is the one
+-- if one entry alone is on a line, this is its place, and an entry there is this one
 pub on_one : {A : Type 0} (f : A → ℕ) (n : ℕ) (xs : List A) (e d : A) (j : ℕ) → IsNonDecreasingBy f xs → on f n xs ≡ e ∷ [] → slice_get xs j ≡ Some d → f d ≡ n →
     (j ≡ length (below f n xs)) × (d ≡ e)
 on_one f n [] e d j h one at same = absurd (not_some d at)
@@ -203,7 +203,7 @@ sorted_by f xs h i j d up few = elim (cases_lt (f (get_or xs j d)) (f (get_or xs
   | inr up' ↦ omega arith
 ]
 
--- they rise if each has its own
+-- a list whose lines don't fall has rising lines if each entry has a line of its own
 pub rises_by : {A : Type 0} (f : A → ℕ) (xs : List A) → IsNonDecreasingBy f xs → ((i j : ℕ) (e g : A) → slice_get xs i ≡ Some e → slice_get xs j ≡ Some g → f e ≡ f g → i ≡ j) → IsStrictlyIncreasing (map f xs)
 rises_by f [] h differ k few = absurd (omega arith)
 rises_by f (x ∷ xs) h differ k few =

@@ -2,7 +2,7 @@
 use Rattle.std.proofs.Common.{◌≡◌, ℕ, ◌+◌, ◌<◌, ◌⊎◌, List, [], ◌∷◌, sym, ap, subst, arith, inl, inr}
 use Rattle.std.specs.Prelude.{Contains}
 use Rattle.std.proofs.lemmas.Bool.{cases_eq, eq-eqb, ne_eqb}
-use Rattle.pa_machine.specs.declared.word.SlotName.{SlotName}
+use Rattle.pa_slot.specs.declared.word.SlotName.{SlotName}
 use Rattle.pa_record.specs.declared.numbered.Numbered.{Numbered}
 use Rattle.pa_record.specs.Root.{names}
 use Rattle.pa_lists.proofs.Members.{not_in_none}
@@ -22,7 +22,7 @@ pub record Stands (all : Caches) (s : SlotName) (p threads : ℕ) (m : Numbered)
   pub among : Contains (all thread p class) m
   pub slot : m.slot ≡ s
 
--- it is nowhere where it is counted never, nor in one list
+-- a slot that is counted never in the lists is in none of them
 pub nowhere : (all : Caches) (s : SlotName) (p threads : ℕ) (m : Numbered) → cached_times s all p threads ≡ 0 → Stands all s p threads m → ⊥
 nowhere all s p threads m none at =
     let some = some_cached all p threads at.thread at.class m at.few at.real at.among in

@@ -4,13 +4,13 @@ use Rattle.std.specs.Prelude.{Contains, nat_lt}
 use Rattle.std.proofs.lemmas.Bool.{cases_Bool, cases_lt, cases_eq}
 use Rattle.std.proofs.lemmas.List.{append-nil}
 use Rattle.std.proofs.lemmas.List.Elements.{All-contains}
-use Rattle.pa_machine.specs.declared.word.SlotName.{SlotName}
-use Rattle.pa_machine.specs.declared.word.Step.{Step}
-use Rattle.pa_machine.specs.declared.word.Step.TheVariants.{Issue}
-use Rattle.pa_machine.specs.Count.{CanStep, stepped, number_of}
-use Rattle.pa_machine.specs.Run.{Mark, same_slot}
-use Rattle.pa_machine.proofs.Arith.{stepped_is}
-use Rattle.pa_machine.proofs.Runs.{same_slot_cases}
+use Rattle.pa_slot.specs.declared.word.SlotName.{SlotName}
+use Rattle.pa_slot.specs.declared.word.Step.{Step}
+use Rattle.pa_slot.specs.declared.word.Step.TheVariants.{Issue}
+use Rattle.pa_slot.specs.Count.{CanStep, stepped, number_of}
+use Rattle.pa_slot.specs.Run.{Mark, same_slot}
+use Rattle.pa_slot.proofs.Arith.{stepped_is}
+use Rattle.pa_slot.proofs.Runs.{same_slot_cases}
 use Rattle.pa_buckets.specs.Bands.{limit_of}
 use Rattle.pa_record.specs.declared.entry.Seen.{Seen}
 use Rattle.pa_record.specs.declared.entry.Answer.{Answer}

@@ -1,12 +1,12 @@
 -- What a record that steps on a slot says of the slot's number and word, and one that doesn't.
 use Rattle.std.proofs.Common.{◌≡◌, ℕ, ◌+◌, ◌<◌, true, false, List, [], ◌∷◌, ◌++◌, Option, Some, None, refl, sym, ◌∙◌, ap, subst, arith, inl, inr}
 use Rattle.std.proofs.lemmas.Bool.{true≢false}
-use Rattle.pa_machine.specs.declared.word.SlotName.{SlotName}
-use Rattle.pa_machine.specs.declared.word.Step.{Step}
-use Rattle.pa_machine.specs.declared.word.Step.TheVariants.{Issue, Copy, Reset, Free, Write}
-use Rattle.pa_machine.specs.Count.{CanStep, stepped, number_of, held_of, refs_of}
-use Rattle.pa_machine.specs.Run.{Mark}
-use Rattle.pa_machine.proofs.Runs.{same_slot_cases, number_stepped}
+use Rattle.pa_slot.specs.declared.word.SlotName.{SlotName}
+use Rattle.pa_slot.specs.declared.word.Step.{Step}
+use Rattle.pa_slot.specs.declared.word.Step.TheVariants.{Issue, Copy, Reset, Free, Write}
+use Rattle.pa_slot.specs.Count.{CanStep, stepped, number_of, held_of, refs_of}
+use Rattle.pa_slot.specs.Run.{Mark}
+use Rattle.pa_slot.proofs.Runs.{same_slot_cases, number_stepped}
 use Rattle.pa_rules.specs.declared.played.Played.{Played}
 use Rattle.pa_rules.specs.Played.{mark_of}
 use Rattle.pa_rules.specs.Flow.{busy, is_issue}
@@ -28,7 +28,7 @@ number_after before s = number_of (word_after before s)
 abbrev pub IsApart : Played → SlotName → Type 0
 IsApart x s = (m : Mark) → mark_of x ≡ Some m → m.slot ≡ s → m.step ≡ None
 
--- it makes this one, with this mark
+-- the record makes this step on slot s, with this mark
 pub record StepsOn (x : Played) (s : SlotName) (m : Mark) (step : Step) : Type 0 where
   pub mark : mark_of x ≡ Some m
   pub slot : m.slot ≡ s

@@ -3,7 +3,7 @@ use Rattle.std.proofs.Common.{◌≡◌, ℕ, ◌+◌, ◌<◌, ◌⊎◌, Bool,
 use Rattle.std.specs.Prelude.{Contains, ◌==◌}
 use Rattle.std.proofs.lemmas.Bool.{cases_lt, cases_eq, ne_eqb, both_ways}
 use Rattle.std.proofs.lemmas.List.{append-nil}
-use Rattle.pa_machine.specs.declared.word.SlotName.{SlotName}
+use Rattle.pa_slot.specs.declared.word.SlotName.{SlotName}
 use Rattle.pa_record.specs.declared.numbered.Numbered.{Numbered}
 use Rattle.pa_record.specs.declared.root.RootAct.{RootAct}
 use Rattle.pa_record.specs.declared.root.RootAct.TheVariants.{Fill}
@@ -22,7 +22,7 @@ pub record AreNumbered (acts : List RootAct) (s : SlotName) (n : ℕ) (Listed : 
 away_unnamed : (acts : List RootAct) (s : SlotName) (k : ℕ) → (k ≡ 0 → ⊥) → ways_of s k acts ≡ [] → is_away acts s k ≡ true
 away_unnamed acts s k some none = rw (none, ne_eqb k 0 some) refl
 
--- so it is in the root at no other number
+-- a slot that is numbered is in the root at no number but its own
 pub root_number : (acts : List RootAct) (s : SlotName) (n k : ℕ) (Listed : Numbered → Type 0) → AreNumbered acts s n Listed → is_away acts s k ≡ false → k ≡ n
 root_number acts s n k Listed are root = elim (cases_eq k n) [
   | inl e ↦ e

@@ -4,9 +4,9 @@ use Rattle.std.specs.Prelude.{Contains, ◌==◌}
 use Rattle.std.proofs.lemmas.Bool.{cases_Bool, both_ways, eq-eqb, ne_eqb}
 use Rattle.std.proofs.lemmas.List.{append_assoc, map-append}
 use Rattle.std.proofs.lemmas.List.Elements.{filter-append}
-use Rattle.pa_machine.specs.declared.word.SlotName.{SlotName}
-use Rattle.pa_machine.specs.Run.{same_slot}
-use Rattle.pa_machine.proofs.Runs.{same_slot_cases, same_slot_yes, same_slot_no}
+use Rattle.pa_slot.specs.declared.word.SlotName.{SlotName}
+use Rattle.pa_slot.specs.Run.{same_slot}
+use Rattle.pa_slot.proofs.Runs.{same_slot_cases, same_slot_yes, same_slot_no}
 use Rattle.pa_record.specs.declared.numbered.Numbered.{Numbered}
 use Rattle.pa_record.specs.declared.root.RootEntry.{RootEntry}
 use Rattle.pa_record.specs.declared.root.RootAct.{RootAct}
@@ -44,11 +44,11 @@ abbrev pub away_after : Bool → List Way → Bool
 away_after b [] = b
 away_after b (w ∷ ws) = away_after (is_out w) ws
 
--- by these entries the slot isn't in the root at the number; at the start it is there at 0 alone
+-- the test whether these entries leave the slot out of the root at the number, if it was there at 0 alone before them
 abbrev pub is_away : List RootAct → SlotName → ℕ → Bool
 is_away acts s k = away_after (not (k == 0)) (ways_of s k acts)
 
--- each way has the slot where it needs it
+-- each way finds the slot in the root or away, as it needs it
 abbrev pub WaysFit : Bool → List Way → Type 0
 WaysFit b [] = Unit {0}
 WaysFit b (w ∷ ws) = (b ≡ not (is_out w)) × WaysFit (is_out w) ws

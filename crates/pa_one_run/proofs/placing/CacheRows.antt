@@ -1,28 +1,27 @@
 -- A record's lists and entries are the same in two runs that agree before its line and have the same lists there.
-use Rattle.std.proofs.Common.{◌≡◌, ℕ, zero, suc, ◌+◌, ◌≤◌, List, [], ◌∷◌, map, drop, take, get_or, length, Option, Some, None, refl, sym, ◌∙◌, ap, subst, arith, inl, inr}
+use Rattle.std.proofs.Common.{◌≡◌, ℕ, ◌+◌, ◌≤◌, List, [], ◌∷◌, map, drop, get_or, length, Option, Some, None, refl, sym, ◌∙◌, ap, subst, arith, inl, inr}
 use Rattle.std.proofs.Math.Path.{fun_ext}
 use Rattle.std.specs.Prelude.{Contains}
 use Rattle.std.proofs.lemmas.Bool.{cases_lt}
-use Rattle.std.proofs.lemmas.List.Elements.{Contains-append_cases}
-use Rattle.pa_machine.specs.declared.word.SlotName.{SlotName}
-use Rattle.pa_machine.specs.declared.word.Step.{Step}
-use Rattle.pa_machine.specs.Count.{number_of}
-use Rattle.pa_machine.specs.Run.{Mark}
+use Rattle.pa_slot.specs.declared.word.SlotName.{SlotName}
+use Rattle.pa_slot.specs.declared.word.Step.{Step}
+use Rattle.pa_slot.specs.Count.{number_of}
+use Rattle.pa_slot.specs.Run.{Mark}
 use Rattle.pa_trace.specs.declared.script.Op.TheVariants as ops
 use Rattle.pa_record.specs.declared.entry.Seen.{Seen}
 use Rattle.pa_record.specs.declared.entry.Answer.{Answer}
 use Rattle.pa_record.specs.declared.numbered.Numbered.{Numbered}
 use Rattle.pa_record.specs.declared.root.RootEntry.{RootEntry}
 use Rattle.pa_record.specs.declared.root.RootAct.{RootAct}
-use Rattle.pa_record.specs.declared.root.RootAct.TheVariants.{Fill, Map, Full, Give, Unmap, Purge}
-use Rattle.pa_record.specs.Root.{asked_by}
-use Rattle.pa_lists.proofs.Members.{not_in_none, first_in, in_cases}
+use Rattle.pa_record.specs.declared.root.RootAct.TheVariants.{Fill, Map, Full, Unmap}
+use Rattle.pa_lists.proofs.Members.{not_in_none, first_in}
 use Rattle.pa_record.specs.declared.entry.Answer.TheVariants as answers
 use Rattle.pa_rules.specs.declared.played.Played.{Played}
 use Rattle.pa_rules.specs.Played.{step_of, mark_at, mark_of, mark_of_answer}
 use Rattle.pa_rules.specs.Roots.{Journals}
-use Rattle.pa_rules.specs.Caches.{Cache, with_list, SameLists, acts_of, OnlyActs, NoActs, batches, gives, purge_acts, all_listed, kept, spilled, FrontIs, FilledFirst, MadeRow, FullRow, IsDirect, unmap_at, ReturnRow, DoneRow, PurgedRow, CacheRow}
+use Rattle.pa_rules.specs.Caches.{Cache, with_list, SameLists, acts_of, OnlyActs, NoActs, gives, all_listed, kept, spilled, FrontIs, FilledFirst, MadeRow, FullRow, IsDirect, unmap_at, ReturnRow, DoneRow, PurgedRow, CacheRow}
 use Rattle.pa_rules.proofs.Asking.{class_once, map_once, class_or_map}
+use Rattle.pa_rules.proofs.Batches.{batch_names_none, purge_names_none}
 use Rattle.pa_one_run.specs.Parts.{Parts, entry_line, pool_line}
 use Rattle.pa_one_run.specs.Before.{word_after, below, on}
 use Rattle.pa_one_run.proofs.Filed.{IsFiled, IsMadeIn}
@@ -33,7 +32,7 @@ use Rattle.pa_one_run.proofs.rows.Handles.{done_made}
 use Rattle.pa_one_run.proofs.roots.Requests.{Beside, IsAlike, only_alike, only_unasked, quiet_alike, fills_alike, same_slots, maps_alike, fulls_alike, map_fulls_alike, fill_or_full, map_or_full, unmaps_alike}
 use Rattle.pa_one_run.proofs.placing.Unmaps.{unmap_number}
 use Rattle.pa_one_run.proofs.placing.Returns.{AreAfter, class_alike, direct_alike, class_not_direct, direct_not_class}
-use Rattle.pa_lists.proofs.Elements.{in_middle, in_one}
+use Rattle.pa_lists.proofs.Elements.{in_middle}
 
 -- the lists after a record, and what its line did
 pub record IsRowAlike (a b : Parts) (n : ℕ) (next next' : Cache) : Type 0 where
@@ -43,7 +42,7 @@ pub record IsRowAlike (a b : Parts) (n : ℕ) (next next' : Cache) : Type 0 wher
 becomes_is : (after cache : Cache) → SameLists after cache → after ≡ cache
 becomes_is after cache h = fun_ext (λ p. fun_ext (λ c. h p c))
 
--- lists that became the same
+-- lists that became the same as equal lists are equal
 both_become : (after after' cache cache' : Cache) → SameLists after cache → SameLists after' cache' → cache ≡ cache' → after ≡ after'
 both_become after after' cache cache' h k e = becomes_is after cache h ∙ e ∙ sym (becomes_is after' cache' k)
 
@@ -157,7 +156,7 @@ full_place a x cache next j h among is (inr (p, size, i, (reg, op, direct), only
     let (e, at, line, full) = h.journals.refusals x j reg p size among is op in
     (p, reg, size, op, (entry_place a x.line p j (Full None i) e h only.0 at line).0)
 
--- both say the same entry
+-- two runs that refuse one record name the same entry
 pub full_entry : (a b : Parts) (before : List Played) (x : Played) (i j : ℕ) (cache next next' : Cache) → Beside a b before x (answers.Full j) → x.answer ≡ answers.Full i → FullRow a.roots x cache next →
     FullRow b.roots x cache next' → i ≡ j
 full_entry a b before x i j cache next next' h is row row' =
@@ -170,14 +169,6 @@ full_entry a b before x i j cache next next' h is row row' =
     partition_of r s p q m n e = cc
 
 -- ---- a step
-
-pub batch_asks_none : (n : ℕ) (xs : List Numbered) (act : RootAct) → Contains (batches n xs) act → asked_by act ≡ None
-batch_asks_none zero xs act among = absurd (not_in_none act among)
-batch_asks_none (suc n) [] act among = absurd (not_in_none act among)
-batch_asks_none (suc n) (x ∷ xs) act among = elim (in_cases (Give (take 16 (x ∷ xs))) act (batches n (drop 16 (x ∷ xs))) among) [
-  | inl e ↦ ap asked_by (sym e)
-  | inr rest ↦ batch_asks_none n (drop 16 (x ∷ xs)) act rest
-]
 
 -- the record's step left the slot at this number
 abbrev LeavesAt : Played → Numbered → Type 0
@@ -205,7 +196,7 @@ back_alike a b before x slot cache next next' h made (m, marked, same, left) row
         OnlyActs b.roots x.line p (gives (spilled class (slot ∷ cache p class))) → SameLists next' (with_list cache p class (kept class (slot ∷ cache p class))) → IsRowAlike a b x.line next next'
     class_back p class only becomes only' becomes' =
         let list = spilled class (slot ∷ cache p class) in
-        let none = batch_asks_none (length list) list in
+        let none = batch_names_none (length list) list in
         record {
           caches = both_become next next' (with_list cache p class (kept class (slot ∷ cache p class))) (with_list cache p class (kept class (slot ∷ cache p class))) becomes becomes' refl;
           line = record {
@@ -252,23 +243,17 @@ done_alike a b before x (Some step) seen cache next next' h made marked (inr (no
 
 -- ---- a purge
 
-pub purge_asks_none : (lists : ℕ → List Numbered) (class n : ℕ) (act : RootAct) → Contains (purge_acts lists class n) act → asked_by act ≡ None
-purge_asks_none lists class zero act among = ap asked_by (sym (in_one Purge act among))
-purge_asks_none lists class (suc n) act among = elim (Contains-append_cases (gives (lists class)) (purge_acts lists (class + 1) n) act among) [
-  | inl here ↦ batch_asks_none (length (lists class)) (lists class) act here
-  | inr rest ↦ purge_asks_none lists (class + 1) n act rest
-]
-
-no_acts_past : (a : Parts) (n p : ℕ) → IsFiled a → a.partitions ≤ p → acts_of a.roots n p ≡ []
+-- a journal past the partitions has no acts on any line
+pub no_acts_past : (a : Parts) (n p : ℕ) → IsFiled a → a.partitions ≤ p → acts_of a.roots n p ≡ []
 no_acts_past a n p h past = ap (λ (es : List RootEntry). map (λ (e : RootEntry). e.act) (on entry_line n es)) (h.journals.none_past p past)
 
 purge_unasked : (a : Parts) (x : Played) (slots : ℕ) (cache next : Cache) → IsFiled a → PurgedRow a.partitions a.roots x slots cache next → on pool_line x.line a.pools ≡ []
 purge_unasked a x slots cache next h (acts, counted, empty) = asks_nothing a x.line h (λ p act among. elim (cases_lt p a.partitions) [
-  | inl less ↦ purge_asks_none (cache p) 0 59 act (subst (λ zs. Contains zs act) (acts p less) among)
+  | inl less ↦ purge_names_none (cache p) 0 59 act (subst (λ zs. Contains zs act) (acts p less) among)
   | inr past ↦ absurd (not_in_none act (subst (λ zs. Contains zs act) (no_acts_past a x.line p h past) among))
 ])
 
--- all lists went back, so they say the same count
+-- a purge gives back all lists, so two runs with the same lists answer the same count
 pub purged_alike : (a b : Parts) (before : List Played) (x : Played) (v : Answer) (slots slots' : ℕ) (cache next next' : Cache) → Beside a b before x v → PurgedRow a.partitions a.roots x slots cache next →
     PurgedRow b.partitions b.roots x slots' cache next' → (slots ≡ slots') × IsRowAlike a b x.line next next'
 purged_alike a b before x v slots slots' cache next next' h (acts, counted, empty) (acts', counted', empty') =

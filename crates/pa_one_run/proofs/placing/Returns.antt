@@ -1,6 +1,6 @@
 -- A slot that was made before goes back to the same list in two runs.
 use Rattle.std.proofs.Common.{◌≡◌, ℕ, ◌⊎◌, List, ◌++◌, ◌∙◌, subst, inl, inr}
-use Rattle.pa_machine.specs.declared.word.SlotName.{SlotName}
+use Rattle.pa_slot.specs.declared.word.SlotName.{SlotName}
 use Rattle.pa_rules.specs.declared.played.Played.{Played}
 use Rattle.pa_rules.specs.Caches.{IsOfClass, IsDirect}
 use Rattle.pa_rules.proofs.Asking.{class_once, map_once, class_or_map}
@@ -39,7 +39,7 @@ made_place a b before s h (q, seen, usable, among, is, same) =
       ]
     ])
 
--- so its partition and class are the same in both
+-- the partition and the class of a slot that was made before are the same in both runs
 pub class_alike : (a b : Parts) (before : List Played) (s : SlotName) (p q c d : ℕ) → AreAfter a b before → IsMadeIn before s → IsOfClass a.roots s p c → IsOfClass b.roots s q d → (p ≡ q) × (c ≡ d)
 class_alike a b before s p q c d h made of of' = elim (made_place a b before s h made) [
   | inl (r, e, one, two) ↦

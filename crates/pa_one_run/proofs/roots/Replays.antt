@@ -73,7 +73,7 @@ named_of a p j e d h among asks at =
     let it : f ≡ e = of_some f e (sym there ∙ here') in
     record { line = sym line ∙ ap entry_line it; partition = sym same }
 
--- so both runs have it
+-- an entry of the pool that a journal names before the line is the same in both runs
 named_same : (a b : Parts) (n p j : ℕ) (e : RootEntry) (d : PoolEntry) → IsFiled a → IsFiled b → Agrees n a b → Contains (below entry_line n (a.roots p)) e → asked_by e.act ≡ Some j →
     slice_get a.pools j ≡ Some d → slice_get b.pools j ≡ Some d
 named_same a b n p j e d h k agrees among asks at =

@@ -2,8 +2,8 @@
 use Rattle.std.proofs.Common.{◌≡◌, ℕ, List, [], ◌∷◌, ◌++◌, map, Option, Some, None, refl, sym, ◌∙◌, ap, subst, arith, inl, inr}
 use Rattle.std.specs.Prelude.{Contains}
 use Rattle.std.proofs.lemmas.Bool.{cases_eq, true≢false}
-use Rattle.pa_machine.specs.declared.title.Title.{Title}
-use Rattle.pa_machine.specs.declared.word.SlotName.{SlotName}
+use Rattle.pa_slot.specs.declared.title.Title.{Title}
+use Rattle.pa_slot.specs.declared.word.SlotName.{SlotName}
 use Rattle.pa_layout.specs.Pages.{page_place, supers_for}
 use Rattle.pa_buckets.specs.Bands.{fill_of}
 use Rattle.pa_direct.specs.Shapes.{shape_of}
@@ -54,7 +54,7 @@ pub record Beside (a b : Parts) (before : List Played) (x : Played) (v : Answer)
 
 -- ---- the acts of a line
 
--- lines with the same acts in one partition, and none in another, have the same acts
+-- two runs whose line has the same acts in one partition, and none in any other, have the same acts of it in each
 pub only_alike : (a b : Parts) (n p : ℕ) (acts acts' : List RootAct) → OnlyActs a.roots n p acts → OnlyActs b.roots n p acts' → acts ≡ acts' → (q : ℕ) → acts_of a.roots n q ≡ acts_of b.roots n q
 only_alike a b n p acts acts' only only' same q = elim (cases_eq q p) [
   | inl e ↦ subst (λ z. acts_of a.roots n z ≡ acts_of b.roots n z) (sym e) (only.0 ∙ same ∙ sym only'.0)
@@ -103,7 +103,7 @@ makes a x p act h among only =
 
 -- ---- the pool
 
--- before the line the pool is the same
+-- two runs that agree before a line have the same pool there
 pub pools_agree : (a b : Parts) (n : ℕ) → Agrees n a b → pool_at a n ≡ pool_at b n
 pools_agree a b n agrees = ap (λ es. pool_replayed es (new_pool a.supers)) agrees.pool ∙ ap (λ k. pool_replayed (below pool_line n b.pools) (new_pool k)) agrees.supers
 
@@ -128,13 +128,13 @@ named a b n p i j act act' h k agrees only only' asks asks' =
 entry_is : (a : Parts) (n p i : ℕ) (e : PoolEntry) (act : PoolAct) → IsAsked a n p i e → act_at a.pools i ≡ Some act → e.act ≡ act
 entry_is a n p i e act asked at = of_some e.act act (sym asked.act ∙ at)
 
--- they are one entry if they did the same
+-- two entries of the pool that are named on one line are one entry if they did the same
 pub named_alike : (a b : Parts) (n p i j : ℕ) (act act' : PoolAct) → AreNamed a b n p i j → act_at a.pools i ≡ Some act → act_at b.pools j ≡ Some act' → act ≡ act' →
     (i ≡ j) × (on pool_line n a.pools ≡ on pool_line n b.pools)
 named_alike a b n p i j act act' h at at' same =
     asked_alike a b n p i j h.entry h.entry' h.agrees h.asked h.asked' (entry_is a n p i h.entry act h.asked at ∙ same ∙ sym (entry_is b n p j h.entry' act' h.asked' at'))
 
--- a take finds the same
+-- two takes of as many super pages on one line find the same ones
 pub takes_alike : (a b : Parts) (n p i j count : ℕ) (found found' : Option ℕ) → AreNamed a b n p i j → act_at a.pools i ≡ Some (turns.Take count found) → act_at b.pools j ≡ Some (turns.Take count found') → found ≡ found'
 takes_alike a b n p i j count found found' h at at' =
     let one : PoolActFits a.pools p (turns.Take count found) (pool_at a n) = subst (λ z. PoolActFits a.pools p z (pool_at a n)) (entry_is a n p i h.entry _ h.asked at) h.asked.fits in
@@ -213,7 +213,7 @@ pub record AreMaps (a b : Parts) (n : ℕ) (i j : ℕ) (s t : SlotName) (m k : �
   pub len : m ≡ k
   pub pool : on pool_line n a.pools ≡ on pool_line n b.pools
 
--- they have the same size, so the pool's answer is the same
+-- two direct maps on one line have the same size, so the pool's answer is the same
 pub maps_alike : (a b : Parts) (before : List Played) (x : Played) (v : Answer) (p size i j m k : ℕ) (s t : SlotName) → Beside a b before x v → AsksForMap x.op p size →
     OnlyActs a.roots x.line p (Map i s m ∷ []) → OnlyActs b.roots x.line p (Map j t k ∷ []) → AreMaps a b x.line i j s t m k
 maps_alike a b before x v p size i j m k s t h asks only only' =

@@ -3,7 +3,7 @@ use Rattle.std.proofs.Common.{◌≡◌, ℕ, List, [], ◌∷◌, ◌++◌, ◌
 use Rattle.std.specs.Prelude.{Contains}
 use Rattle.std.proofs.lemmas.Bool.{cases_eq, eq-eqb, ne_eqb}
 use Rattle.std.proofs.lemmas.List.Elements.{Contains-append_left, Contains-push, Contains-push_cases}
-use Rattle.pa_machine.specs.declared.word.SlotName.{SlotName}
+use Rattle.pa_slot.specs.declared.word.SlotName.{SlotName}
 use Rattle.pa_trace.specs.declared.script.Op.{Op}
 use Rattle.pa_trace.specs.declared.script.Op.TheVariants as ops
 use Rattle.pa_record.specs.declared.entry.Seen.{Seen}
@@ -26,6 +26,7 @@ use Rattle.pa_one_run.proofs.rows.Exchanges.{HasExchange, exchange_here, one_exc
 use Rattle.pa_one_run.proofs.lines.Cuts.{early_in, cut_here, exchange_made}
 use Rattle.pa_lists.proofs.Elements.{in_middle}
 use Rattle.pa_lists.proofs.Indexed.{option_cases}
+use Rattle.pa_legal.proofs.owners.Ways.{made_from}
 
 -- ---- the slots of registers and cells
 
@@ -65,10 +66,6 @@ row_at a before rest x h parts =
 
 -- ---- what is held was made
 
-made_is : (answer : Answer) (m : SlotName × ℕ) → made_of answer ≡ Some m → (seen : Seen) × (usable : ℕ) × (answer ≡ Made seen usable) × (seen.slot ≡ m.0)
-made_is (Made seen usable) m e = (seen, usable, refl, ap (λ (z : SlotName × ℕ). z.0) (of_some (seen.slot, usable) m e))
-made_is answer m e = absurd (not_some m e)
-
 -- the handle that a register is changed to is of a slot that was made, of the step's, or was found in a cell
 change_names : (cells : ℕ → List CellEntry) (op : Op) (answer : Answer) (c : ℕ × Reg) (s : SlotName) (P : Type 0) →
     ((seen : Seen) (usable : ℕ) → answer ≡ Made seen usable → seen.slot ≡ s → P) →
@@ -77,7 +74,7 @@ change_names : (cells : ℕ → List CellEntry) (op : Op) (answer : Answer) (c :
     change_of cells op answer ≡ Some c → slot_in c.1 ≡ Some s → P
 change_names cells (ops.Alloc reg partition size) answer c s P made done found is names =
     let (m, by, e) = option_cases (λ (m : SlotName × ℕ). (reg, Own m.0)) (made_of answer) c is in
-    let (seen, usable, tells, slot) = made_is answer m by in
+    let (seen, usable, tells, slot) = made_from answer m by in
     made seen usable tells (slot ∙ of_some m.0 s (ap (λ (z : ℕ × Reg). slot_in z.1) e ∙ names))
 change_names cells (ops.Copy from to) answer c s P made done found is names =
     let (seen, by, e) = option_cases (λ (seen : Seen). (to, Ref seen.slot)) (done_of answer) c is in

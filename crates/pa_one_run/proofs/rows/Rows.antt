@@ -3,13 +3,13 @@ use Rattle.std.proofs.Common.{◌≡◌, ℕ, ◌<◌, ◌⊎◌, List, [], ◌�
 use Rattle.std.specs.Prelude.{Contains}
 use Rattle.std.specs.Option.{option_map}
 use Rattle.std.proofs.lemmas.Bool.{cases_eq}
-use Rattle.pa_machine.specs.declared.word.SlotName.{SlotName}
-use Rattle.pa_machine.specs.declared.word.Step.{Step}
-use Rattle.pa_machine.specs.Count.{held_of, refs_of}
-use Rattle.pa_machine.specs.Run.{Mark}
-use Rattle.pa_machine.specs.Titles.{poison}
-use Rattle.pa_machine.proofs.Runs.{same_slot_yes}
-use Rattle.pa_machine.specs.declared.word.Step.TheVariants as steps
+use Rattle.pa_slot.specs.declared.word.SlotName.{SlotName}
+use Rattle.pa_slot.specs.declared.word.Step.{Step}
+use Rattle.pa_slot.specs.Count.{held_of, refs_of}
+use Rattle.pa_slot.specs.Run.{Mark}
+use Rattle.pa_slot.specs.Titles.{poison}
+use Rattle.pa_slot.proofs.Runs.{same_slot_yes}
+use Rattle.pa_slot.specs.declared.word.Step.TheVariants as steps
 use Rattle.pa_trace.specs.declared.script.Op.{Op}
 use Rattle.pa_trace.specs.declared.script.Op.TheVariants as ops
 use Rattle.pa_record.specs.declared.entry.Seen.{Seen}
@@ -345,7 +345,7 @@ swap_cases (ops.Swap cell reg) k = elim (cases_eq cell k) [
 ]
 swap_cases op k = inr (λ r e. cc)
 
--- and so are the exchanges of its line
+-- the exchanges of a record's line are the same in two runs that agree before it
 pub exchanges_agree : (a b : Parts) (before rest rest' : List Played) (x : Played) → IsFiled a → IsFiled b → a.ps ≡ before ++ x ∷ rest → b.ps ≡ before ++ x ∷ rest' → Agrees x.line a b →
     (k : ℕ) → on cell_line x.line (a.cells k) ≡ on cell_line x.line (b.cells k)
 exchanges_agree a b before rest rest' x h k parts parts' agrees cell =

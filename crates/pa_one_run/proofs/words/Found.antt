@@ -3,11 +3,11 @@ use Rattle.std.proofs.Common.{◌≡◌, ℕ, List, [], ◌∷◌, ◌++◌, Som
 use Rattle.std.specs.Prelude.{Contains}
 use Rattle.std.proofs.lemmas.List.{append-nil}
 use Rattle.std.proofs.lemmas.List.Elements.{filter_map-append}
-use Rattle.pa_machine.specs.declared.word.SlotName.{SlotName}
-use Rattle.pa_machine.specs.declared.word.Step.{Step}
-use Rattle.pa_machine.specs.Count.{CanStep, number_of, held_of, refs_of, stepped}
-use Rattle.pa_machine.specs.Run.{Mark, Slots}
-use Rattle.pa_machine.proofs.Runs.{runs_end, run_of_path, slots_of_runs, number_stepped}
+use Rattle.pa_slot.specs.declared.word.SlotName.{SlotName}
+use Rattle.pa_slot.specs.declared.word.Step.{Step}
+use Rattle.pa_slot.specs.Count.{CanStep, number_of, held_of, refs_of, stepped}
+use Rattle.pa_slot.specs.Run.{Mark, Slots}
+use Rattle.pa_slot.proofs.Runs.{runs_end, run_of_path, slots_of_runs, number_stepped}
 use Rattle.pa_lists.proofs.Members.{first_in}
 use Rattle.pa_rules.specs.declared.played.Played.{Played}
 use Rattle.pa_rules.specs.Played.{mark_of, marks_of}

@@ -4,12 +4,12 @@ use Rattle.std.specs.Prelude.{Contains, AllPairs, is_some, count_by, nat_lt}
 use Rattle.std.proofs.lemmas.Bool.{lt-ltb, le-ltb}
 use Rattle.std.proofs.lemmas.List.{append-nil}
 use Rattle.std.proofs.lemmas.List.Sums.{sum_by-cons}
-use Rattle.pa_machine.specs.declared.word.SlotName.{SlotName}
-use Rattle.pa_machine.specs.declared.word.Step.{Step}
-use Rattle.pa_machine.specs.Count.{number_of, stepped}
-use Rattle.pa_machine.specs.Run.{Mark, Slots, same_slot}
-use Rattle.pa_machine.specs.Runs.{HasRuns}
-use Rattle.pa_machine.proofs.Runs.{runs_none, runs_same, runs_look, runs_step, same_slot_cases, same_slot_yes, same_slot_no, number_stepped}
+use Rattle.pa_slot.specs.declared.word.SlotName.{SlotName}
+use Rattle.pa_slot.specs.declared.word.Step.{Step}
+use Rattle.pa_slot.specs.Count.{number_of, stepped}
+use Rattle.pa_slot.specs.Run.{Mark, Slots, same_slot}
+use Rattle.pa_slot.specs.Runs.{HasRuns}
+use Rattle.pa_slot.proofs.Runs.{runs_none, runs_same, runs_look, runs_step, same_slot_cases, same_slot_yes, same_slot_no, number_stepped}
 use Rattle.pa_lists.proofs.Members.{first_in, later_in, in_cases}
 use Rattle.pa_lists.proofs.Pairs.{pairs_head}
 use Rattle.pa_rules.specs.FileOrder.{is_step_before, steps_before, AreNumbersInFileOrder}

@@ -1,10 +1,10 @@
 -- The marks of a run are in the order of their lines, and a slot's words are determined by their numbers.
 use Rattle.std.proofs.Common.{◌≡◌, ℕ, ◌<◌, List, ◌∷◌, arith}
 use Rattle.std.specs.Prelude.{Contains, AllPairs}
-use Rattle.pa_machine.specs.declared.word.SlotName.{SlotName}
-use Rattle.pa_machine.specs.declared.word.Step.{Step}
-use Rattle.pa_machine.specs.Count.{CanStep, stepped}
-use Rattle.pa_machine.specs.Run.{Mark, IsFirstAt, IsRunFrom}
+use Rattle.pa_slot.specs.declared.word.SlotName.{SlotName}
+use Rattle.pa_slot.specs.declared.word.Step.{Step}
+use Rattle.pa_slot.specs.Count.{CanStep, stepped}
+use Rattle.pa_slot.specs.Run.{Mark, IsFirstAt, IsRunFrom}
 use Rattle.pa_rules.specs.declared.played.Played.{Played}
 use Rattle.pa_rules.specs.Played.{marks_of}
 use Rattle.pa_rules.proofs.Marking.{mark_line}

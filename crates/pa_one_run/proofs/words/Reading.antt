@@ -1,43 +1,28 @@
 -- What a record reads is the content that the records before it leave, so two runs read the same.
-use Rattle.std.proofs.Common.{◌≡◌, ℕ, ◌<◌, ◌≤◌, Bool, true, false, ◌&&◌, cond, List, [], ◌∷◌, ◌++◌, Some, None, refl, sym, ◌∙◌, ap, subst, arith, inl, inr}
-use Rattle.std.specs.Prelude.{Contains, is_some, nat_lt}
-use Rattle.std.proofs.lemmas.Bool.{cases_lt, lt-ltb, ltb-true}
-use Rattle.std.proofs.lemmas.List.Sums.{sum_by-cons}
-use Rattle.pa_machine.specs.declared.word.SlotName.{SlotName}
-use Rattle.pa_machine.specs.Count.{number_of}
-use Rattle.pa_machine.specs.Run.{Mark, IsFirstAt, same_slot}
-use Rattle.pa_machine.specs.declared.word.Step.TheVariants as steps
+use Rattle.std.proofs.Common.{◌≡◌, ℕ, ◌<◌, List, ◌∷◌, ◌++◌, Some, None, refl, sym, ◌∙◌, ap, subst, arith, inl, inr}
+use Rattle.std.specs.Prelude.{Contains}
+use Rattle.std.proofs.lemmas.Bool.{cases_lt}
+use Rattle.pa_slot.specs.declared.word.SlotName.{SlotName}
+use Rattle.pa_slot.specs.Count.{number_of}
+use Rattle.pa_slot.specs.Run.{Mark, IsFirstAt}
+use Rattle.pa_slot.specs.declared.word.Step.TheVariants as steps
 use Rattle.pa_trace.specs.declared.script.Op.TheVariants as ops
 use Rattle.pa_record.specs.declared.entry.Seen.{Seen}
 use Rattle.pa_record.specs.declared.entry.Answer.TheVariants.{Made, Done, Value}
 use Rattle.pa_rules.specs.declared.played.Played.{Played}
 use Rattle.pa_rules.specs.Played.{mark_of, marks_of, mark_at}
 use Rattle.pa_rules.specs.Contents.{IsMadeAt, IsWrittenAt, IsWrittenFor, IsContent, IsReadExact}
-use Rattle.pa_rules.specs.FileOrder.{is_step_before, steps_before}
+use Rattle.pa_rules.specs.FileOrder.{steps_before}
 use Rattle.pa_rules.proofs.Marking.{mark_line, read_mark}
 use Rattle.pa_rules.proofs.Running.{first_line, same_word}
 use Rattle.pa_rules.proofs.Phases.{mark_in}
+use Rattle.pa_rules.proofs.Rising.{steps_rise}
 use Rattle.pa_one_run.proofs.Filed.{IsFiled}
 use Rattle.pa_lists.proofs.Elements.{in_middle, in_front}
 use Rattle.pa_one_run.specs.Parts.{Parts}
 use Rattle.pa_one_run.proofs.lines.Cuts.{same_played, early_in, cut_here}
 
 -- ---- a record that found a lesser number of the slot comes before
-
-no_less : (a b c d : Bool) → (b ≡ true → d ≡ true) → cond {A = ℕ} (a && (b && c)) 1 0 ≤ cond {A = ℕ} (a && (d && c)) 1 0
-no_less false b c d h = omega arith
-no_less true false c d h = omega arith
-no_less true true c d h = rw (h refl) (omega arith)
-
--- a line past another has no fewer steps before it
-pub steps_rise : (s : SlotName) (i j : ℕ) (ms : List Mark) → i ≤ j → steps_before s i ms ≤ steps_before s j ms
-steps_rise s i j [] up = omega arith
-steps_rise s i j (m ∷ ms) up =
-    let a = sum_by-cons (λ y. cond {A = ℕ} (is_step_before s i y) 1 0) m ms in
-    let b = sum_by-cons (λ y. cond {A = ℕ} (is_step_before s j y) 1 0) m ms in
-    let c = no_less (same_slot m.slot s) (nat_lt m.line i) (is_some m.step) (nat_lt m.line j) (λ hit. let low = ltb-true m.line i hit in lt-ltb m.line j (omega arith)) in
-    let ih = steps_rise s i j ms up in
-    omega arith
 
 pub stands_before : (a : Parts) (before rest : List Played) (x q : Played) (m n : Mark) → IsFiled a → a.ps ≡ before ++ x ∷ rest → mark_of x ≡ Some m → Contains a.ps q → mark_of q ≡ Some n →
     n.slot ≡ m.slot → number_of n.found < number_of m.found → Contains before q

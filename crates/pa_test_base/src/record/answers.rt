@@ -1,5 +1,5 @@
-use pa_machine::{SlotName, Word};
 use pa_record::{Answer, Entry, Seen, push_entry};
+use pa_slot::{SlotName, Word};
 use pa_text::Text;
 use std::test::Fail;
 

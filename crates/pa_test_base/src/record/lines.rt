@@ -1,13 +1,13 @@
 use super::{give, name, nothing, one, take, tally, with};
-use pa_machine::SlotName;
 use pa_record::{
     CellEntry, Held, History, Journal, Numbered, ReportLine, RootAct, RootEntry, Run, push_cells,
     run_fits, write_run,
 };
+use pa_slot::SlotName;
 use pa_text::Text;
 use std::test::Fail;
 
-// A direct map is made, goes back, and is made again; there is no room for a second one.
+// A direct map is made, goes back, and is made again, and there is no room for a second one.
 #[test]
 fn direct_maps_are_printed(rt: HostRuntime) -> Result<(), Fail> {
     let map = |line: u32, born: u32| RootEntry {

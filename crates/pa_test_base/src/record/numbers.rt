@@ -1,10 +1,10 @@
 use super::{fill, give, one, take, with};
 use pa_buckets::Class;
-use pa_machine::SlotName;
 use pa_record::{
     CellEntry, Held, Numbered, PoolEntry, RootAct, RootEntry, cell_numbers, pool_numbers,
     root_numbers,
 };
+use pa_slot::SlotName;
 
 // Whether these are the numbers of an entry of a root.
 fn root_tells(entry: &RootEntry, due: &[u64]) -> bool {

@@ -1,4 +1,5 @@
 use Rattle.std.proofs.Common.{ℕ, List, Option, Some, None, subst}
+use Rattle.pa_slot.proofs.Outcomes.{any_err}
 use Rattle.pa_record.specs.declared.pool.PoolEntry.{PoolEntry}
 use Rattle.pa_record.specs.declared.root.RootEntry.{RootEntry}
 use Rattle.pa_rules.specs.declared.played.Played.{Played}
@@ -38,3 +39,10 @@ returns-in-None-first-clause-place c =
     entries_all t.partitions c.args.records.now r.pool.items (journal_at r.roots.items)
     (subst (λ rs. Refusals t.partitions c.args.records.now r.pool.items rs None) c.roots.ensures.roots (c.in-None.ensures t.partitions r.pool.items))
     (subst (Entries t.partitions c.args.records.now r.pool.items r.roots.items) c.in-None-first.is c.in_ok-first-in-None.ensures.entry)
+
+pub returns-in_err-first-in-None-clause-asks : goal.returns-in_err-first-in-None-clause-asks
+returns-in_err-first-in-None-clause-asks c =
+    let t = c.args.trace.now in
+    let r = c.args.run.now in
+    any_err c.from_residual.result _
+    (subst (λ rs. Refusals t.partitions c.args.records.now r.pool.items rs None) c.roots.ensures.roots (c.in-None.ensures t.partitions r.pool.items))

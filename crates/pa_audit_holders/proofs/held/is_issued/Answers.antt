@@ -1,6 +1,6 @@
 use Rattle.std.proofs.Common.{◌≡◌, ◌↔◌, subst}
-use Rattle.pa_machine.specs.declared.word.SlotName.{SlotName}
-use Rattle.pa_machine.specs.Count.{number_of}
+use Rattle.pa_slot.specs.declared.word.SlotName.{SlotName}
+use Rattle.pa_slot.specs.Count.{number_of}
 use Rattle.pa_rules.specs.Roots.{journal_at}
 use Rattle.pa_rules.specs.Holders.{IsHeld, WithThread}
 use Rattle.pa_audit_holders.specs.declared.owners.Owner.TheVariants.{Thread}

@@ -1,6 +1,6 @@
 use Rattle.std.proofs.Common.{List, sym, subst, take}
 use Rattle.pa_audit_records.specs.ByKeys.{value_at}
-use Rattle.pa_machine.specs.declared.word.SlotName.{SlotName}
+use Rattle.pa_slot.specs.declared.word.SlotName.{SlotName}
 use Rattle.pa_record.specs.Root.{names}
 use Rattle.pa_audit_holders.specs.Homes.{EntersSlots}
 use Rattle.pa_audit_holders.proofs.Housing.{enters_more, names_more, slot_among}

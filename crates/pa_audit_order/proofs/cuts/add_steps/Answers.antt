@@ -1,11 +1,11 @@
 use Rattle.std.proofs.Common.{ℕ, ◌<◌, List, length, get_or, None, sym, subst, arith}
 use Rattle.std.specs.Prelude.{Contains}
 use Rattle.std.proofs.lemmas.List.Elements.{Contains-append_left}
-use Rattle.pa_machine.proofs.Outcomes.{any_err}
+use Rattle.pa_slot.proofs.Outcomes.{any_err}
 use Rattle.pa_rules.specs.Cells.{history_at}
-use Rattle.pa_audit_records.proofs.Walking.{here_is}
 use Rattle.pa_audit_order.proofs.Advancing.{steps_added}
 use Rattle.pa_audit_order.proofs.cuts.add_steps.Goals as goal
+use Rattle.pa_lists.proofs.Indexed.{here_is}
 
 pub returns-clause-adds : goal.returns-clause-adds
 returns-clause-adds c =

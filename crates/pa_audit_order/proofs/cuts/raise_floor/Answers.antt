@@ -1,5 +1,5 @@
 use Rattle.std.proofs.Common.{◌+◌, sym, subst}
-use Rattle.pa_machine.proofs.Outcomes.{any_err}
+use Rattle.pa_slot.proofs.Outcomes.{any_err}
 use Rattle.pa_audit_order.specs.Steps.{Adds}
 use Rattle.pa_audit_order.proofs.Advancing.{adds_none, adds_one, adds_past, adds_stop}
 use Rattle.pa_audit_order.proofs.cuts.raise_floor.Goals as goal

@@ -1,7 +1,7 @@
 use Rattle.std.proofs.Common.{◌+◌, ap, sym, ◌∙◌, subst}
 use Rattle.std.specs.Ordering.{nat_cmp}
 use Rattle.std.specs.BTreeMap.{get}
-use Rattle.pa_machine.specs.Count.{number_of}
+use Rattle.pa_slot.specs.Count.{number_of}
 use Rattle.pa_audit_records.specs.Keys.{word_key}
 use Rattle.pa_audit_records.specs.Marks.{IsSized}
 use Rattle.pa_audit_records.specs.Tables.{Puts}

@@ -1,7 +1,7 @@
 use Rattle.std.proofs.Common.{◌≡◌, Some, ap, sym, ◌∙◌}
 use Rattle.pa_audit_records.specs.ByKeys.{value_at}
-use Rattle.pa_machine.specs.declared.word.Step.{Step}
-use Rattle.pa_machine.specs.Run.{Mark, IsFirstAt}
+use Rattle.pa_slot.specs.declared.word.Step.{Step}
+use Rattle.pa_slot.specs.Run.{Mark, IsFirstAt}
 use Rattle.pa_rules.specs.Played.{marks_of}
 use Rattle.pa_audit_records.specs.Keys.{word_key}
 use Rattle.pa_audit_records.proofs.Stepping.{first_told, first_made, first_marked, first_none, firsts_within}

@@ -1,6 +1,6 @@
 use Rattle.std.proofs.Common.{◌-◌}
 use Rattle.pa_audit_records.specs.ByKeys.{value_at}
-use Rattle.pa_machine.specs.Count.{number_of}
+use Rattle.pa_slot.specs.Count.{number_of}
 use Rattle.pa_audit_records.proofs.Stepping.{IsReaching}
 use Rattle.pa_audit_records.proofs.steps.reach.Given as goal
 

@@ -1,6 +1,6 @@
 use Rattle.std.proofs.Common.{◌-◌, ◌<◌, ◌∙◌, length, drop, get_or, sym, subst, arith}
-use Rattle.pa_machine.specs.declared.title.Title.{Title}
-use Rattle.pa_machine.specs.Links.{link_to}
+use Rattle.pa_slot.specs.declared.title.Title.{Title}
+use Rattle.pa_slot.specs.Links.{link_to}
 use Rattle.pa_region.specs.declared.view.View.{View}
 use Rattle.pa_link.specs.Chains.{IsChain, Relinked, SameBeside}
 use Rattle.pa_link.proofs.Gaps.{free_same, relinked_once, relinked_more, beside_once}

@@ -4,12 +4,12 @@ use Rattle.std.specs.List.{filter, sum_by}
 use Rattle.std.proofs.Common.{inl, inr}
 use Rattle.std.proofs.lemmas.Bool.{and_parts}
 use Rattle.std.proofs.lemmas.List.Sums.{sum_by-cons}
-use Rattle.pa_machine.specs.declared.title.Title.{Title}
-use Rattle.pa_machine.specs.declared.title.OwnState.{OwnState}
-use Rattle.pa_machine.specs.declared.title.OwnState.TheVariants.{Clean}
-use Rattle.pa_machine.specs.Titles.{same_title, same_state}
-use Rattle.pa_machine.specs.Holdings.{one}
-use Rattle.pa_machine.proofs.Same.{title_tells, state_tells}
+use Rattle.pa_slot.specs.declared.title.Title.{Title}
+use Rattle.pa_slot.specs.declared.title.OwnState.{OwnState}
+use Rattle.pa_slot.specs.declared.title.OwnState.TheVariants.{Clean}
+use Rattle.pa_slot.specs.Titles.{same_title, same_state}
+use Rattle.pa_slot.specs.Holdings.{one}
+use Rattle.pa_slot.proofs.Same.{state_tells}
 use Rattle.pa_region.specs.declared.view.OwnTitle.{OwnTitle}
 use Rattle.pa_region.specs.declared.view.Stake.{Stake}
 use Rattle.pa_region.specs.Views.{least_stake}
@@ -17,6 +17,7 @@ use Rattle.pa_region.specs.Moves.{without, is_title_of}
 use Rattle.pa_region.specs.Waiting.{is_unclean}
 use Rattle.pa_region.specs.Hands.{is_clean_of}
 use Rattle.pa_region.specs.Marks.{marked_stake}
+use Rattle.pa_region.proofs.Pieces.{found_title}
 use Rattle.pa_cells.proofs.laws.givers_lack_handles.Goals as goal
 
 -- a sum without the first member that passes a test, if the amount of each that passes is the same
@@ -33,17 +34,14 @@ sum_without {A} test f amount (x ∷ xs) is there =
         let both : sum_by f (x ∷ without test xs) + amount ≡ f x + sum_by f xs = omega arith in
         both
 
--- each Own that passes is of the title, and clean
-title_is : (t u : Title) → same_title u t ≡ true → u ≡ t
-title_is t u e = elim (title_tells u t) [ inl y ↦ y.1 | inr n ↦ cc ]
-
 state_is : (a b : OwnState) → same_state a b ≡ true → a ≡ b
 state_is a b e = elim (state_tells a b) [ inl y ↦ y.1 | inr n ↦ cc ]
 
+-- each Own that passes is of the title, and clean
 own_is : (t : Title) (o : OwnTitle) → is_clean_of t o ≡ true → (o.title ≡ t) × (o.state ≡ Clean)
 own_is t o e =
     let both = and_parts (same_title o.title t) (same_state o.state Clean) e in (
-      title_is t o.title both.0,
+      found_title t o.title both.0,
       state_is o.state Clean both.1,
     )
 
@@ -65,7 +63,7 @@ returns c true t budget v holds = record {
 }
 returns c false t budget v holds = record {
   owns = λ u. omega arith;
-  refs = λ u. sum_without (is_title_of t) (λ (w : Title). one (same_title w u)) (one (same_title t u)) v.refs (λ w is. ap (λ (x : Title). one (same_title x u)) (title_is t w is)) holds;
+  refs = λ u. sum_without (is_title_of t) (λ (w : Title). one (same_title w u)) (one (same_title t u)) v.refs (λ w is. ap (λ (x : Title). one (same_title x u)) (found_title t w is)) holds;
   frees = λ u. refl;
   stakes = all_stay v.stakes;
   lends = λ can. (subst (λ (ss : List Stake). least_stake ss < 16) (sym (all_stay v.stakes)) can.0, can.1);

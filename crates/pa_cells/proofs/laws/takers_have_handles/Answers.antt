@@ -1,24 +1,14 @@
-use Rattle.std.proofs.Common.{◌≤◌, List, [], ◌∷◌, ◌++◌, arith}
+use Rattle.std.proofs.Common.{arith}
 use Rattle.std.proofs.lemmas.List.Sums.{sum_by-append}
 use Rattle.std.specs.Prelude.{◌==◌}
-use Rattle.pa_machine.specs.declared.title.Title.{Title}
-use Rattle.pa_machine.specs.Titles.{same_title}
-use Rattle.pa_machine.specs.Holdings.{one}
+use Rattle.pa_slot.specs.declared.title.Title.{Title}
+use Rattle.pa_slot.specs.Titles.{same_title}
+use Rattle.pa_slot.specs.Holdings.{one}
 use Rattle.pa_region.specs.declared.view.OwnTitle.{OwnTitle}
 use Rattle.pa_region.specs.declared.view.Stake.{Stake}
-use Rattle.pa_region.specs.Views.{least_stake}
 use Rattle.pa_region.specs.Waiting.{is_unclean}
+use Rattle.pa_region.proofs.JoinStep.{least_both}
 use Rattle.pa_cells.proofs.laws.takers_have_handles.Goals as goal
-
--- a least stake is at most 16
-least_small : (stakes : List Stake) → least_stake stakes ≤ 16
-least_small [] = omega arith
-least_small (s ∷ stakes) = let n = least_small stakes in omega arith
-
--- more stakes have a least one that isn't greater
-least_among : (stakes others : List Stake) → least_stake (stakes ++ others) ≤ least_stake stakes
-least_among [] others = least_small others
-least_among (s ∷ stakes) others = let n = least_among stakes others in omega arith
 
 pub returns : goal.returns
 returns c p v is aware =
@@ -29,7 +19,7 @@ returns c p v is aware =
       frees = λ t. let e = is.frees t in omega (arith, sum_by-append (λ (u : Title). one (same_title u t)) v.frees w.frees);
       stakes = λ k. let e = is.stakes k in omega (arith, sum_by-append (λ (s : Stake). one (s.number == k)) v.stakes w.stakes);
       lends = λ can. (
-        (let has = can.0 in let n = least_among v.stakes w.stakes in omega arith),
+        (let has = can.0 in let n = least_both v.stakes w.stakes in omega arith),
         (let here = can.1 in let there = is.clean in omega (arith, sum_by-append (λ (o : OwnTitle). one (is_unclean o.state)) v.owns w.owns)),
       );
       made = c.slots_stay_seen.ensures p.handle w _ is.made (c.beginnings_join.ensures v w p.handle.partition aware).1;

@@ -1,4 +1,4 @@
-use Rattle.pa_machine.proofs.Outcomes.{any_err, on_err}
+use Rattle.pa_slot.proofs.Outcomes.{any_err, on_err}
 use Rattle.pa_cli.proofs.Written.{first_written, rest_written}
 use Rattle.pa_cli.proofs.output.write_printed.Goals as goal
 

@@ -1,6 +1,6 @@
 use Rattle.std.proofs.Common.{◌≡◌, take}
 use Rattle.pa_dense.proofs.journal.journals_of.Given as goal
 
--- those so far
+-- the journals so far are the first ones of all
 abbrev pub invariant-loop-journal : goal.invariant-loop-journal
 invariant-loop-journal l = l.journals.items ≡ take l.journal-index l.dense

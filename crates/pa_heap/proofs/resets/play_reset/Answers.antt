@@ -1,5 +1,5 @@
 use Rattle.std.proofs.Common.{◌∙◌, sym, ap}
-use Rattle.pa_machine.proofs.Outcomes.{any_err}
+use Rattle.pa_slot.proofs.Outcomes.{any_err}
 use Rattle.pa_rules.specs.Nexts.{reset_next}
 use Rattle.pa_rules.proofs.Nexts.{reset_steps}
 use Rattle.pa_op_specs.specs.Stocks.{StockRegister}

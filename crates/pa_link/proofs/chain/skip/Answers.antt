@@ -1,6 +1,6 @@
 use Rattle.std.proofs.Common.{◌≡◌, ◌++◌, ◌∙◌, List, ap, subst, arith}
 use Rattle.std.specs.Option.{option_to_list}
-use Rattle.pa_machine.specs.declared.title.Title.{Title}
+use Rattle.pa_slot.specs.declared.title.Title.{Title}
 use Rattle.pa_region.specs.declared.view.View.{View}
 use Rattle.pa_region.specs.Shares.{Share}
 use Rattle.pa_link.specs.Chains.{IsChain}

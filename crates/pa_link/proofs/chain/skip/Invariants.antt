@@ -1,9 +1,9 @@
 use Rattle.std.proofs.Common.{◌≡◌, ◌+◌, List}
-use Rattle.pa_machine.specs.declared.title.Title.{Title}
+use Rattle.pa_slot.specs.declared.title.Title.{Title}
 use Rattle.pa_link.specs.Chains.{IsChain, IsSkipped}
 use Rattle.pa_link.proofs.chain.skip.Given as goal
 
--- so many titles came off the front
+-- `done` titles came off the front
 abbrev pub invariant-loop-done : goal.invariant-loop-done
 invariant-loop-done l = record {
   seat : l.seat ≡ l.initial.seat;

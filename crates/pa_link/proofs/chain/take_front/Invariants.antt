@@ -1,10 +1,10 @@
 use Rattle.std.proofs.Common.{◌≡◌, ◌≤◌, List, length}
-use Rattle.pa_machine.specs.declared.title.Title.{Title}
+use Rattle.pa_slot.specs.declared.title.Title.{Title}
 use Rattle.pa_link.specs.Chains.{IsChain}
 use Rattle.pa_link.proofs.Gaps.{AreTaken}
 use Rattle.pa_link.proofs.chain.take_front.Given as goal
 
--- so many titles came off the front, if there were as many
+-- `taken` titles came off the front, if there were as many
 abbrev pub invariant-loop-taken : goal.invariant-loop-taken
 invariant-loop-taken l = record {
   seat : l.seat ≡ l.initial.seat;

@@ -1,6 +1,6 @@
 use Rattle.std.proofs.Common.{ap, sym, ◌∙◌, arith}
 use Rattle.std.specs.Int.{swap_bytes, w64}
-use Rattle.pa_machine.specs.Links.{link_number, link_to}
+use Rattle.pa_slot.specs.Links.{link_number, link_to}
 use Rattle.pa_link.proofs.link.link_of.Goals as goal
 
 pub returns-in-Some : goal.returns-in-Some

@@ -2,7 +2,7 @@ use Rattle.std.proofs.Common.{◌≡◌, ◌∙◌, refl, None, subst}
 use Rattle.std.proofs.lemmas.List.{get_or_default}
 use Rattle.pa_machine.specs.declared.slot.Slot.{Slot}
 use Rattle.pa_machine.specs.Tables.{IsSlotStepped, IsSameSlot}
-use Rattle.pa_machine.proofs.Outcomes.{on_ok, on_err}
+use Rattle.pa_slot.proofs.Outcomes.{on_ok, on_err}
 use Rattle.pa_machine.proofs.changes.step_at.Goals as goal
 
 pub returns-in-Some-clause-ok : goal.returns-in-Some-clause-ok

@@ -1,7 +1,7 @@
 use Rattle.std.proofs.Common.{◌≡◌, ◌+◌, ◌<◌, sym, ap, get_or, take, Err, subst}
 use Rattle.std.proofs.lemmas.List.{take_more}
 use Rattle.std.proofs.lemmas.Option.{slice_get-get_or}
-use Rattle.pa_machine.specs.declared.word.Step.TheVariants.{Issue}
+use Rattle.pa_slot.specs.declared.word.Step.TheVariants.{Issue}
 use Rattle.pa_machine.specs.declared.event.Event.{Event}
 use Rattle.pa_machine.specs.declared.event.Event.TheVariants.{Count}
 use Rattle.pa_machine.specs.Events.{State}
@@ -20,7 +20,8 @@ pub returns-in-Err-clause-refused : goal.returns-in-Err-clause-refused
 returns-in-Err-clause-refused c =
     let same = c.in-Err.ensures.same in
     let event = get_or c.args.events.now c.loop-index.index no_event in
-    let why = refused_at c.in-Err.fault event c.loop-index.core (λ e. c.in-Err.ensures.refused (ap Err e)) (λ e. c.in-Err.ensures.enabled (ap Err e)) in (
+    let why = refused_at c.in-Err.fault event c.loop-index.core (λ e. c.in-Err.ensures.refused (ap Err e)) (λ e. c.in-Err.ensures.enabled (ap Err e))
+    (λ e. c.in-Err.ensures.asks (ap Err e)) in (
       c.loop-index-test.true,
       subst (λ (s : State). IsRunTo c.args.core.now (take c.loop-index.index c.args.events.now) s) (sym same) c.loop-index.invariant.0,
       rw (slice_get-get_or c.args.events.now c.loop-index.index no_event c.loop-index-test.true, same) why,

@@ -1,10 +1,9 @@
 use Rattle.std.proofs.Common.{◌≡◌, ◌+◌, ◌-◌, ◌/◌, ◌<◌, length, arith, Some}
 use Rattle.std.specs.Prelude.{slice_get, slice_index_or}
 use Rattle.std.proofs.lemmas.Option.{slice_get-get_or}
-use Rattle.pa_place.proofs.Placing.{there}
 use Rattle.pa_place.proofs.Turns.{turns_below, turns_above}
 use Rattle.pa_place.proofs.lists.count_before.Goals as goal
-use Rattle.pa_lists.proofs.Indexed.{at_in}
+use Rattle.pa_lists.proofs.Indexed.{at_in, element_at}
 
 pub turn_at-requires : goal.turn_at-requires
 turn_at-requires c =
@@ -26,7 +25,7 @@ search-preserved-then-turn_at-turn c =
     let within : m < length ids = omega arith in
     let i = slice_index_or ids m 0 in
     let here : slice_get ids m ≡ Some i = slice_get-get_or ids m 0 within in
-    let (v, e) = there ss i (c.requires.order.within i (at_in ids m i here)) in
+    let (v, e) = element_at ss i (c.requires.order.within i (at_in ids m i here)) in
     let turn = c.turn_at.ensures v e in
     let less = c.if-turn_at-turn.true in
     record {
@@ -47,7 +46,7 @@ search-preserved c =
     let within : m < length ids = omega arith in
     let i = slice_index_or ids m 0 in
     let here : slice_get ids m ≡ Some i = slice_get-get_or ids m 0 within in
-    let (v, e) = there ss i (c.requires.order.within i (at_in ids m i here)) in
+    let (v, e) = element_at ss i (c.requires.order.within i (at_in ids m i here)) in
     let turn = c.turn_at.ensures v e in
     let more' = c.if-turn_at-turn.false in
     record {

@@ -1,8 +1,8 @@
 use Rattle.std.proofs.Common.{◌<◌, length, refl, sym, ◌∙◌, ap, arith, Some}
 use Rattle.std.proofs.lemmas.Option.{slice_get_read, slice_get_within}
 use Rattle.pa_lists.proofs.Members.{of_some}
+use Rattle.pa_lists.proofs.Indexed.{element_at}
 use Rattle.pa_place.specs.Listing.{IsTurnCut}
-use Rattle.pa_place.proofs.Placing.{there}
 use Rattle.pa_place.proofs.Turns.{removed_cut, none_at_cut}
 use Rattle.pa_place.proofs.lists.remove_index.Goals as goal
 use Rattle.pa_place.proofs.lists.remove_index.Goals.{else-place-len-via-then-place-len+else-index-at, else-place-len-via-else-place-len}
@@ -25,7 +25,7 @@ returns-else-place-len-clause-removed c =
     let count = c.count_before-place.result in
     let same = rw c.deref.ensures.value at c.deref.ensures.len in
     let len = c.len.ensures in
-    let (s, e) = there ss c.args.at c.requires.there in
+    let (s, e) = element_at ss c.args.at c.requires.there in
     let cut : IsTurnCut ss s.turn ids count = rw (sym (c.turn_at.ensures s e)) (rw c.deref.ensures.value at c.count_before-place.ensures.cut) in
     none_at_cut ss ids c.args.at count s c.requires.order cut e (λ here. elim c.else-place-len.branch [
       | else-place-len-via-then-place-len+else-index-at w ↦

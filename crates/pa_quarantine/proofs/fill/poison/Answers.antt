@@ -1,5 +1,5 @@
 use Rattle.std.proofs.Common.{◌∙◌, refl, sym, subst, arith}
-use Rattle.pa_machine.specs.declared.word.Step.TheVariants.{Free}
+use Rattle.pa_slot.specs.declared.word.Step.TheVariants.{Free}
 use Rattle.pa_region.specs.declared.view.View.{View}
 use Rattle.pa_region.specs.Moves.{HasHandle}
 use Rattle.pa_quarantine.proofs.Filling.{open_own, poison_can, poison_more, poison_end, poison_ready}

@@ -1,5 +1,5 @@
 use Rattle.std.proofs.Common.{◌≡◌, ◌+◌, ◌*◌, ◌∙◌, refl, ap, subst, arith}
-use Rattle.pa_machine.specs.declared.word.Step.TheVariants.{Write}
+use Rattle.pa_slot.specs.declared.word.Step.TheVariants.{Write}
 use Rattle.pa_region.specs.Shares.{Share, IsStepMade, byte_word_count}
 use Rattle.pa_quarantine.specs.Filling.{filled_share}
 use Rattle.pa_quarantine.proofs.Filling.{open_own}

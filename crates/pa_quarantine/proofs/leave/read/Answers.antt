@@ -1,5 +1,5 @@
 use Rattle.std.proofs.Common.{◌∙◌, ap, arith, inr}
-use Rattle.pa_machine.specs.Titles.{content_at}
+use Rattle.pa_slot.specs.Titles.{content_at}
 use Rattle.pa_region.specs.declared.view.View.{View}
 use Rattle.pa_region.specs.Shares.{byte_word_count}
 use Rattle.pa_region.specs.Loads.{after_read}

@@ -1,4 +1,4 @@
-use Rattle.pa_machine.specs.Titles.{poison}
+use Rattle.pa_slot.specs.Titles.{poison}
 use Rattle.pa_region.proofs.Awareness.{tells_aware}
 use Rattle.pa_region.proofs.rule.poison_as.Goals as goal
 

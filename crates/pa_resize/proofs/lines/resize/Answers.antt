@@ -1,6 +1,6 @@
 use Rattle.std.proofs.Common.{◌≡◌, ◌∙◌, refl, sym, subst, arith}
 use Rattle.std.proofs.lemmas.Bool.{false≢true}
-use Rattle.pa_machine.specs.Count.{refs_of}
+use Rattle.pa_slot.specs.Count.{refs_of}
 use Rattle.pa_model.specs.Player.{Owns}
 use Rattle.pa_resize.proofs.Steps.{resizes_not, resizes_shared, resizes_large, resizes_kept, resizes_no_room, resizes_moved}
 use Rattle.pa_resize.proofs.lines.resize.Goals as goal

@@ -1,5 +1,5 @@
 use Rattle.std.proofs.Common.{◌≡◌, ◌∙◌, ◌+◌, ◌-◌, suc, List, length, refl, sym, ap, subst, arith}
-use Rattle.pa_machine.specs.declared.title.Title.{Title}
+use Rattle.pa_slot.specs.declared.title.Title.{Title}
 use Rattle.pa_root.specs.Taking.{IsOneTaken}
 use Rattle.pa_root.proofs.SlotsTaken.{IsUnderWay, at_start, one_turn, next_able, none_left, all_taken, one_on}
 use Rattle.pa_root.proofs.takes.take_slots.Goals as goal

@@ -1,7 +1,7 @@
 use Rattle.std.proofs.Common.{◌≡◌, ◌∷◌, ◌∙◌, List, length, sym, subst, ap, arith}
 use Rattle.std.specs.Prelude.{IsNone}
-use Rattle.pa_machine.specs.declared.title.Title.{Title}
-use Rattle.pa_machine.specs.Links.{front_of}
+use Rattle.pa_slot.specs.declared.title.Title.{Title}
+use Rattle.pa_slot.specs.Links.{front_of}
 use Rattle.pa_link.specs.declared.chain.ChainParts.{ChainParts}
 use Rattle.pa_link.specs.Chains.{slot_names, IsChain}
 use Rattle.pa_shelf.specs.Moving.{parts_of_record}

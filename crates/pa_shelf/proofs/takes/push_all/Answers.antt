@@ -1,5 +1,5 @@
 use Rattle.std.proofs.Common.{◌≡◌, ◌∙◌, ◌+◌, ◌-◌, refl, subst, arith}
-use Rattle.pa_machine.specs.Links.{link_to}
+use Rattle.pa_slot.specs.Links.{link_to}
 use Rattle.pa_link.proofs.Gaps.{free_same}
 use Rattle.pa_shelf.specs.Taking.{slot_beside, slots_beside}
 use Rattle.pa_shelf.proofs.Pushing.{ArePushed, none_pushed, not_beside, pushed_one, all_pushed}

@@ -1,7 +1,7 @@
 use Rattle.std.proofs.Common.{◌≡◌, Some, take}
 use Rattle.std.specs.Prelude.{Contains}
 use Rattle.pa_audit_records.specs.ByKeys.{value_at}
-use Rattle.pa_machine.specs.declared.word.SlotName.{SlotName}
+use Rattle.pa_slot.specs.declared.word.SlotName.{SlotName}
 use Rattle.pa_record.specs.Root.{names}
 use Rattle.pa_audit_records.specs.Keys.{name_key}
 use Rattle.pa_test_audit.proofs.caches.are_slots_homed.Given as goal

@@ -1,7 +1,7 @@
 use Rattle.std.proofs.Common.{◌<◌, ◌∷◌, ◌∙◌, List, ap, sym, subst, arith}
 use Rattle.std.specs.Prelude.{Contains}
-use Rattle.pa_machine.specs.declared.title.Title.{Title}
-use Rattle.pa_machine.specs.Links.{link_to}
+use Rattle.pa_slot.specs.declared.title.Title.{Title}
+use Rattle.pa_slot.specs.Links.{link_to}
 use Rattle.pa_region.specs.Views.{free_of}
 use Rattle.pa_link.specs.Chains.{IsChain, after_link}
 use Rattle.pa_test_region.proofs.ChainRows.{row_pushed}

@@ -1,7 +1,7 @@
 use Rattle.std.proofs.Common.{List, [], ◌∙◌, sym, subst, ap}
 use Rattle.std.specs.Prelude.{◌<◌}
 use Rattle.std.proofs.lemmas.List.Elements.{All-contains}
-use Rattle.pa_machine.specs.declared.title.Title.{Title}
+use Rattle.pa_slot.specs.declared.title.Title.{Title}
 use Rattle.pa_machine.specs.declared.event.Item.{Item}
 use Rattle.pa_region.specs.Views.{free_of}
 use Rattle.pa_region.specs.Hands.{CanHand, left_after, given_after}

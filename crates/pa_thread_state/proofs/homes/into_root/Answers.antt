@@ -1,6 +1,6 @@
 use Rattle.std.proofs.Common.{ℕ, List, [], ◌∷◌, ◌++◌, length, rules, arith, sym, ◌∙◌, ap, subst}
 use Rattle.std.specs.Prelude.{◌≢◌, AllPairs, Contains}
-use Rattle.pa_machine.specs.declared.title.Title.{Title}
+use Rattle.pa_slot.specs.declared.title.Title.{Title}
 use Rattle.pa_root.specs.Handing.{HasOnly, HasSeenFill, HasSeenMap}
 use Rattle.pa_thread_state.proofs.Homing.{alone, in_alone, seen_fill, seen_map}
 use Rattle.pa_thread_state.proofs.homes.into_root.Goals as goal

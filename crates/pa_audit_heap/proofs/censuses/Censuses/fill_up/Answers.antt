@@ -1,5 +1,5 @@
 use Rattle.std.proofs.Common.{ℕ, ◌<◌, List, sym, subst}
-use Rattle.pa_machine.proofs.Outcomes.{any_err}
+use Rattle.pa_slot.proofs.Outcomes.{any_err}
 use Rattle.pa_record.specs.Census.{census}
 use Rattle.pa_record.specs.declared.census.Census.{Census}
 use Rattle.pa_audit_heap.specs.Walking.{AreFilledUp}

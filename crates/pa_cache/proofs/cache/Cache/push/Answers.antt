@@ -1,6 +1,6 @@
 use Rattle.std.proofs.Common.{◌≤◌, refl, sym, subst, ap, length}
 use Rattle.std.specs.Prelude.{Contains}
-use Rattle.pa_machine.specs.Links.{link_to}
+use Rattle.pa_slot.specs.Links.{link_to}
 use Rattle.pa_buckets.specs.Bands.{limit_of}
 use Rattle.pa_cache.specs.Chained.{CacheParts, HoldsList, list_in}
 use Rattle.pa_cache.proofs.Calls.{IsPushed, pushed}

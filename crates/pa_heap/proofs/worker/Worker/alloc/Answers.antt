@@ -1,6 +1,6 @@
 use Rattle.std.proofs.Common.{◌≡◌, ◌+◌, List, [], ◌∷◌, length, ◌∙◌, refl, sym, ap, subst, arith}
 use Rattle.std.proofs.lemmas.List.{length-append}
-use Rattle.pa_machine.specs.declared.word.Step.TheVariants as steps
+use Rattle.pa_slot.specs.declared.word.Step.TheVariants as steps
 use Rattle.pa_trace.specs.declared.script.Op.TheVariants as ops
 use Rattle.pa_op_specs.specs.Counts.{AreOfSteps, IsOwedBySteps, counts_after, owed_after, owned_in, made_seen}
 use Rattle.pa_op_specs.specs.Stocks.{StockValue, register_in}

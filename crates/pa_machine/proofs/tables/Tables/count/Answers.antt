@@ -1,9 +1,9 @@
 use Rattle.std.proofs.Common.{◌≡◌, ◌/◌, ◌∙◌, refl, ap}
 use Rattle.std.specs.Vec.{with_item, with_items}
 use Rattle.pa_machine.specs.declared.tables.Tables.{Tables}
-use Rattle.pa_machine.specs.Count.{stepped}
+use Rattle.pa_slot.specs.Count.{stepped}
 use Rattle.pa_machine.specs.Tables.{IsSlotStepped, IsSameSlot}
-use Rattle.pa_machine.proofs.Outcomes.{any_err}
+use Rattle.pa_slot.proofs.Outcomes.{any_err}
 use Rattle.pa_machine.proofs.Enabling.{well_counted}
 use Rattle.pa_machine.proofs.Rows.{back_after, count_row, same_row, count_entry, changed_row, kept_items}
 use Rattle.pa_machine.proofs.tables.Tables.count.Goals as goal

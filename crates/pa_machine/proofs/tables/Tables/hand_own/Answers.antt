@@ -1,6 +1,6 @@
 use Rattle.std.proofs.Common.{◌≡◌, ◌∙◌, ◌+◌, ◌/◌, ◌<◌, ◌≤◌, ℕ, refl, ap, Some, arith, length}
 use Rattle.std.specs.Vec.{with_items}
-use Rattle.pa_machine.specs.declared.title.OwnState.TheVariants.{Clean}
+use Rattle.pa_slot.specs.declared.title.OwnState.TheVariants.{Clean}
 use Rattle.pa_machine.specs.declared.tables.Tables.{Tables}
 use Rattle.pa_machine.specs.Tables.{IsNextSlot}
 use Rattle.pa_machine.proofs.Enabling.{actor_is, well_own}

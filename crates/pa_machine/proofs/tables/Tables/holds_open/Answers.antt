@@ -1,5 +1,5 @@
 use Rattle.std.proofs.Common.{refl, inl, inr}
-use Rattle.pa_machine.specs.declared.title.OwnState.TheVariants.{Dirty}
+use Rattle.pa_slot.specs.declared.title.OwnState.TheVariants.{Dirty}
 use Rattle.pa_machine.proofs.Enabling.{open_either}
 use Rattle.pa_machine.proofs.tables.Tables.holds_open.Goals as goal
 

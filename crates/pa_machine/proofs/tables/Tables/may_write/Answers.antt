@@ -1,6 +1,6 @@
 use Rattle.std.proofs.Common.{◌≡◌, refl, subst}
 use Rattle.pa_machine.specs.declared.slot.Slot.{Slot}
-use Rattle.pa_machine.specs.Titles.{IsContentOf}
+use Rattle.pa_slot.specs.Titles.{IsContentOf}
 use Rattle.pa_machine.specs.Tables.{MayChange, state_of}
 use Rattle.pa_machine.proofs.Enabling.{actor_is, write_over, change_writes}
 use Rattle.pa_machine.proofs.tables.Tables.may_write.Goals as goal

@@ -1,5 +1,5 @@
 use Rattle.std.proofs.Common.{◌≡◌, sym}
-use Rattle.pa_machine.proofs.Outcomes.{if_some}
+use Rattle.pa_slot.proofs.Outcomes.{if_some}
 use Rattle.pa_machine.proofs.tables.Tables.own_over.Goals as goal
 
 pub returns-in-Some-clause-some : goal.returns-in-Some-clause-some

@@ -1,8 +1,8 @@
 use Rattle.std.proofs.Common.{◌≡◌, ◌∙◌, ◌+◌, ◌/◌, ◌<◌, ◌≤◌, ℕ, refl, ap, Some, subst, arith, length}
 use Rattle.std.specs.Vec.{with_item, with_items}
-use Rattle.pa_machine.specs.declared.title.OwnState.TheVariants.{Poisoned}
+use Rattle.pa_slot.specs.declared.title.OwnState.TheVariants.{Poisoned}
 use Rattle.pa_machine.specs.declared.tables.Tables.{Tables}
-use Rattle.pa_machine.specs.Titles.{poison}
+use Rattle.pa_slot.specs.Titles.{poison}
 use Rattle.pa_machine.specs.Tables.{IsNextSlot}
 use Rattle.pa_machine.proofs.Enabling.{actor_is, well_own}
 use Rattle.pa_machine.proofs.Reading.{reads_own}

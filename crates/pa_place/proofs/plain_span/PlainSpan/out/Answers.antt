@@ -2,8 +2,8 @@ use Rattle.std.proofs.Common.{rules, arith, ap, sym, ◌∙◌, subst}
 use Rattle.std.specs.Prelude.{Contains}
 use Rattle.std.proofs.lemmas.Bool.{both_ways}
 use Rattle.pa_buckets.specs.Table.{slots_of}
-use Rattle.pa_machine.specs.declared.title.Title.{Title}
-use Rattle.pa_machine.specs.declared.word.SlotName.{SlotName}
+use Rattle.pa_slot.specs.declared.title.Title.{Title}
+use Rattle.pa_slot.specs.declared.word.SlotName.{SlotName}
 use Rattle.pa_record.specs.Spans.{Span, title_at}
 use Rattle.pa_record.proofs.Returning.{number_is}
 use Rattle.pa_place.proofs.CameBack.{back_listed, kept_listed, listed_back}

@@ -1,6 +1,6 @@
 use Rattle.std.proofs.Common.{drop, sym, ◌∙◌, arith, get_or}
 use Rattle.std.proofs.lemmas.Option.{slice_get-get_or}
-use Rattle.pa_machine.specs.declared.title.Title.{Title}
+use Rattle.pa_slot.specs.declared.title.Title.{Title}
 use Rattle.pa_place.specs.Store.{root_of}
 use Rattle.pa_place.proofs.Giving.{IsLeftToGive, give_one, next_out}
 use Rattle.pa_place.proofs.store.Store.give_all.Goals as goal

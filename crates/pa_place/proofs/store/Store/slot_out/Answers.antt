@@ -1,7 +1,7 @@
 use Rattle.std.proofs.Common.{◌≡◌, ℕ, length, refl, sym, ◌∙◌, subst, Option, Some, None}
 use Rattle.std.specs.Prelude.{find, IfNone, IfSome}
 use Rattle.std.proofs.lemmas.Option.{slice_get_read}
-use Rattle.pa_machine.specs.declared.title.Title.{Title}
+use Rattle.pa_slot.specs.declared.title.Title.{Title}
 use Rattle.pa_record.specs.Spans.{holds, number_in}
 use Rattle.pa_record.specs.Root.{IsOutOf}
 use Rattle.pa_place.specs.Store.{root_of}

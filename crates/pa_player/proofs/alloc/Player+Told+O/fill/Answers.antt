@@ -1,5 +1,5 @@
 use Rattle.std.proofs.Common.{List, ap, ◌∙◌, subst, arith, rules}
-use Rattle.pa_machine.specs.declared.title.Title.{Title}
+use Rattle.pa_slot.specs.declared.title.Title.{Title}
 use Rattle.pa_buckets.proofs.Facts.{IsRow-of}
 use Rattle.pa_place.specs.declared.placed.Placed.{Placed}
 use Rattle.pa_player.specs.Calls.{IsFillTold}

@@ -1,5 +1,5 @@
 use Rattle.std.proofs.Common.{◌≡◌, ◌+◌, ◌∷◌, ◌++◌, [], get_or, sym, ap, ◌∙◌, subst, arith}
-use Rattle.pa_machine.specs.declared.title.Title.{Title}
+use Rattle.pa_slot.specs.declared.title.Title.{Title}
 use Rattle.pa_record.specs.declared.numbered.Numbered.{Numbered}
 use Rattle.pa_player.specs.Playing.{numbered_at}
 use Rattle.pa_player.proofs.Putting.{IsPutSo, put_more, put_end, put_one, put_is, numbered_is, drop_next}

@@ -1,5 +1,5 @@
 use Rattle.std.proofs.Common.{Some, sym, ap, ◌∙◌, subst}
-use Rattle.pa_machine.proofs.Outcomes.{any_err}
+use Rattle.pa_slot.proofs.Outcomes.{any_err}
 use Rattle.pa_trace.specs.declared.script.Line.TheVariants.{Do}
 use Rattle.pa_player.specs.Plays.{GoesTo}
 use Rattle.pa_player.specs.Told.{Lists, told_before}

@@ -1,5 +1,5 @@
 use Rattle.std.proofs.Common.{◌≡◌, ◌+◌, length, drop, sym, ap, ◌∙◌, subst, arith}
-use Rattle.pa_machine.proofs.Outcomes.{any_err}
+use Rattle.pa_slot.proofs.Outcomes.{any_err}
 use Rattle.pa_player.specs.Asks.{CanGive}
 use Rattle.pa_player.specs.Changes.{list_in, given}
 use Rattle.pa_player.specs.Playing.{list_place}

@@ -1,5 +1,5 @@
 use Rattle.std.proofs.Common.{[], sym, ap, ◌∙◌, subst, arith}
-use Rattle.pa_machine.proofs.Outcomes.{any_err}
+use Rattle.pa_slot.proofs.Outcomes.{any_err}
 use Rattle.pa_player.specs.Player.{Player}
 use Rattle.pa_player.specs.Told.{told_before}
 use Rattle.pa_player.specs.Asks.{CanGive}

@@ -1,6 +1,6 @@
 use Rattle.std.proofs.Common.{◌≡◌, length, replicate}
 use Rattle.std.specs.List.{All}
-use Rattle.pa_player.specs.declared.handle.Handle.TheVariants.{Empty}
+use Rattle.pa_rules.specs.declared.register.Register.TheVariants.{Empty}
 use Rattle.pa_player.proofs.registers.Registers.new.Given as goal
 
 -- that many threads have empty registers

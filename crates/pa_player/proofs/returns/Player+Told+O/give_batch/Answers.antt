@@ -1,7 +1,7 @@
 use Rattle.std.proofs.Common.{◌≡◌, ◌≢◌, ℕ, ◌-◌, map, set, length, drop, sym, ap, ◌∙◌, subst, arith}
 use Rattle.std.specs.Prelude.{All, AllPairs, slice_range}
 use Rattle.std.proofs.lemmas.List.{length-take, length-drop, length-map}
-use Rattle.pa_machine.specs.declared.title.Title.{Title}
+use Rattle.pa_slot.specs.declared.title.Title.{Title}
 use Rattle.pa_record.specs.declared.root.RootAct.TheVariants.{Give}
 use Rattle.pa_record.specs.Root.{IsOut, all_returned, names}
 use Rattle.pa_record.specs.Spans.{name_of}

@@ -1,6 +1,6 @@
 use Rattle.std.proofs.Common.{◌≡◌, ℕ, ◌/◌, refl, sym, ◌∙◌, ap, subst}
 use Rattle.atomic_table.specs.Seated.{TableId}
-use Rattle.pa_machine.specs.Titles.{IsWellFormed, count_word}
+use Rattle.pa_slot.specs.Titles.{IsWellFormed, count_word}
 use Rattle.pa_region.specs.declared.view.View.{View}
 use Rattle.pa_region.specs.Views.{seen_of}
 use Rattle.pa_region.specs.Shares.{Share, IsSeatSound, byte_word_count}

@@ -1,5 +1,5 @@
 use Rattle.std.proofs.Common.{sym, ◌∙◌, length, subst, arith}
-use Rattle.pa_machine.proofs.Outcomes.{any_err}
+use Rattle.pa_slot.proofs.Outcomes.{any_err}
 use Rattle.pa_execution.specs.Gathering.{IsMain}
 use Rattle.pa_runner.specs.Phases.{worker_in}
 use Rattle.pa_runner.specs.Reporting.{IsReported}

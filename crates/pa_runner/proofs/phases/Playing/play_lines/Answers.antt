@@ -25,8 +25,8 @@ loop-due-preserved g c =
 
 pub returns-in-Err : goal.returns-in-Err
 returns-in-Err g c =
-    back_stopped c.args.lines.now c.loop-due.due-index c.args.worker.now c.loop-due.worker c.play_line.new.worker c.loop-due-test.true c.loop-due.invariant.played c.in-Err.ensures.stake
-    c.in-Err.ensures.stops c.in-Err.ensures.settled c.in-Err.ensures.records
+    back_stopped c.args.lines.now c.loop-due.due-index _ c.args.worker.now c.loop-due.worker c.play_line.new.worker c.loop-due-test.true c.loop-due.invariant.played c.in-Err.ensures.stake
+    c.in-Err.ensures.stops c.in-Err.ensures.settled c.in-Err.ensures.records c.in-Err.ensures.left
 
 pub returns-then-is_empty : goal.returns-then-is_empty
 returns-then-is_empty g c =

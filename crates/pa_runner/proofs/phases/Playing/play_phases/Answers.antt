@@ -1,5 +1,5 @@
 use Rattle.std.proofs.Common.{◌≤◌, List, [], length, replicate, refl, sym, ◌∙◌, ap, subst, arith, inl, inr}
-use Rattle.pa_machine.proofs.Outcomes.{any_err}
+use Rattle.pa_slot.proofs.Outcomes.{any_err}
 use Rattle.std.proofs.lemmas.List.{with_items_is}
 use Rattle.pa_trace.specs.declared.script.Line.{Line}
 use Rattle.pa_runner.proofs.PhaseSteps.{going_start, going_as, begins_phase, line_there, line_pushed, many_here, ready_here, main_here, few_here, going_ends}

@@ -19,6 +19,6 @@ returns-in-Ok-clause-head c =
 
 pub returns-in-Err-clause-fault : goal.returns-in-Err-clause-fault
 returns-in-Err-clause-fault c =
-    subst (λ (e : TraceFault). IsScriptFault e c.args.bytes.now) (sym c.fault_at.ensures)
+    subst (λ (e : TraceFault). IsScriptFault e c.args.bytes.now) (sym c.fault_at.ensures.told)
     (head_faulty c.args.bytes.now c.in-Some.first.now c.in-Some.rest.now c.in-Some.ensures.0 c.in-Some.ensures.1 (λ h. false≢true (c.if-is_past.ensures.1 h))
     c.in-Err.fault (sym c.in-Err.ensures))

@@ -1,6 +1,6 @@
 use Rattle.std.proofs.Common.{◌≡◌, ◌∙◌, List, length, rules, ap, sym, subst}
 use Rattle.std.specs.Prelude.{Contains, sum_by}
-use Rattle.pa_machine.specs.declared.title.Title.{Title}
+use Rattle.pa_slot.specs.declared.title.Title.{Title}
 use Rattle.pa_layout.specs.Pages.{supers_for}
 use Rattle.pa_record.specs.declared.taken.SuperPage.{SuperPage}
 use Rattle.pa_record.proofs.Counted.{census_by}

@@ -1,7 +1,7 @@
 use Rattle.std.proofs.Common.{◌∙◌, ◌+◌, ◌<◌, ◌∷◌, drop, get_or, sym, subst, ap, arith}
 use Rattle.std.proofs.lemmas.List.{drop_more}
 use Rattle.pa_lists.proofs.Members.{first_in}
-use Rattle.pa_machine.specs.declared.title.Title.{Title}
+use Rattle.pa_slot.specs.declared.title.Title.{Title}
 use Rattle.pa_record.specs.Spans.{name_of}
 use Rattle.pa_record.specs.Root.{Root, returned, all_returned}
 use Rattle.pa_region.specs.Shares.{Share}

@@ -1,5 +1,5 @@
 use Rattle.std.proofs.Common.{List, sym, subst}
-use Rattle.pa_machine.specs.declared.title.Title.{Title}
+use Rattle.pa_slot.specs.declared.title.Title.{Title}
 use Rattle.pa_record.specs.Root.{mapped}
 use Rattle.pa_shelf.specs.contracts.shelf.Shelf
 use Rattle.pa_shelf.specs.Shelves.{ShelfParts, ShowsRoot}

@@ -1,6 +1,6 @@
 use Rattle.std.proofs.Common.{◌∙◌, ◌-◌, ◌∷◌, sym, subst, ap}
 use Rattle.std.specs.Prelude.{Contains}
-use Rattle.pa_machine.specs.Links.{link_to}
+use Rattle.pa_slot.specs.Links.{link_to}
 use Rattle.pa_record.specs.Spans.{Span as RootSpan}
 use Rattle.pa_record.specs.Root.{Root, entered}
 use Rattle.pa_region.specs.declared.view.View.{View}

@@ -1,6 +1,6 @@
 use Rattle.std.proofs.Common.{◌≡◌, ◌∙◌, ℕ, List, ◌∷◌, map, sym, subst, ap, arith}
 use Rattle.std.specs.Prelude.{Contains}
-use Rattle.pa_machine.specs.declared.title.Title.{Title}
+use Rattle.pa_slot.specs.declared.title.Title.{Title}
 use Rattle.pa_buckets.specs.declared.spans.State.TheVariants as state
 use Rattle.pa_record.specs.Spans.{Span as RootSpan, same_state, title_at, with_free}
 use Rattle.pa_record.specs.Root.{Root, entered, front_taken}

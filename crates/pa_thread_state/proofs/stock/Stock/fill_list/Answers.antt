@@ -1,6 +1,6 @@
 use Rattle.std.proofs.Common.{sym, subst}
 use Rattle.std.specs.Prelude.{List}
-use Rattle.pa_machine.specs.declared.title.Title.{Title}
+use Rattle.pa_slot.specs.declared.title.Title.{Title}
 use Rattle.pa_thread_state.specs.Allocating.{BecomesList, CanLoad}
 use Rattle.pa_thread_state.proofs.Allocated.{fill_can_load, fills_list}
 use Rattle.pa_thread_state.proofs.stock.Stock.fill_list.Goals as goal

@@ -1,5 +1,5 @@
 use Rattle.std.proofs.Common.{refl, inl, inr, ◌∙◌, ap}
-use Rattle.pa_machine.proofs.Outcomes.{any_err}
+use Rattle.pa_slot.proofs.Outcomes.{any_err}
 use Rattle.pa_op_specs.specs.Stocks.{StockValue}
 use Rattle.pa_thread_state.proofs.Released.{not_last, free_back, free_stake}
 use Rattle.pa_thread_state.proofs.stock.Stock.free.Goals as goal

@@ -2,8 +2,8 @@ use Rattle.std.proofs.Common.{◌≡◌, ◌/◌, ◌<◌, List, length, drop, �
 use Rattle.std.specs.Prelude.{Contains}
 use Rattle.std.proofs.lemmas.List.{length-take, length-drop}
 use Rattle.std.proofs.lemmas.List.Elements.{All-weaker, All-contains_itself}
-use Rattle.pa_machine.proofs.Outcomes.{any_err}
-use Rattle.pa_machine.specs.declared.title.Title.{Title}
+use Rattle.pa_slot.proofs.Outcomes.{any_err}
+use Rattle.pa_slot.specs.declared.title.Title.{Title}
 use Rattle.pa_region.specs.declared.view.View.{View}
 use Rattle.pa_region.specs.Views.{free_of}
 use Rattle.pa_cache.specs.Caches.{HoldsFree, batch_after}

@@ -1,5 +1,5 @@
 use Rattle.std.proofs.Common.{◌*◌, ◌+◌, ◌≤◌, length, refl, ◌∙◌, arith}
-use Rattle.pa_machine.proofs.Outcomes.{any_err}
+use Rattle.pa_slot.proofs.Outcomes.{any_err}
 use Rattle.pa_op_specs.specs.Stocks.{titles_in}
 use Rattle.pa_thread_state.proofs.Tails.{some_none, some_left, some_stake, some_thread, some_more, some_all}
 use Rattle.pa_thread_state.proofs.stock.Stock.give_tail.Goals as goal

@@ -1,7 +1,7 @@
 use Rattle.std.proofs.Common.{◌≡◌, ◌∙◌, refl, sym, subst, inl}
 use Rattle.std.specs.Prelude.{slice_set}
-use Rattle.pa_machine.specs.declared.word.Step.TheVariants.{Free}
-use Rattle.pa_machine.specs.Titles.{poison}
+use Rattle.pa_slot.specs.declared.word.Step.TheVariants.{Free}
+use Rattle.pa_slot.specs.Titles.{poison}
 use Rattle.pa_region.proofs.PoisonedOwns.{poisoned_owns_unclean}
 use Rattle.pa_quarantine.specs.Filling.{poisoned}
 use Rattle.pa_rules.specs.declared.register.Register.TheVariants.{Own, Freed}

@@ -1,7 +1,7 @@
 use Rattle.std.proofs.Common.{◌<◌, ◌-◌, ◌∙◌, refl, sym, subst, ap, arith}
 use Rattle.std.specs.Prelude.{slice_set}
-use Rattle.pa_machine.specs.declared.word.SlotName.{SlotName}
-use Rattle.pa_machine.specs.declared.word.Step.TheVariants as steps
+use Rattle.pa_slot.specs.declared.word.SlotName.{SlotName}
+use Rattle.pa_slot.specs.declared.word.Step.TheVariants as steps
 use Rattle.pa_record.specs.declared.entry.Answer.TheVariants.{Made}
 use Rattle.pa_region.specs.declared.view.View.{View}
 use Rattle.pa_region.specs.Aware.{IsAware}

@@ -1,5 +1,5 @@
 use Rattle.std.proofs.Common.{subst}
-use Rattle.pa_machine.specs.Links.{AreLinked}
+use Rattle.pa_slot.specs.Links.{AreLinked}
 use Rattle.pa_link.specs.Chains.{slot_names}
 use Rattle.pa_op_specs.specs.Stocks.{StockValue, titles_in}
 use Rattle.pa_thread_state.proofs.Chained.{linked_all}

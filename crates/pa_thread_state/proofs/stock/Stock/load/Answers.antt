@@ -2,7 +2,7 @@ use Rattle.std.proofs.Common.{◌≡◌, ◌<◌, ◌∙◌, length, sym, subst,
 use Rattle.std.specs.Prelude.{map}
 use Rattle.std.proofs.lemmas.List.{get_or-map, length-map}
 use Rattle.std.proofs.lemmas.List.Elements.{All-contains}
-use Rattle.pa_machine.specs.Titles.{IsWellFormed}
+use Rattle.pa_slot.specs.Titles.{IsWellFormed}
 use Rattle.pa_buckets.specs.Table.{slot_of}
 use Rattle.pa_region.specs.Aware.{IsAware}
 use Rattle.pa_link.specs.Chains.{Relinked}

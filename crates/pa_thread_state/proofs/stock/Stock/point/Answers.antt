@@ -1,6 +1,6 @@
 use Rattle.std.proofs.Common.{◌∙◌, refl, sym, subst}
 use Rattle.std.specs.Prelude.{slice_set}
-use Rattle.pa_machine.specs.declared.word.Step.TheVariants.{Copy}
+use Rattle.pa_slot.specs.declared.word.Step.TheVariants.{Copy}
 use Rattle.pa_region.specs.Moves.{after_count}
 use Rattle.pa_rules.specs.declared.register.Register.TheVariants.{Ref}
 use Rattle.pa_op_specs.specs.Stocks.{StockValue, HasNoHandle, register_in}

@@ -1,5 +1,5 @@
 use Rattle.std.proofs.Common.{◌≡◌, ◌+◌, ◌-◌, ◌<◌, length, refl, ◌∙◌, sym, subst, ap, arith, inl, inr}
-use Rattle.pa_machine.proofs.Outcomes.{any_err}
+use Rattle.pa_slot.proofs.Outcomes.{any_err}
 use Rattle.pa_region.specs.Shares.{Share}
 use Rattle.pa_region.specs.Views.{stake_of}
 use Rattle.pa_root.specs.Handing.{PurgeEnters}

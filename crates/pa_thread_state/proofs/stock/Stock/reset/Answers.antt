@@ -1,5 +1,5 @@
 use Rattle.std.proofs.Common.{refl, inl, inr, ◌∙◌, ap}
-use Rattle.pa_machine.proofs.Outcomes.{any_err}
+use Rattle.pa_slot.proofs.Outcomes.{any_err}
 use Rattle.pa_op_specs.specs.Stocks.{StockValue}
 use Rattle.pa_thread_state.proofs.Released.{not_last, reset_back, reset_stake}
 use Rattle.pa_thread_state.proofs.stock.Stock.reset.Goals as goal

@@ -1,5 +1,5 @@
 use Rattle.std.proofs.Common.{◌≡◌, ◌-◌, ◌/◌, subst, arith}
-use Rattle.pa_machine.proofs.Outcomes.{any_err}
+use Rattle.pa_slot.proofs.Outcomes.{any_err}
 use Rattle.pa_buckets.specs.Bands.{limit_of}
 use Rattle.pa_thread_state.specs.Stopping.{StopsTail}
 use Rattle.pa_thread_state.proofs.Fronts.{can_spill}

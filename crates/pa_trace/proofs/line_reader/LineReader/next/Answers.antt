@@ -45,4 +45,4 @@ returns-in-Err-clause-fault c =
     let u : Unread = record { head = s.head; rest = s.rest.now; left = s.left; number = s.number } in
     let faulty = line_faulty u c.in-Some.line.now c.in-Some.after.now c.in-Some.ensures.0 c.in-Some.ensures.1 (λ h. false≢true (c.if-is_past.ensures.1 h))
     c.in-Err.fault (sym c.in-Err.ensures) in
-    subst (λ (e : TraceFault). IsFaultRead c.args.self.now e) (sym c.fault_at.ensures) (subst (λ v. IsFaultRead v (told s.number c.in-Err.fault)) c.self.view_is faulty)
+    subst (λ (e : TraceFault). IsFaultRead c.args.self.now e) (sym c.fault_at.ensures.told) (subst (λ v. IsFaultRead v (told s.number c.in-Err.fault)) c.self.view_is faulty)

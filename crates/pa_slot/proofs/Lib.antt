@@ -1,0 +1,5 @@
+pub mod Arith
+pub mod Links
+pub mod Outcomes
+pub mod Runs
+pub mod Same

@@ -1,0 +1,110 @@
+//! A worker's slot in quarantine: it is freed while a `raw_ptr` points to it, read through that, and returned by the reset.
+ghost use Rattle.std.specs.Prelude.{◌≡◌};
+ghost use Rattle.pa_region.specs.Start.{first_view};
+ghost use Rattle.pa_thread_state.specs.Starts.{HasAllStakes};
+ghost use Rattle.pa_op_specs.specs.Stocks.{IsForThread};
+
+use pa_heap::Worker;
+use pa_record::{Answer, Seen, Tally};
+use pa_region::{Mark, Name, Note, Region, Seat};
+use pa_slot::{SlotName, Word};
+use pa_thread_state::Heap;
+use std::alloc::Global;
+use std::marker::Brand;
+use std::process::Abort;
+use std::sync::Wait;
+use std::test::Fail;
+
+// How many lines are played.
+const LINES: u32 = 7;
+
+// What every word of a freed slot reads.
+const POISON: u64 = 0xefef_efef_efef_efef;
+
+// What the step of an op found at the first slot of the first span.
+fn seen(found: u64) -> Seen {
+    let slot = SlotName {
+        start: 16384,
+        born: 0,
+    };
+    Seen {
+        slot,
+        found: Word(found),
+    }
+}
+
+// Whether these are the answers of the seven lines.
+fn are_due(answers: [Answer; 7]) -> bool {
+    let done = |found: u64| Answer::Done { seen: seen(found) };
+    let due = [
+        Answer::Made {
+            seen: seen(0),
+            usable: 8,
+        },
+        done(0x100_0001),
+        done(0x200_0001),
+        done(0x300_0003),
+        Answer::Dangling {
+            seen: seen(0x400_0002),
+            value: POISON,
+        },
+        done(0x400_0002),
+        Answer::Swapped { entry: 0 },
+    ];
+    answers == due
+}
+
+// Whether a worker goes on after seven lines, with one free that left a slot, and eight slots in its cache.
+fn has_ended<N: Name>(worker: &Worker<N>) -> bool {
+    let cached = Tally {
+        slots: 8,
+        bytes: 128,
+    };
+    !worker.stopped()
+        && worker.records().len() == 7
+        && worker.counts()[0].left == 1
+        && worker.cached(0) == cached
+}
+
+// The note of thread 0, out of the seat with which a heap's workers begin.
+fn hand_over(region: &Region, seat: &mut Seat) -> Note
+    requires region { seat.old.region ≡ region.now }
+    requires all { HasAllStakes 7 seat.old.view }
+    ensures region { result.region ≡ region.now }
+    ensures note { IsForThread 0 result.view }
+    ensures budget { result.view.budget ≡ 7 }
+{
+    region.hand(seat, &[], LINES, &[Mark::Stake(0)])
+}
+
+// A slot is made, written, pointed to, freed, read through the `raw_ptr` and let go. The handle of an empty register goes to a
+// cell.
+fn play<N: Name, R: Abort + Wait>(
+    rt: &R,
+    alloc: Global,
+    region: Region,
+    seat: Seat,
+) -> Result<(), Fail>
+    requires regions { (region ≡ N.region) × (seat.region ≡ N.region) }
+    requires first { seat.view ≡ first_view 262144 7 }
+{
+    let (heap, mut seat) = Heap::<N>::open(alloc, 1, region, seat, LINES)?;
+    let note = hand_over(heap.region(), &mut seat);
+    let mut worker = Worker::<N>::open(alloc, note, 0, 1, LINES)?;
+    let made = worker.alloc(rt, &heap, 2, 0, 0, 8)?;
+    let written = worker.write(&heap, 3, 0, 7);
+    let copied = worker.copy(&heap, 4, 0, 1);
+    let freed = worker.free(rt, &heap, 5, 0)?;
+    let read = worker.deref(&heap, 6, 1, 0);
+    let cleared = worker.reset(rt, &heap, 7, 1)?;
+    let swapped = worker.exchange(rt, &heap, 8, 0, 1)?;
+    assert!(rt; are_due([made, written, copied, freed, read, cleared, swapped]));
+    assert!(rt; has_ended(&worker));
+    Ok(())
+}
+
+#[test]
+fn a_freed_slot_waits_for_its_last_raw_ptr(rt: HostRuntime) -> Result<(), Fail> {
+    let (region, seat) = Region::new(rt.alloc(), 1, LINES)?;
+    play::<Brand, _>(&rt, rt.alloc(), region, seat)
+}

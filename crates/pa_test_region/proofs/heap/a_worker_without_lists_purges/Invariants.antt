@@ -1,5 +1,0 @@
-use Rattle.pa_test_region.proofs.heap.a_worker_without_lists_purges.Given as goal
-
--- the region that was just made
-abbrev pub ghosts-purge_twice : goal.ghosts-purge_twice
-ghosts-purge_twice g a = record { region = a.region }

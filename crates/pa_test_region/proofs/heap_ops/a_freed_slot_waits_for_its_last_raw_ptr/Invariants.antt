@@ -1,5 +1,0 @@
-use Rattle.pa_test_region.proofs.heap_ops.a_freed_slot_waits_for_its_last_raw_ptr.Given as goal
-
--- the region that was just made
-abbrev pub ghosts-play : goal.ghosts-play
-ghosts-play g a = record { region = a.region }

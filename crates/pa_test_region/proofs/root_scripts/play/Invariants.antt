@@ -1,5 +1,0 @@
-use Rattle.pa_test_region.proofs.root_scripts.play.Given as goal
-
--- the region that was just made
-abbrev pub ghosts-play_by : goal.ghosts-play_by
-ghosts-play_by g a = record { region = a.region.now }

@@ -1,0 +1,2 @@
+pub mod RootNotes
+pub mod RootParts
