@@ -239,7 +239,7 @@ def entered(fields, line):
 def number_in_bits(matched):
     """Each number of a run has the bits of its type."""
     for name, column, value in matched:
-        most = {"CLASS": 58, "CELL": 63}.get(name, 2**64 - 1 if name in (*WIDE, "number") else 2**32 - 1)
+        most = {"CLASS": 169, "CELL": 63}.get(name, 2**64 - 1 if name in (*WIDE, "number") else 2**32 - 1)
         if len(value) > len(str(most)) or int(value) > most:
             raise Refused(column, f"{name} is {cut(value)}", f"0 to {most}")
 

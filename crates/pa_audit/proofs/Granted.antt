@@ -9,7 +9,6 @@ use Rattle.std.proofs.lemmas.Slice.Zip.{length-zip}
 use Rattle.std.proofs.lemmas.Option.{slice_get_within}
 use Rattle.pa_slot.specs.declared.word.SlotName.{SlotName}
 use Rattle.pa_trace.specs.declared.script.Trace.{Trace}
-use Rattle.pa_trace.specs.declared.script.Op.TheVariants as ops
 use Rattle.pa_trace.specs.Limits.{IsWithinLimits}
 use Rattle.pa_record.specs.declared.run.Run.{Run}
 use Rattle.pa_record.specs.RunText.{history_of, journal_of}
@@ -83,7 +82,7 @@ homes_held t r lines pool roots s =
     let u = told_by r in
     let due = are_due t r lines in
     let kind = one_kind t.region t.partitions (records_of t u) u.pools u.roots s ((roots_are_places t u due).1 roots) ((pool_is_places t u due).1 pool) in
-    record { class = kind.class; direct = kind.direct; either = kind.either }
+    record { class = kind.class; real = kind.real; direct = kind.direct; either = kind.either }
 
 -- ---- numbers of 32 bits
 

@@ -123,7 +123,7 @@ unasked_fill class want plan next r filled None did none = did
 unasked_fill class want plan next r filled (Some entry) did none = absurd (false≢true (sym none))
 
 -- a fill that asks for no super page
-pub fill_plays : (pools : List PoolEntry) (plan next : PoolState) (r after : Root) (class : ℕ) (slots : List Numbered) (placed : Placed) → class < 59 → IsInStep pools plan r
+pub fill_plays : (pools : List PoolEntry) (plan next : PoolState) (r after : Root) (class : ℕ) (slots : List Numbered) (placed : Placed) → class < 170 → IsInStep pools plan r
     → FillDid class (fill_of class) plan next r after placed → IsStep plan.entries next.entries r after → is_some placed.pool ≡ false → map name_of placed.titles.items ≡ names slots
     → RootActFits pools (Fill class None slots) r × IsPlayedBy pools (Fill class None slots) plan r next after
 fill_plays pools plan next r after class slots placed real old did step none same =
@@ -160,7 +160,7 @@ fill_from_is pools supers plan next r after class j first placed at did some =
 opened_is : (pools : List PoolEntry) (j first : ℕ) (r : Root) → FoundRun pools j 1 first → opened first j r ≡ opened_by pools (Some j) r
 opened_is pools j first r found = ap (λ o. opened (super_of o) j r) (sym found)
 
-pub fill_from_plays : (pools : List PoolEntry) (plan0 plan next : PoolState) (r after : Root) (class j first : ℕ) (slots : List Numbered) (placed : Placed) → class < 59
+pub fill_from_plays : (pools : List PoolEntry) (plan0 plan next : PoolState) (r after : Root) (class j first : ℕ) (slots : List Numbered) (placed : Placed) → class < 170
     → IsInStep pools plan0 r → plan0.entries ≤ j → FoundRun pools j 1 first → IsAt pools plan0.supers j (pool.Take 1 (Some first)) plan
     → FillDid class (fill_of class) plan next r after placed → IsStep plan.entries next.entries r after → is_some placed.pool ≡ true → map name_of placed.titles.items ≡ names slots
     → RootActFits pools (Fill class (Some j) slots) r × IsPlayedBy pools (Fill class (Some j) slots) plan0 r next after

@@ -1,5 +1,5 @@
 -- What two tellings give together, and what a pass tells at its exits.
-use Rattle.std.proofs.Common.{◌≡◌, ℕ, ◌+◌, ◌<◌, ◌≤◌, Option, Some, None, arith, inl, inr}
+use Rattle.std.proofs.Common.{ℕ, ◌<◌, ◌≤◌, Option, Some, None, arith, inl, inr}
 use Rattle.std.proofs.lemmas.Bool.{cases_lt, lt-ltb, le-ltb}
 use Rattle.pa_rules.specs.Tells.{TellsFirst}
 use Rattle.pa_audit_heap.specs.Tells.{least_place}
@@ -13,7 +13,7 @@ tells_both P Q (Some i) (Some j) p q = elim (cases_lt j i) [
   | inr more ↦ rw (le-ltb j i more) (λ both. p.0 both.0, λ k below. (p.1 k below, q.1 k (omega arith)))
 ]
 
--- the same demand in other words
+-- an answer that is right for the demand P is right for Q, if each place that meets one of them meets the other
 pub tells_same : (P Q : ℕ → Type 0) (a : Option ℕ) → ((i : ℕ) → P i → Q i) → ((i : ℕ) → Q i → P i) → TellsFirst P a → TellsFirst Q a
 tells_same P Q None f g p = λ i. f i (p i)
 tells_same P Q (Some i) f g p = (λ q. p.0 (g i q), λ j less. f j (p.1 j less))

@@ -6,8 +6,9 @@ use Rattle.std.proofs.lemmas.List.{get_or_default, get_or-set_other, get_or-set_
 use Rattle.pa_record.specs.declared.numbered.Numbered.{Numbered}
 use Rattle.pa_record.specs.declared.report.Tally.{Tally}
 use Rattle.pa_rules.specs.Caches.{listed_slots}
+use Rattle.pa_rules.proofs.Sums.{slots_sparse}
 use Rattle.pa_audit_holders.specs.Lists.{AreSummed, cache_in, no_slots}
-use Rattle.pa_audit_holders.proofs.Listing.{listed}
+use Rattle.pa_audit_holders.proofs.Listing.{listed, none_but}
 use Rattle.pa_audit_holders.proofs.Remaining.{AreLeft, left_more, left_none, left_part, left_some, slots_same}
 
 -- ---- a partition
@@ -106,7 +107,8 @@ clear_start lists = record { many = refl; these = λ k low. absurd (omega (arith
 -- the slots of the next partition's lists
 pub clear_slots : (lists now : List (List Numbered)) (sums : List Tally) (p : ℕ) → AreSummed lists sums → p < 4 → AreCleared lists now p → (get_or sums p no_slots).slots ≡ listed_slots (from_place now (59 * p)) 0 59
 clear_slots lists now sums p summed low h =
-    (summed.each p low).slots ∙ slots_same (cache_in lists p) (from_place now (59 * p)) 0 59 (λ c up high. listed lists p c (omega (arith, high)) ∙ sym (h.others (59 * p + c) (omega arith)))
+    (summed.each p low).slots ∙ slots_sparse (cache_in lists p) (none_but lists p)
+    ∙ slots_same (cache_in lists p) (from_place now (59 * p)) 0 59 (λ c up high. listed lists p c (omega (arith, high)) ∙ sym (h.others (59 * p + c) (omega arith)))
 
 pub clear_more : (lists now next : List (List Numbered)) (p : ℕ) → AreCleared lists now p → length next ≡ length now → ((k : ℕ) → 59 * p ≤ k → k < 59 * p + 59 → get_or next k [] ≡ [])
     → ((k : ℕ) → (59 * p ≤ k → 59 * p + 59 ≤ k) → get_or next k [] ≡ get_or now k []) → AreCleared lists next (p + 1)

@@ -9,7 +9,7 @@ use Rattle.pa_record.specs.declared.numbered.Numbered.{Numbered}
 use Rattle.pa_record.specs.declared.root.RootEntry.{RootEntry}
 use Rattle.pa_record.specs.declared.root.RootAct.{RootAct}
 use Rattle.pa_record.specs.declared.root.RootAct.TheVariants.{Give, Purge}
-use Rattle.pa_rules.specs.Caches.{batches, gives}
+use Rattle.pa_rules.specs.Caches.{gives}
 use Rattle.pa_audit_holders.specs.Lines.{did_at, no_entry}
 use Rattle.pa_audit_holders.specs.Gives.{TellsGives}
 use Rattle.pa_rules.proofs.Batches.{gives_more}

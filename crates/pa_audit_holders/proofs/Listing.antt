@@ -5,6 +5,7 @@ use Rattle.std.proofs.lemmas.Bool.{cases_eq, cases_lt, eq-eqb, ne_eqb, lt-ltb, l
 use Rattle.std.proofs.lemmas.List.{get_or_default, get_or_past, get_or-set_same, get_or-set_other}
 use Rattle.pa_record.specs.declared.numbered.Numbered.{Numbered}
 use Rattle.pa_rules.specs.Caches.{Cache, no_caches, with_cache, with_list}
+use Rattle.pa_rules.proofs.Sums.{NoneBut}
 use Rattle.pa_audit_holders.specs.Lists.{cache_in, caches_in}
 
 -- ---- one list changed
@@ -48,8 +49,13 @@ listed_within lists p c many low real = omega (arith, many, low, real)
 pub listed_there : (lists : List (List Numbered)) (p c : ℕ) (d found : List Numbered) → length lists ≡ 236 → p < 4 → c < 59 → found ≡ get_or lists (59 * p + c) d → found ≡ get_or lists (59 * p + c) []
 listed_there lists p c d found many low real is = is ∙ get_or_default lists (59 * p + c) d [] (listed_within lists p c many low real)
 
-unlisted : (lists : List (List Numbered)) (p c : ℕ) → 59 ≤ c → cache_in lists p c ≡ []
+pub unlisted : (lists : List (List Numbered)) (p c : ℕ) → 59 ≤ c → cache_in lists p c ≡ []
 unlisted lists p c more = rw (le-ltb c 59 more) refl
+
+-- none but the classes of version 1 have lists
+pub none_but : (lists : List (List Numbered)) (p : ℕ) → NoneBut 0 59 (cache_in lists p)
+none_but lists p c (inl low) = absurd (omega arith)
+none_but lists p c (inr past) = unlisted lists p c past
 
 pub cache_empty : (lists : List (List Numbered)) → All (λ xs. xs ≡ []) lists → cache_in lists ≡ (λ p c. [])
 cache_empty lists h = λ i p c. empty p c i

@@ -7,6 +7,7 @@ use Rattle.pa_record.specs.declared.root.RootAct.{RootAct}
 use Rattle.pa_record.specs.declared.root.RootAct.TheVariants.{Purge}
 use Rattle.pa_rules.specs.Roots.{Journals}
 use Rattle.pa_rules.specs.Caches.{Cache, acts_of, all_listed, gives, listed_slots, purge_acts}
+use Rattle.pa_rules.proofs.Sums.{NoneBut, slots_sparse, purge_sparse}
 use Rattle.pa_audit_holders.specs.Gives.{PurgesAll, TellsGives, TellsPurge, whole_count, whole_purge}
 use Rattle.pa_audit_holders.proofs.Remaining.{AreLeft}
 
@@ -25,17 +26,33 @@ pub record IsPurging (acts : List RootAct) (lists : ℕ → List Numbered) (slot
   pub onto : acts ≡ whole_purge lists → drop at acts ≡ purge_acts lists k n
   pub back : drop at acts ≡ purge_acts lists k n → acts ≡ whole_purge lists
 
-pub purging_start : (acts : List RootAct) (lists : ℕ → List Numbered) (slots : ℕ) → IsPurging acts lists slots 0 59 0 slots
+pub purging_start : (acts : List RootAct) (lists : ℕ → List Numbered) (slots : ℕ) → NoneBut 0 59 lists → IsPurging acts lists slots 0 59 0 slots
 unfolding whole_count whole_purge
-purging_start acts lists slots = record { within = omega arith; low = omega arith; counted = refl; onto = λ e. e; back = λ e. e }
+purging_start acts lists slots none = record {
+  within = omega arith;
+  low = omega arith;
+  counted = ap (λ n. slots + n) (sym (slots_sparse lists none));
+  onto = λ e. e ∙ purge_sparse lists none;
+  back = λ e. e ∙ sym (purge_sparse lists none);
+}
 
 -- if the next list doesn't go back, the entries don't purge the partition
 pub purging_not : (acts : List RootAct) (lists : ℕ → List Numbered) (slots k n at left : ℕ) (xs : List Numbered) → IsPurging acts lists slots k (suc n) at left → xs ≡ lists k → TellsGives acts at xs None
     → TellsPurge acts lists slots None
 purging_not acts lists slots k n at left xs h is none e few = none (purge_acts lists (k + 1) n) (h.onto e ∙ ap (λ z. gives z ++ purge_acts lists (k + 1) n) (sym is))
 
+-- if the next list has more slots than are left, the entries don't purge the partition within the slots
+pub purging_over : (acts : List RootAct) (lists : ℕ → List Numbered) (slots k n at left : ℕ) (xs : List Numbered) → IsPurging acts lists slots k (suc n) at left → xs ≡ lists k → left < length xs
+    → TellsPurge acts lists slots None
+unfolding listed_slots
+purging_over acts lists slots k n at left xs h is more e few =
+    let counted : slots + (length (lists k) + listed_slots lists (k + 1) n) ≡ left + whole_count lists = h.counted in
+    let long : length xs ≡ length (lists k) = ap length is in
+    absurd (omega (arith, counted, long, more, few))
+
 pub purging_more : (acts : List RootAct) (lists : ℕ → List Numbered) (slots k n at left next : ℕ) (xs : List Numbered) → IsPurging acts lists slots k (suc n) at left → xs ≡ lists k → length xs ≤ left
     → TellsGives acts at xs (Some next) → IsPurging acts lists slots (k + 1) n next (left - length xs)
+unfolding listed_slots
 purging_more acts lists slots k n at left next xs h is few (gave, within) =
     let counted : slots + (length (lists k) + listed_slots lists (k + 1) n) ≡ left + whole_count lists = h.counted in
     let long : length xs ≡ length (lists k) = ap length is in
@@ -54,6 +71,7 @@ purging_more acts lists slots k n at left next xs h is few (gave, within) =
 
 -- lists that have no slots are purged by a Purge alone
 none_left : (lists : ℕ → List Numbered) (k n : ℕ) → listed_slots lists k n ≡ 0 → purge_acts lists k n ≡ Purge ∷ []
+unfolding listed_slots
 none_left lists k zero none = refl
 none_left lists k (suc n) none =
     let here : length (lists k) + listed_slots lists (k + 1) n ≡ 0 = none in

@@ -15,10 +15,12 @@ left_start lists rest is = record { classes = refl; slots = is }
 
 -- if there are slots there is a list
 pub left_some : (lists : ℕ → List Numbered) (k n rest : ℕ) → AreLeft lists k n rest → 0 < rest → k < 59
+unfolding listed_slots
 left_some lists k zero rest h some = let none = h.slots in absurd (omega (arith, none, some))
 left_some lists k (suc n) rest h some = let all = h.classes in omega (arith, all)
 
 pub left_more : (lists : ℕ → List Numbered) (k n rest len : ℕ) → AreLeft lists k (suc n) rest → len ≡ length (lists k) → AreLeft lists (k + 1) n (rest - len)
+unfolding listed_slots
 left_more lists k n rest len h is =
     let all = h.classes in
     let slots : rest ≡ length (lists k) + listed_slots lists (k + 1) n = h.slots in
@@ -26,11 +28,13 @@ left_more lists k n rest len h is =
 
 -- the next list's slots are among them
 pub left_part : (lists : ℕ → List Numbered) (k n rest len : ℕ) → AreLeft lists k (suc n) rest → len ≡ length (lists k) → len ≤ rest
+unfolding listed_slots
 left_part lists k n rest len h is =
     let slots : rest ≡ length (lists k) + listed_slots lists (k + 1) n = h.slots in
     omega (arith, slots, is)
 
 none_from : (lists : ℕ → List Numbered) (k n : ℕ) → listed_slots lists k n ≡ 0 → (c : ℕ) → k ≤ c → c < k + n → lists c ≡ []
+unfolding listed_slots
 none_from lists k zero none c low high = absurd (omega (arith, low, high))
 none_from lists k (suc n) none c low high =
     let here : length (lists k) + listed_slots lists (k + 1) n ≡ 0 = none in
@@ -47,6 +51,7 @@ left_none lists k n rest c h none low high =
 
 -- lists that are the same have as many slots
 pub slots_same : (f g : ℕ → List Numbered) (k n : ℕ) → ((c : ℕ) → k ≤ c → c < k + n → f c ≡ g c) → listed_slots f k n ≡ listed_slots g k n
+unfolding listed_slots
 slots_same f g k zero same = refl
 slots_same f g k (suc n) same =
     let head = ap length (same k (omega arith) (omega arith)) in

@@ -11,16 +11,18 @@ use Rattle.pa_record.specs.declared.numbered.Numbered.{Numbered}
 use Rattle.pa_record.specs.declared.report.Tally.{Tally}
 use Rattle.pa_rules.specs.Caches.{Cache, listed_slots, with_list}
 use Rattle.pa_rules.specs.Report.{listed_bytes}
+use Rattle.pa_rules.proofs.Sums.{slots_none, bytes_none}
 use Rattle.pa_audit_holders.specs.Lists.{AreSummed, HasPart, IsListedBy, cache_in, changed_by, no_slots}
-use Rattle.pa_audit_holders.proofs.Listing.{cache_empty, cache_set, listed, with_here, with_other}
+use Rattle.pa_audit_holders.proofs.Listing.{cache_empty, cache_set, listed, unlisted, with_here, with_other}
 
 -- ---- sums of numbers from one class on
 
-abbrev pub sum_over : (ℕ → ℕ) → ℕ → ℕ → ℕ
+unfoldable pub sum_over : (ℕ → ℕ) → ℕ → ℕ → ℕ
 sum_over f k zero = 0
 sum_over f k (suc n) = f k + sum_over f (k + 1) n
 
 over_same : (f g : ℕ → ℕ) (k n : ℕ) → ((c : ℕ) → k ≤ c → f c ≡ g c) → sum_over f k n ≡ sum_over g k n
+unfolding sum_over
 over_same f g k zero same = refl
 over_same f g k (suc n) same =
     let head = same k (omega arith) in
@@ -29,6 +31,7 @@ over_same f g k (suc n) same =
 
 -- one number changed
 over_changed : (f g : ℕ → ℕ) (at k n : ℕ) → k ≤ at → at < k + n → ((c : ℕ) → (c ≡ at → ⊥) → f c ≡ g c) → sum_over f k n + g at ≡ sum_over g k n + f at
+unfolding sum_over
 over_changed f g at k zero low high same = absurd (omega (arith, low, high))
 over_changed f g at k (suc n) low high same = elim (cases_lt k at) [
   | inl below ↦
@@ -44,6 +47,7 @@ over_changed f g at k (suc n) low high same = elim (cases_lt k at) [
 ]
 
 over_part : (f : ℕ → ℕ) (at k n : ℕ) → k ≤ at → at < k + n → f at ≤ sum_over f k n
+unfolding sum_over
 over_part f at k zero low high = absurd (omega (arith, low, high))
 over_part f at k (suc n) low high = elim (cases_lt k at) [
   | inl below ↦ let tail = over_part f at (k + 1) n (omega (arith, below)) (omega (arith, high)) in omega (arith, tail)
@@ -54,6 +58,7 @@ over_part f at k (suc n) low high = elim (cases_lt k at) [
 ]
 
 over_most : (f : ℕ → ℕ) (m k n : ℕ) → ((c : ℕ) → c < k + n → f c ≤ m) → sum_over f k n ≤ n * m
+unfolding sum_over
 over_most f m k zero few = omega arith
 over_most f m k (suc n) few =
     let head = few k (omega arith) in
@@ -61,10 +66,12 @@ over_most f m k (suc n) few =
     omega (arith, head, tail)
 
 slots_over : (lists : ℕ → List Numbered) (k n : ℕ) → listed_slots lists k n ≡ sum_over (λ c. length (lists c)) k n
+unfolding listed_slots sum_over
 slots_over lists k zero = refl
 slots_over lists k (suc n) = ap (λ z. length (lists k) + z) (slots_over lists (k + 1) n)
 
 bytes_over : (counts : ℕ → ℕ) (k n : ℕ) → listed_bytes counts k n ≡ sum_over (λ c. slot_of c * counts c) k n
+unfolding listed_bytes sum_over
 bytes_over counts k zero = refl
 bytes_over counts k (suc n) = ap (λ z. slot_of k * counts k + z) (bytes_over counts (k + 1) n)
 
@@ -85,31 +92,35 @@ short_at lists p c short many low real =
 pub list_short : (lists : List (List Numbered)) (sums : List Tally) (p c : ℕ) → AreSummed lists sums → p < 4 → c < 59 → length (cache_in lists p c) ≤ 64
 list_short lists sums p c h low real = short_at lists p c h.short h.many low real
 
-few_bytes : (n c : ℕ) → n ≤ 64 → c < 59 → slot_of c * n ≤ 58720256
-few_bytes n c few real = mul-le (slot_of c) n 917504 64 (IsRow-of c real).greatest_slot few
+-- no list of partition p has more than 64 slots, whatever the class c
+any_short : (lists : List (List Numbered)) (sums : List Tally) (p c : ℕ) → AreSummed lists sums → p < 4 → length (cache_in lists p c) ≤ 64
+any_short lists sums p c h low = elim (cases_lt c 59) [
+  | inl real ↦ list_short lists sums p c h low real
+  | inr past ↦ let e = ap length (unlisted lists p c past) in omega (arith, e)
+]
 
-pub sum_few : (lists : List (List Numbered)) (sums : List Tally) (p : ℕ) (sum : Tally) → AreSummed lists sums → p < 4 → IsListedBy (cache_in lists) p sum → sum.slots ≤ 3776
+few_bytes : (n c : ℕ) → n ≤ 64 → c < 170 → slot_of c * n ≤ 62914560
+few_bytes n c few real = mul-le (slot_of c) n 983040 64 (IsRow-of c real).greatest_slot few
+
+pub sum_few : (lists : List (List Numbered)) (sums : List Tally) (p : ℕ) (sum : Tally) → AreSummed lists sums → p < 4 → IsListedBy (cache_in lists) p sum → sum.slots ≤ 10880
 sum_few lists sums p sum h low by =
-    let most = over_most (slots_in (cache_in lists) p) 64 0 59 (λ c real. list_short lists sums p c h low real) in
-    let is = slots_over (cache_in lists p) 0 59 in
+    let most = over_most (slots_in (cache_in lists) p) 64 0 170 (λ c real. any_short lists sums p c h low) in
+    let is = slots_over (cache_in lists p) 0 170 in
     let a = by.slots in
     omega (arith, most, is, a)
 
-pub sum_small : (lists : List (List Numbered)) (sums : List Tally) (p : ℕ) (sum : Tally) → AreSummed lists sums → p < 4 → IsListedBy (cache_in lists) p sum → sum.bytes ≤ 3464495104
+pub sum_small : (lists : List (List Numbered)) (sums : List Tally) (p : ℕ) (sum : Tally) → AreSummed lists sums → p < 4 → IsListedBy (cache_in lists) p sum → sum.bytes ≤ 10695475200
 sum_small lists sums p sum h low by =
-    let most = over_most (bytes_in (cache_in lists) p) 58720256 0 59 (λ c real. few_bytes (length (cache_in lists p c)) c (list_short lists sums p c h low real) real) in
-    let is = bytes_over (λ class. length (cache_in lists p class)) 0 59 in
+    let most = over_most (bytes_in (cache_in lists) p) 62914560 0 170 (λ c real. few_bytes (length (cache_in lists p c)) c (any_short lists sums p c h low) real) in
+    let is = bytes_over (λ class. length (cache_in lists p class)) 0 170 in
     let a = by.bytes in
     omega (arith, most, is, a)
 
 -- ---- nothing
 
-no_bytes : (k n : ℕ) → listed_bytes (λ c. 0) k n ≡ 0
-no_bytes k zero = refl
-no_bytes k (suc n) = let tail = no_bytes (k + 1) n in omega (arith, tail)
-
 none_listed : (cache : Cache) (p : ℕ) → cache ≡ (λ q c. []) → IsListedBy cache p no_slots
-none_listed cache p none = subst (λ (z : Cache). IsListedBy z p no_slots) (sym none) (record { slots = refl; bytes = sym (no_bytes 0 59) })
+none_listed cache p none = subst (λ (z : Cache). IsListedBy z p no_slots) (sym none)
+    (record { slots = sym (slots_none (λ c. []) 0 170 (λ c low high. refl)); bytes = sym (bytes_none (λ c. []) 0 170 (λ c low high. refl)) })
 
 four_none : (q : ℕ) → get_or (no_slots ∷ no_slots ∷ no_slots ∷ no_slots ∷ []) q no_slots ≡ no_slots
 four_none zero = refl
@@ -135,10 +146,10 @@ part_of lists sums p class after sum h low real by few =
     let there = listed lists p class real in
     let long = ap length there in
     let heavy : slot_of class * length (cache_in lists p class) ≡ slot_of class * length (get_or lists (59 * p + class) []) = ap (λ z. slot_of class * z) long in
-    let a = over_part (slots_in (cache_in lists) p) class 0 59 (omega arith) (omega (arith, real)) in
-    let b = over_part (bytes_in (cache_in lists) p) class 0 59 (omega arith) (omega (arith, real)) in
-    let c = slots_over (cache_in lists p) 0 59 in
-    let d = bytes_over (λ k. length (cache_in lists p k)) 0 59 in
+    let a = over_part (slots_in (cache_in lists) p) class 0 170 (omega arith) (omega (arith, real)) in
+    let b = over_part (bytes_in (cache_in lists) p) class 0 170 (omega arith) (omega (arith, real)) in
+    let c = slots_over (cache_in lists p) 0 170 in
+    let d = bytes_over (λ k. length (cache_in lists p k)) 0 170 in
     let e = by.slots in
     let f = by.bytes in
     let g = list_short lists sums p class h low real in
@@ -168,23 +179,23 @@ sum_here cache next p class xs sum after real becomes by is = record { slots = s
     heavy : slot_of class * length (next p class) ≡ slot_of class * length xs
     heavy = ap (λ z. slot_of class * z) long
 
-    slots : after.slots ≡ listed_slots (next p) 0 59
+    slots : after.slots ≡ listed_slots (next p) 0 170
     slots =
-        let a = over_changed (slots_in next p) (slots_in cache p) class 0 59 (omega arith) (omega (arith, real)) (λ c ne. ap length (other c ne)) in
-        let b = over_part (slots_in cache p) class 0 59 (omega arith) (omega (arith, real)) in
-        let c = slots_over (next p) 0 59 in
-        let d = slots_over (cache p) 0 59 in
+        let a = over_changed (slots_in next p) (slots_in cache p) class 0 170 (omega arith) (omega (arith, real)) (λ c ne. ap length (other c ne)) in
+        let b = over_part (slots_in cache p) class 0 170 (omega arith) (omega (arith, real)) in
+        let c = slots_over (next p) 0 170 in
+        let d = slots_over (cache p) 0 170 in
         let e = by.slots in
         let f : after.slots ≡ sum.slots - length (cache p class) + length xs = ap (λ (t : Tally). t.slots) is in
         let g = long in
         omega (arith, a, b, c, d, e, f, g)
 
-    bytes : after.bytes ≡ listed_bytes (λ k. length (next p k)) 0 59
+    bytes : after.bytes ≡ listed_bytes (λ k. length (next p k)) 0 170
     bytes =
-        let a = over_changed (bytes_in next p) (bytes_in cache p) class 0 59 (omega arith) (omega (arith, real)) (λ c ne. ap (λ (zs : List Numbered). slot_of c * length zs) (other c ne)) in
-        let b = over_part (bytes_in cache p) class 0 59 (omega arith) (omega (arith, real)) in
-        let c = bytes_over (λ k. length (next p k)) 0 59 in
-        let d = bytes_over (λ k. length (cache p k)) 0 59 in
+        let a = over_changed (bytes_in next p) (bytes_in cache p) class 0 170 (omega arith) (omega (arith, real)) (λ c ne. ap (λ (zs : List Numbered). slot_of c * length zs) (other c ne)) in
+        let b = over_part (bytes_in cache p) class 0 170 (omega arith) (omega (arith, real)) in
+        let c = bytes_over (λ k. length (next p k)) 0 170 in
+        let d = bytes_over (λ k. length (cache p k)) 0 170 in
         let e = by.bytes in
         let f : after.bytes ≡ sum.bytes - slot_of class * length (cache p class) + slot_of class * length xs = ap (λ (t : Tally). t.bytes) is in
         let g = heavy in
@@ -192,7 +203,7 @@ sum_here cache next p class xs sum after real becomes by is = record { slots = s
 
 -- the sum of another partition's lists
 sum_there : (cache next : Cache) (p q class : ℕ) (xs : List Numbered) (sum : Tally) → (q ≡ p → ⊥) → next ≡ with_list cache p class xs → IsListedBy cache q sum → IsListedBy next q sum
-sum_there cache next p q class xs sum ne becomes by = record { slots = by.slots ∙ ap (λ (z : ℕ → List Numbered). listed_slots z 0 59) same; bytes = by.bytes ∙ ap (λ (z : ℕ → List Numbered). listed_bytes (λ k. length (z k)) 0 59) same }
+sum_there cache next p q class xs sum ne becomes by = record { slots = by.slots ∙ ap (λ (z : ℕ → List Numbered). listed_slots z 0 170) same; bytes = by.bytes ∙ ap (λ (z : ℕ → List Numbered). listed_bytes (λ k. length (z k)) 0 170) same }
   where
     same : cache q ≡ next q
     same = λ i c. sym (ap (λ (z : Cache). z q c) becomes ∙ with_other cache p class q c xs (λ e f. ne e)) i

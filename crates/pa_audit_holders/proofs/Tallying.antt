@@ -49,12 +49,12 @@ pub listed_next : (all : Caches) (cache : Cache) (p t : ℕ) (sum one after : Ta
     → cache ≡ all t → after ≡ record { slots = sum.slots + one.slots; bytes = sum.bytes + one.bytes }
     → IsListed (t + 1) all p after
 listed_next all cache p t sum one after h by there is =
-    let a : one.slots ≡ listed_slots (all t p) 0 59 = by.slots ∙ ap (λ (z : Cache). listed_slots (z p) 0 59) there in
-    let b : one.bytes ≡ listed_bytes (λ class. length (all t p class)) 0 59 = by.bytes ∙ ap (λ (z : Cache). listed_bytes (λ class. length (z p class)) 0 59) there in
+    let a : one.slots ≡ listed_slots (all t p) 0 170 = by.slots ∙ ap (λ (z : Cache). listed_slots (z p) 0 170) there in
+    let b : one.bytes ≡ listed_bytes (λ class. length (all t p class)) 0 170 = by.bytes ∙ ap (λ (z : Cache). listed_bytes (λ class. length (z p class)) 0 170) there in
     let c : after.slots ≡ sum.slots + one.slots = ap (λ (z : Tally). z.slots) is in
     let d : after.bytes ≡ sum.bytes + one.bytes = ap (λ (z : Tally). z.bytes) is in
-    let e : cached_slots all p (t + 1) ≡ listed_slots (all t p) 0 59 + cached_slots all p t = ap (cached_slots all p) (one_more t) in
-    let f : cached_bytes all p (t + 1) ≡ listed_bytes (λ class. length (all t p class)) 0 59 + cached_bytes all p t = ap (cached_bytes all p) (one_more t) in
+    let e : cached_slots all p (t + 1) ≡ listed_slots (all t p) 0 170 + cached_slots all p t = ap (cached_slots all p) (one_more t) in
+    let f : cached_bytes all p (t + 1) ≡ listed_bytes (λ class. length (all t p class)) 0 170 + cached_bytes all p t = ap (cached_bytes all p) (one_more t) in
     let g : sum.slots ≡ cached_slots all p t = h.slots in
     let k : sum.bytes ≡ cached_bytes all p t = h.bytes in
     record { slots = omega (arith, a, c, e, g); bytes = omega (arith, b, d, f, k) }

@@ -1,6 +1,6 @@
 -- The owner of a free slot: the lists of its partition and class, or its root.
 use Rattle.std.specs.Prelude.{◌≡◌, ℕ, ◌<◌, nat_lt, if◌then◌else◌, List, Option, Some, None, IsSome, Contains}
-use Rattle.pa_buckets.specs.Limits.{class_count}
+use Rattle.pa_buckets.specs.Limits.{class_count, sparse_count}
 use Rattle.pa_buckets.specs.Table.{slot_of}
 use Rattle.pa_slot.specs.declared.word.SlotName.{SlotName}
 use Rattle.pa_record.specs.declared.pool.PoolEntry.{PoolEntry}
@@ -16,7 +16,7 @@ use Rattle.pa_rules.specs.Report.{HasSize}
 use Rattle.pa_audit_records.specs.Keys.{name_key}
 use Rattle.pa_audit_holders.specs.declared.homes.Home.{Home}
 
--- a fill gave the slot this partition and class, one of the 59, or it is a direct map of this partition
+-- a fill gave the slot this partition and class, or it is a direct map of this partition
 abbrev pub IsHomeIn : Journals → SlotName → ℕ → Option ℕ → Type 0
 IsHomeIn roots s p (Some class) = IsOfClass roots s p class × (class < class_count)
 IsHomeIn roots s p None = IsDirect roots s p
@@ -26,9 +26,10 @@ pub record IsHomeOf (roots : Journals) (s : SlotName) (h : Home) : Type 0 where
   pub goes : IsHomeIn roots s h.partition h.class
   pub size : HasSize roots h.partition s h.bytes
 
--- The slot has one home: fills give it one partition and class, direct maps one partition, and it isn't both.
+-- The slot has one home: fills give it one partition and class, of version 1, direct maps one partition, and it isn't both.
 pub record HasOneHome (roots : Journals) (s : SlotName) : Type 0 where
   pub class : (p q c d : ℕ) → IsOfClass roots s p c → IsOfClass roots s q d → (p ≡ q) × (c ≡ d)
+  pub real : (p c : ℕ) → IsOfClass roots s p c → c < sparse_count
   pub direct : (p q : ℕ) → IsDirect roots s p → IsDirect roots s q → p ≡ q
   pub either : (p q c : ℕ) → IsOfClass roots s p c → IsDirect roots s q → ⊥
 

@@ -1,6 +1,6 @@
 -- The lists of the threads' caches, in tables, and what they have together.
 use Rattle.std.specs.Prelude.{◌≡◌, ℕ, ◌+◌, ◌-◌, ◌*◌, ◌<◌, ◌≤◌, nat_lt, if◌then◌else◌, List, [], All, length, slice_index_or}
-use Rattle.pa_buckets.specs.Limits.{class_count}
+use Rattle.pa_buckets.specs.Limits.{class_count, sparse_count}
 use Rattle.pa_buckets.specs.Table.{slot_of}
 use Rattle.pa_record.specs.declared.numbered.Numbered.{Numbered}
 use Rattle.pa_record.specs.declared.report.Tally.{Tally}
@@ -9,9 +9,9 @@ use Rattle.pa_rules.specs.Limits.{list_count}
 use Rattle.pa_rules.specs.Caches.{Cache, Caches, listed_slots}
 use Rattle.pa_rules.specs.Report.{listed_bytes}
 
--- the lists of one thread, 59 of each partition, and an empty one past the end
+-- the lists of one thread, 59 of each partition, one for each class of version 1, and an empty one past the end
 abbrev pub cache_in : List (List Numbered) → Cache
-cache_in lists p class = if nat_lt class class_count then slice_index_or lists (class_count * p + class) [] else []
+cache_in lists p class = if nat_lt class sparse_count then slice_index_or lists (sparse_count * p + class) [] else []
 
 -- the lists of all threads, and empty ones past the last thread
 abbrev pub caches_in : List (List (List Numbered)) → Caches
@@ -46,7 +46,7 @@ changed_by sum class before after = record {
 pub record HasPart (sum : Tally) (class before after : ℕ) : Type 0 where
   pub slots : before ≤ sum.slots
   pub bytes : slot_of class * before ≤ sum.bytes
-  pub few : sum.slots ≤ 3776
-  pub small : sum.bytes ≤ 3464495104
+  pub few : sum.slots ≤ 10880
+  pub small : sum.bytes ≤ 10695475200
   pub short : before ≤ 64
   pub short_too : after ≤ 64

@@ -1,5 +1,5 @@
 ghost use Rattle.std.specs.Prelude.{◌≡◌, ℕ, ◌+◌, ◌<◌, ◌≤◌, [], ◌∷◌, ◌↔◌, All, IfOk, IsTrue, OnErr, OnOk, drop, length, slice_index_or, take};
-ghost use Rattle.pa_buckets.specs.Limits.{class_count};
+ghost use Rattle.pa_buckets.specs.Limits.{sparse_count};
 ghost use Rattle.pa_trace.specs.Limits.{most_partitions};
 ghost use Rattle.pa_rules.specs.Caches.{listed_slots, with_list};
 ghost use Rattle.pa_audit_holders.specs.Lists.{AreSummed, HasPart, IsListedBy, cache_in, changed_by, no_slots};
@@ -15,7 +15,7 @@ use std::mem;
 
 const PARTITIONS: usize = MOST_PARTITIONS as usize;
 
-const CLASSES: usize = pa_buckets::CLASSES as usize;
+const CLASSES: usize = pa_buckets::SPARSE_CLASSES as usize;
 
 // The least number of unused entries that are put before the free slots.
 const LEAST_UNUSED: usize = 4;
@@ -116,8 +116,8 @@ impl FreeSlots {
     }
 }
 
-// A thread's lists of free slots, at most 64 each. They are seen as the list of them, 59 of each of four partitions. Beside them
-// is what those of each partition have together.
+// A thread's lists of free slots, at most 64 each. They are seen as the list of them: of each of four partitions one of each
+// class of version 1. Beside them is what those of each partition have together.
 #[derive(Drop)]
 pub(crate) struct ThreadLists {
     lists: Vec<FreeSlots>,
@@ -162,6 +162,7 @@ impl ThreadLists {
     // The slots of a partition's list, front first.
     pub(crate) fn list(&self, partition: u32, class: Class) -> &[Numbered]
         requires partition { partition < most_partitions }
+        requires class { class < sparse_count }
         ensures slots { result.now ≡ cache_in self.now partition class }
         ensures few { length result.now ≤ 64 }
     {
@@ -171,6 +172,7 @@ impl ThreadLists {
     // Replaces the slots of a partition's list by others, at most 64, and returns the old ones.
     pub(crate) fn replace(&mut self, partition: u32, class: Class, slots: FreeSlots) -> FreeSlots
         requires partition { partition < most_partitions }
+        requires class { class < sparse_count }
         requires few { length slots ≤ 64 }
         ensures slots { result ≡ cache_in self.old partition class }
         ensures few { length result ≤ 64 }
@@ -189,8 +191,8 @@ impl ThreadLists {
     pub(crate) fn sum(&self, partition: u32) -> Tally
         requires partition { partition < most_partitions }
         ensures listed { IsListedBy (cache_in self.now) partition result }
-        ensures few { result.slots ≤ 3776 }
-        ensures small { result.bytes ≤ 3464495104 }
+        ensures few { result.slots ≤ 10880 }
+        ensures small { result.bytes ≤ 10695475200 }
     {
         self.sums[partition as usize]
     }
@@ -233,11 +235,11 @@ fn clear_all(lists: &mut Vec<FreeSlots>, sums: &[Tally; MOST_PARTITIONS as usize
 // Empties a partition's lists, which begin at this index and have this many slots. Those after the last of them that has
 // some are left alone.
 fn clear_from(lists: &mut Vec<FreeSlots>, first: usize, slots: u64)
-    requires within { first + class_count ≤ length lists.old.items }
-    requires slots { slots ≡ listed_slots (λ class. slice_index_or lists.old.items (first + class) []) 0 class_count }
+    requires within { first + sparse_count ≤ length lists.old.items }
+    requires slots { slots ≡ listed_slots (λ class. slice_index_or lists.old.items (first + class) []) 0 sparse_count }
     ensures many { length lists.new.items ≡ length lists.old.items }
-    ensures these { (at : ℕ) → first ≤ at → at < first + class_count → slice_index_or lists.new.items at [] ≡ [] }
-    ensures others { (at : ℕ) → (first ≤ at → first + class_count ≤ at)
+    ensures these { (at : ℕ) → first ≤ at → at < first + sparse_count → slice_index_or lists.new.items at [] ≡ [] }
+    ensures others { (at : ℕ) → (first ≤ at → first + sparse_count ≤ at)
         → slice_index_or lists.new.items at [] ≡ slice_index_or lists.old.items at [] }
 {
     let mut rest = slots as usize;

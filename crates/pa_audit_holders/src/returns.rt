@@ -1,4 +1,5 @@
 ghost use Rattle.std.specs.Prelude.{◌≡◌, ℕ, ◌<◌, ◌≤◌, ◌↔◌, [], ◌∷◌, IfOk, IsTrue, Some, drop, length, take};
+ghost use Rattle.pa_buckets.specs.Limits.{sparse_count};
 ghost use Rattle.pa_trace.specs.Limits.{most_partitions};
 ghost use Rattle.pa_rules.specs.Roots.{journal_at};
 ghost use Rattle.pa_rules.specs.Caches.{DoneRow, OnlyActs, ReturnRow, gives, kept, spilled, unmap_at};
@@ -105,6 +106,7 @@ fn put_in_list(
     cache: &mut ThreadLists,
 ) -> Result<bool, OutOfMemory>
     requires partition { bin.now.partition < most_partitions }
+    requires class { bin.now.class < sparse_count }
     ensures { IfOk result (TellsRow
         (BackRow (journal_at page.now.roots) page.now.told.line bin.now.partition bin.now.class slot (cache_in cache.old))
         (cache_in cache.new)) }

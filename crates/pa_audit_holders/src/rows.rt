@@ -2,6 +2,7 @@ ghost use Rattle.std.specs.Prelude.{◌≡◌, ℕ, ◌+◌, ◌<◌, ◌≤◌,
 ghost use Rattle.pa_slot.specs.Run.{IsReturning};
 ghost use Rattle.pa_record.specs.declared.numbered.Numbered.{Numbered as Listed};
 ghost use Rattle.pa_record.specs.declared.root.RootAct.TheVariants as acts;
+ghost use Rattle.pa_buckets.specs.Limits.{sparse_count};
 ghost use Rattle.pa_trace.specs.Limits.{most_partitions};
 ghost use Rattle.pa_rules.specs.Roots.{AsksForClass, AsksForMap, journal_at};
 ghost use Rattle.pa_rules.specs.Caches.{CacheRow, DoneRow, FilledFirst, FrontIs, FullRow, MadeRow, NoActs, OnlyActs, PurgedRow, ReturnRow, acts_of, gives, kept, spilled, unmap_at, with_list};
@@ -69,6 +70,7 @@ fn made_of_class(
     cache: &mut ThreadLists,
 ) -> Result<bool, OutOfMemory>
     requires partition { bin.now.partition < most_partitions }
+    requires class { bin.now.class < sparse_count }
     ensures { IfOk result (TellsRow
         (ClassRow (journal_at page.now.roots) page.now.told.line bin.now.partition bin.now.class seen (cache_in cache.old))
         (cache_in cache.new)) }

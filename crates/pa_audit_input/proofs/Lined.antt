@@ -32,7 +32,7 @@ none_taken bytes ys e = (no_lines, ap lines_of (ap joined (sym e) ∙ lines_join
 lf_taken : (lines : List (List ℕ)) (x : List ℕ) (xs ys : List (List ℕ)) → with_front 10 lines ≡ x ∷ xs ++ ys → (x ≡ 10 ∷ []) × (lines ≡ xs ++ ys)
 lf_taken lines x xs ys e = let split : (10 ∷ []) ∷ lines ≡ x ∷ xs ++ ys = sym (lf_front lines) ∙ e in (cc, cc)
 
--- the same after a byte that is no LF
+-- if the lines of a text can be cut before the lines ys, they still can with a byte other than LF in front of the text
 other_taken : (b : ℕ) (lines : List (List ℕ)) (x : List ℕ) (xs ys : List (List ℕ)) → (b ≡ 10 → ⊥) → with_front b lines ≡ x ∷ xs ++ ys
     → ((zs : List (List ℕ)) → lines ≡ zs ++ ys → AreCut zs ys) → AreCut (x ∷ xs) ys
 unfolding lines_of

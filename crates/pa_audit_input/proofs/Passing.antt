@@ -38,7 +38,7 @@ bad_within d m before last (line ∷ lines) k short (inr h) =
       subst (λ (x : ℕ). IsFirstOfRun x (before + length line) (Some h.0) lines (BadLine (d + k))) next rest,
     ))
 
--- and so with other lines after them, if it isn't the one after them
+-- the first bad line of lines that end early, if it is one of them, is the first faulty one also with more lines after them
 bad_before : (d m before : ℕ) (last : Option Item) (lines more : List (List ℕ)) (k : ℕ) → before + length (joined lines) ≤ most_audited
     → k < m + length lines → IsFirstBad m last lines k → IsFirstOfRun (d + m) before last (lines ++ more) (BadLine (d + k))
 bad_before d m before last [] more k short less h = absurd (omega (arith, h.0, less))

@@ -35,7 +35,7 @@ use Rattle.pa_rules.proofs.ReportLines.{phases_push}
 pub kinds_given : (supers partitions : ℕ) (ps : List Played) (pools : List PoolEntry) (roots : Journals) → IsGiven supers partitions ps pools roots → HaveOneKind roots
 kinds_given supers partitions ps pools roots g s =
     let kind = one_kind supers partitions ps pools roots s g.journals g.pool in
-    record { class = kind.class; direct = kind.direct; either = kind.either }
+    record { class = kind.class; real = kind.real; direct = kind.direct; either = kind.either }
 
 tallied_given : (supers partitions n : ℕ) (ps : List Played) (pools : List PoolEntry) (roots : Journals) → IsGiven supers partitions ps pools roots → IsTallied supers partitions ps (until n ps) pools roots
 tallied_given supers partitions n ps pools roots g =

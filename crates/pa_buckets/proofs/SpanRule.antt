@@ -1,11 +1,11 @@
 -- The rule for spans: what it gives for each class, and that it gives one span.
 use Rattle.std.proofs.Common.{◌≡◌, ℕ, ◌+◌, ◌-◌, ◌*◌, ◌/◌, ◌%◌, ◌<◌, ◌≤◌, ◌⊎◌, inl, inr, Bool, true, not, ◌&&◌, ◌||◌, eqb, ltb, leb, refl, sym, ap, ◌∙◌, arith}
-use Rattle.std.proofs.lemmas.Bool.{cases_lt, cases_eq, cases_order, and_parts, and_from, or_cases, or_left, or_right, ltb-true, leb-true, eq-eqb, lt-ltb, not-true, both_ways}
+use Rattle.std.proofs.lemmas.Bool.{cases_lt, cases_eq, cases_order, and_parts, and_from, or_cases, or_left, or_right, eqb-true, ltb-true, leb-true, eq-eqb, lt-ltb, not-true, both_ways}
 use Rattle.pa_buckets.specs.declared.spans.SpanShape.{SpanShape}
 use Rattle.pa_buckets.specs.Table.{rows, row_of, slot_of, pages_of, system_of, slots_of, waste_of, span_shape_of}
-use Rattle.pa_buckets.specs.Rule.{IsTried, IsBefore, left_over, IsFirstTight, IsLeastWaste, IsOneSlot, FollowsRule}
-use Rattle.pa_buckets.proofs.Tests.{each_below, equal_below, equal_from}
-use Rattle.pa_buckets.proofs.Facts.{slot_of-in_order, slot_of-35, slot_of-36}
+use Rattle.pa_buckets.specs.Rule.{IsTried, IsBefore, left_over, IsFirstTight, WastesLess, WastesAlike, IsLeastWaste, IsOneSlot, FollowsRule}
+use Rattle.pa_buckets.proofs.Tests.{each_below, equal_below}
+use Rattle.pa_buckets.proofs.Facts.{slot_of-in_order, slot_of-36}
 
 -- what holds of a pair holds of an equal one
 at_pair : (P : ℕ → ℕ → Type 0) → (n c m d : ℕ) → n ≡ m → c ≡ d → P m d → P n c
@@ -91,7 +91,59 @@ first_tight-true s n c passes =
           passed-true s n c m d (each_pair (λ m d. passed s n c m d ≡ true) p1 p2 p3 p4 p5 p6 p7 p8 m d t) earlier;
     }
 
--- the classes with slots of at most 16,384 bytes have the first pair that leaves at most 64 bytes over
+-- whether (m, d) leaves more than 64 bytes over, and no less a part than (n, c), or just as much and isn't tried before
+abbrev worse : ℕ → ℕ → ℕ → ℕ → ℕ → Bool
+worse s n c m d =
+    ltb 64 (left_over s d) &&
+    (ltb (left_over s c * (4096 * d)) (left_over s d * (4096 * c)) ||
+    (eqb (left_over s c * (4096 * d)) (left_over s d * (4096 * c)) && not (before m d n c)))
+
+worse-true : (s n c m d : ℕ) → worse s n c m d ≡ true → (64 < left_over s d) × (WastesLess s c d ⊎ (WastesAlike s c d × ¬ IsBefore m d n c))
+worse-true s n c m d pass =
+    let (loose, rest) = and_parts _ _ pass in (
+      ltb-true _ _ loose,
+      elim (or_cases _ _ rest) [
+        | inl less ↦ inl (ltb-true _ _ less)
+        | inr both ↦
+            let (alike, late) = and_parts _ _ both in
+            inr (eqb-true _ _ alike, λ earlier. both_ways _ (not-true _ late) (before-true m d n c earlier))
+      ],
+    )
+
+-- whether no pair leaves at most 64 bytes over, and (n, c) is the first of those that leave the least part over
+abbrev least_waste : ℕ → ℕ → ℕ → Bool
+least_waste s n c =
+    (leb 1 n && (leb n 4 && (leb c (4 * n) && leb (4 * n - n / 2) c))) &&
+    (worse s n c 1 4 && (worse s n c 2 8 && (worse s n c 2 7 && (worse s n c 3 12 && (worse s n c 3 11 &&
+    (worse s n c 4 16 && (worse s n c 4 15 && worse s n c 4 14)))))))
+
+-- a pair that passes the tests is that one
+least_waste-true : (s n c : ℕ) → least_waste s n c ≡ true → IsLeastWaste s n c
+least_waste-true s n c passes =
+    let (tries, r0) = and_parts _ _ passes in
+    let (t1, u1) = and_parts _ _ tries in
+    let (t2, u2) = and_parts _ _ u1 in
+    let (t3, t4) = and_parts _ _ u2 in
+    let (p1, r1) = and_parts _ _ r0 in
+    let (p2, r2) = and_parts _ _ r1 in
+    let (p3, r3) = and_parts _ _ r2 in
+    let (p4, r4) = and_parts _ _ r3 in
+    let (p5, r5) = and_parts _ _ r4 in
+    let (p6, r6) = and_parts _ _ r5 in
+    let (p7, p8) = and_parts _ _ r6 in
+    let each = each_pair (λ m d. worse s n c m d ≡ true) p1 p2 p3 p4 p5 p6 p7 p8 in
+    record {
+      tried = record {
+        from_one = leb-true _ _ t1;
+        to_four = leb-true _ _ t2;
+        at_most_all = leb-true _ _ t3;
+        nearly_all = leb-true _ _ t4;
+      };
+      none_tight = λ m d t. (worse-true s n c m d (each m d t)).0;
+      least = λ m d t. (worse-true s n c m d (each m d t)).1;
+    }
+
+-- the classes of version 1 with slots of at most 16,384 bytes have the first pair that leaves at most 64 bytes over
 small_rows : (c : ℕ) → c < 36 → IsFirstTight (slot_of c) (pages_of c) (system_of c)
 unfolding rows row_of slot_of pages_of system_of
 small_rows c below =
@@ -104,35 +156,58 @@ tight_rows c real small =
       | inr above ↦ absurd (omega (arith, slot_of-in_order 36 c above real, slot_of-36))
     ]
 
--- the classes above 16,384 bytes have one slot
-one_slot_rows : (c : ℕ) → 36 ≤ c → c < 59 → IsOneSlot (slot_of c) (span_shape_of c)
-unfolding rows row_of slot_of pages_of system_of slots_of
-one_slot_rows c above real = record {
-  system_pages = equal_from (λ k. 4096 * system_of k) slot_of 36 23 refl c above real;
-  pages = equal_from pages_of (λ k. (system_of k + 3) / 4) 36 23 refl c above real;
-  one = equal_from slots_of (λ _. 1) 36 23 refl c above real;
-}
+-- whether slots of s bytes are too large for a pair, or this is the pair for them
+abbrev right_pair : ℕ → ℕ → ℕ → Bool
+right_pair s n c = ltb 16384 s || (first_tight s n c || least_waste s n c)
 
--- the slots and the waste of each class
-pub row_slots : (c : ℕ) → c < 59 → slots_of c ≡ 4096 * system_of c / slot_of c
-unfolding rows row_of slot_of system_of slots_of
-row_slots c real = equal_below slots_of (λ k. 4096 * system_of k / slot_of k) 59 refl c real
+pair_rows : (c : ℕ) → c < 170 → right_pair (slot_of c) (pages_of c) (system_of c) ≡ true
+unfolding rows row_of slot_of pages_of system_of
+pair_rows c real = each_below (λ k. right_pair (slot_of k) (pages_of k) (system_of k)) 170 refl c real
 
-pub row_waste : (c : ℕ) → c < 59 → waste_of c ≡ 4096 * system_of c % slot_of c
-unfolding rows row_of slot_of system_of waste_of
-row_waste c real = equal_below waste_of (λ k. 4096 * system_of k % slot_of k) 59 refl c real
+over : {s n : ℕ} → s ≤ n → n < s → ⊥
+over little much = omega arith
 
-large_rows : (c : ℕ) → c < 59 → 16384 < slot_of c → IsOneSlot (slot_of c) (span_shape_of c)
-large_rows c real large =
-    elim (cases_lt c 36) [
-      | inl below ↦ absurd (omega (arith, slot_of-in_order c 35 (omega arith) (omega arith), slot_of-35))
-      | inr above ↦ one_slot_rows c above real
+right_pair-small : (s n c : ℕ) → right_pair s n c ≡ true → s ≤ 16384 → IsFirstTight s n c ⊎ IsLeastWaste s n c
+right_pair-small s n c pass small =
+    elim (or_cases _ _ pass) [
+      | inl large ↦ absurd (over small (ltb-true 16384 s large))
+      | inr right ↦ elim (or_cases _ _ right) [
+        | inl tight ↦ inl (first_tight-true s n c tight)
+        | inr least ↦ inr (least_waste-true s n c least)
+      ]
     ]
 
+-- whether slots of s bytes are small enough for a pair, or these are the numbers of a span of one slot
+abbrev one_slot : ℕ → ℕ → ℕ → ℕ → Bool
+one_slot s n c slots = leb s 16384 || (eqb c ((s + 4095) / 4096) && (eqb n ((c + 3) / 4) && eqb slots 1))
+
+one_slot_rows : (c : ℕ) → c < 170 → one_slot (slot_of c) (pages_of c) (system_of c) (slots_of c) ≡ true
+unfolding rows row_of slot_of pages_of system_of slots_of
+one_slot_rows c real = each_below (λ k. one_slot (slot_of k) (pages_of k) (system_of k) (slots_of k)) 170 refl c real
+
+large_rows : (c : ℕ) → c < 170 → 16384 < slot_of c → IsOneSlot (slot_of c) (span_shape_of c)
+large_rows c real large =
+    elim (or_cases _ _ (one_slot_rows c real)) [
+      | inl small ↦ absurd (over (leb-true (slot_of c) 16384 small) large)
+      | inr right ↦
+          let (system, rest) = and_parts _ _ right in
+          let (pages, one) = and_parts _ _ rest in
+          record { system_pages = eqb-true _ _ system; pages = eqb-true _ _ pages; one = eqb-true _ _ one }
+    ]
+
+-- the slots and the waste of each class
+row_slots : (c : ℕ) → c < 170 → slots_of c ≡ 4096 * system_of c / slot_of c
+unfolding rows row_of slot_of system_of slots_of
+row_slots c real = equal_below slots_of (λ k. 4096 * system_of k / slot_of k) 170 refl c real
+
+row_waste : (c : ℕ) → c < 170 → waste_of c ≡ 4096 * system_of c % slot_of c
+unfolding rows row_of slot_of system_of waste_of
+row_waste c real = equal_below waste_of (λ k. 4096 * system_of k % slot_of k) 170 refl c real
+
 -- each class follows the rule
-pub FollowsRule-of : (c : ℕ) → c < 59 → FollowsRule (slot_of c) (span_shape_of c)
+pub FollowsRule-of : (c : ℕ) → c < 170 → FollowsRule (slot_of c) (span_shape_of c)
 FollowsRule-of c real = record {
-  small = λ small. inl (tight_rows c real small);
+  small = right_pair-small _ _ _ (pair_rows c real);
   large = large_rows c real;
   slots = row_slots c real;
   waste = row_waste c real;
@@ -162,9 +237,6 @@ between a b less more = omega arith
 between_equal : (a b : ℕ) → a < b → b ≡ a → ⊥
 between_equal a b less same = omega arith
 
-over_64 : (a : ℕ) → a ≤ 64 → 64 < a → ⊥
-over_64 a little much = omega arith
-
 -- (n, c) is a pair that the rule may give
 abbrev Given : ℕ → ℕ → ℕ → Type 0
 Given s n c = IsFirstTight s n c ⊎ IsLeastWaste s n c
@@ -181,12 +253,12 @@ not_least s n c m d x y earlier =
     ]
 
 not_before : (s n c m d : ℕ) → Given s n c → Given s m d → IsBefore n c m d → ⊥
-not_before s n c m d (inl x) (inl y) earlier = over_64 _ x.tight (y.first n c x.tried earlier)
-not_before s n c m d (inl x) (inr y) earlier = over_64 _ x.tight (y.none_tight n c x.tried)
-not_before s n c m d (inr x) (inl y) earlier = over_64 _ y.tight (x.none_tight m d y.tried)
+not_before s n c m d (inl x) (inl y) earlier = over x.tight (y.first n c x.tried earlier)
+not_before s n c m d (inl x) (inr y) earlier = over x.tight (y.none_tight n c x.tried)
+not_before s n c m d (inr x) (inl y) earlier = over y.tight (x.none_tight m d y.tried)
 not_before s n c m d (inr x) (inr y) earlier = not_least s n c m d x y earlier
 
--- so the rule gives one pair
+-- the rule gives a slot size only one pair
 one_pair : (s n c m d : ℕ) → Given s n c → Given s m d → (n ≡ m) × (c ≡ d)
 one_pair s n c m d x y =
     elim (order_of_pairs n c m d) [
@@ -214,12 +286,12 @@ same_pages s x y p q =
       | inl large ↦
           let u = p.large large in
           let v = q.large large in
-          let e : x.system_pages ≡ y.system_pages = omega (arith, u.system_pages, v.system_pages) in
+          let e : x.system_pages ≡ y.system_pages = u.system_pages ∙ sym v.system_pages in
           (u.pages ∙ ap (λ n. (n + 3) / 4) e ∙ sym v.pages, e)
       | inr small ↦ one_pair s _ _ _ _ (p.small small) (q.small small)
     ]
 
--- so they are one span
+-- two spans that follow the rule for one slot size are the same
 pub FollowsRule-unique : (s : ℕ) (x y : SpanShape) → FollowsRule s x → FollowsRule s y → x ≡ y
 FollowsRule-unique s x y p q =
     let same = same_pages s x y p q in

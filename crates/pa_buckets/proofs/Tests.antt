@@ -24,3 +24,10 @@ equal_from f g from n computes c low high =
     let P : ℕ → Type 0 = λ k. f k ≡ g k in
     let back : c - from + from ≡ c = omega arith in
     subst P back (equal_below (λ k. f (k + from)) (λ k. g (k + from)) n computes (c - from) (omega arith))
+
+pub at_most_from : (f g : ℕ → ℕ) (from n : ℕ) → true_below (λ k. leb (f (k + from)) (g (k + from))) n ≡ true →
+    (c : ℕ) → from ≤ c → c < n + from → f c ≤ g c
+at_most_from f g from n computes c low high =
+    let P : ℕ → Type 0 = λ k. f k ≤ g k in
+    let back : c - from + from ≡ c = omega arith in
+    subst P back (at_most_below (λ k. f (k + from)) (λ k. g (k + from)) n computes (c - from) (omega arith))

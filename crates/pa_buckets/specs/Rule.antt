@@ -39,9 +39,9 @@ pub record IsLeastWaste (s n c : ℕ) : Type 0 where
   pub least : (m d : ℕ) → IsTried m d →
       WastesLess s c d ⊎ (WastesAlike s c d × ¬ IsBefore m d n c)
 
--- a span of one slot, which fills its system pages
+-- a span of one slot, with as many system pages as that needs
 pub record IsOneSlot (s : ℕ) (span : SpanShape) : Type 0 where
-  pub system_pages : 4096 * span.system_pages ≡ s
+  pub system_pages : span.system_pages ≡ (s + 4095) / 4096
   pub pages : span.pages ≡ (span.system_pages + 3) / 4
   pub one : span.slots ≡ 1
 

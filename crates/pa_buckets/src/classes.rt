@@ -1,17 +1,17 @@
 ghost use Rattle.std.specs.Prelude.{◌≡◌, ◌↔◌, ℕ, ◌+◌, ◌^◌, ◌<◌, max, IsNone, IfSome, ◌≤◌};
-ghost use Rattle.pa_buckets.specs.Limits.{class_count, greatest_slot};
-ghost use Rattle.pa_buckets.specs.Classes.{IsClassOf};
+ghost use Rattle.pa_buckets.specs.Limits.{class_count, greatest_raw};
+ghost use Rattle.pa_buckets.specs.Classes.{IsClassOf, IsClassIn};
 ghost use Rattle.pa_buckets.specs.Table.{slot_of, span_shape_of};
 ghost use Rattle.pa_buckets.specs.Bands.{limit_of, fill_of};
 
 use crate::spans::SpanShape;
-use crate::table::{CLASSES, ROWS};
+use crate::table::{CLASSES, COUNT, ROWS, SPARSE};
 use std::marker::Model;
 
 // A thread requests at once as many slots as its cache limit divided by this.
 const BATCH_RATIO: u32 = 8;
 
-/// A size class, 0 to 58: a bucket of PartitionAlloc.md. It is seen as its number.
+/// A size class, 0 to 169: a bucket of PartitionAlloc.md. It is seen as its number.
 #[derive(Clone, Copy, Debug, PartialEq, Eq)]
 pub struct Class(u8);
 
@@ -26,7 +26,7 @@ impl Model for Class {
 }
 
 impl Class {
-    /// The class of that number. `None` exactly when the number is above 58.
+    /// The class of that number. `None` exactly when the number is above 169.
     pub fn of(number: u32) -> Option<Class>
         ensures refused { IsNone result ↔ (class_count ≤ number) }
         ensures class { IfSome result (λ c. c ≡ number) }
@@ -38,7 +38,7 @@ impl Class {
         }
     }
 
-    /// The class's number, 0 to 58.
+    /// The class's number, 0 to 169.
     pub fn number(self) -> u32
         ensures number { result ≡ self }
         ensures bound { self < class_count }
@@ -47,17 +47,44 @@ impl Class {
     }
 }
 
-/// The class of a raw size in bytes: the least whose slot size is at least that. `None` exactly when the raw size
-/// is above 917,504, which is for a direct map.
+/// The class of a raw size in bytes in version 1: the least whose slot size is at least that. `None` exactly when the
+/// raw size is above 917,504, which is for a direct map.
 pub fn class_of(raw: u32) -> Option<Class>
-    ensures refused { IsNone result ↔ (greatest_slot < raw) }
+    ensures refused { IsNone result ↔ (greatest_raw 1 < raw) }
     ensures least { IfSome result (IsClassOf raw) }
 {
-    let at = ROWS.partition_point(|row| row.slot < raw);
-    if at < CLASSES as usize {
+    let at = ROWS[..SPARSE].partition_point(|row| row.slot < raw);
+    if at < SPARSE {
         Some(Class(at as u8))
     } else {
         None
+    }
+}
+
+/// The class of a raw size in version 2: of the classes 59 to 169 the least whose slot size is at least that. `None`
+/// exactly when the raw size is above 983,040.
+pub fn class_of_2(raw: u32) -> Option<Class>
+    ensures refused { IsNone result ↔ (greatest_raw 2 < raw) }
+    ensures least { IfSome result (IsClassIn 2 raw) }
+{
+    let number = SPARSE + ROWS[SPARSE..].partition_point(|row| row.slot < raw);
+    if number < COUNT {
+        Some(Class(number as u8))
+    } else {
+        None
+    }
+}
+
+/// The class of a raw size by the rules of a version: by version 1's, or by version 2's in a later one. `None` exactly
+/// when the raw size is above the greatest slot there.
+pub fn class_in(version: u32, raw: u32) -> Option<Class>
+    ensures refused { IsNone result ↔ (greatest_raw version < raw) }
+    ensures least { IfSome result (IsClassIn version raw) }
+{
+    if version <= 1 {
+        class_of(raw)
+    } else {
+        class_of_2(raw)
     }
 }
 
@@ -77,16 +104,18 @@ pub fn span_of(class: Class) -> SpanShape
     ROWS[class.0 as usize].span
 }
 
-/// How many free slots of the class a thread's cache keeps. One more, and half of them go back to the root.
+/// How many free slots of the class a thread's cache keeps, by its slot size. One more, and half of them go back to the
+/// root.
 pub fn cache_limit(class: Class) -> u32
     ensures limit { result ≡ limit_of class }
     ensures bound { class < class_count }
 {
-    if class.0 <= 7 {
+    let size = slot_size(class);
+    if size <= 128 {
         64
-    } else if class.0 <= 19 {
+    } else if size <= 1024 {
         32
-    } else if class.0 <= 39 {
+    } else if size <= 32768 {
         16
     } else {
         0

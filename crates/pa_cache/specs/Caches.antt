@@ -14,7 +14,7 @@ pub record CacheList : Type 0 where
   pub class : ℕ
   pub titles : List Title
 
--- What the type of a cache keeps: the class is one of the 59, each title has its slot size, no title is there twice, and there are at
+-- What the type of a cache keeps: the class is one of the 170, each title has its slot size, no title is there twice, and there are at
 -- most 8 more than the limit.
 pub record IsCache (c : CacheList) : Type 0 where
   pub class : c.class < class_count

@@ -23,7 +23,7 @@ pub record CacheParts : Type 0 where
 abbrev pub list_in : View → CacheParts → CacheList
 list_in v c = record { class = c.class; titles = titles_along v.words c.chain }
 
--- What the type of a chained cache keeps: the class is one of the 59, the chain is one of slots of its size, and there are at most 8
+-- What the type of a chained cache keeps: the class is one of the 170, the chain is one of slots of its size, and there are at most 8
 -- more than the limit.
 pub record KeepsBounds (c : CacheParts) : Type 0 where
   pub class : c.class < class_count

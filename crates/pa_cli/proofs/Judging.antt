@@ -87,7 +87,7 @@ module _ (a b : Run) (h : IsSameRun a b) where
   same_line (places.Cell k j) = let sum = same_taken k a.cells.items b.cells.items h.cells in let before = same_cells_at in omega (arith, sum, before)
   same_line (places.Report i) = let before = same_report_at in omega (arith, before)
 
-  -- so the verdict on the one is that on the other
+  -- of two runs that are alike, if clause c is the first that fails on one, first on line n, it is on the other
   first_failing_same : (c : Clause) (n : ℕ) (t : Trace) → IsFirstFailing c n t a → IsFirstFailing c n t b
   first_failing_same c n t fails =
       let told = same_told a b h in (
@@ -155,7 +155,7 @@ module _ (bytes : List ℕ) (t u : Trace) (a b : Run) (m n : ℕ) (h : IsAudited
   one_input_lines : m ≡ n
   one_input_lines = h.count ∙ ap (λ (front : List ℕ). length (lines_of front)) parts.0 ∙ sym k.count
 
--- the same bytes have only one verdict
+-- any two verdicts on one input are equal
 pub one_judgement : (bytes : List ℕ) (v w : Verdict) → IsVerdictOn v bytes → IsVerdictOn w bytes → v ≡ w
 one_judgement bytes v w h k =
     let a = judged bytes v h in

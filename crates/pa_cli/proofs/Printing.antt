@@ -1,8 +1,7 @@
 -- What `replay`, `model`, `gen`, `resize`, `verdicts` and `dangling` print.
-use Rattle.std.proofs.Common.{◌≡◌, ◌∙◌, ℕ, List, Some, refl, ap, ◌≤◌, ◌++◌, codes, length}
+use Rattle.std.proofs.Common.{◌≡◌, ◌∙◌, ℕ, List, Some, refl, ap, ◌++◌, codes}
 use Rattle.pa_trace.specs.declared.script.Trace.{Trace}
 use Rattle.std.specs.List.{flat_map}
-use Rattle.pa_trace.specs.Grammar.{IsTraceText}
 use Rattle.pa_trace.specs.Limits.{IsWithinLimits, most_bytes}
 use Rattle.pa_record.specs.declared.report.ReportLine.{ReportLine}
 use Rattle.pa_record.specs.declared.run.Run.{Run}

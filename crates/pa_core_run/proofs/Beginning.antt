@@ -113,7 +113,7 @@ points_start (suc k) x = over_none 64
 
 lists_start : (partitions k : ℕ) (x : SlotName) → in_lists partitions nothing_stands x k ≡ 0
 lists_start partitions zero x = refl
-lists_start partitions (suc k) x = over_same partitions (λ p. 0) (λ p. listed_times x (no_caches k p) 0 59) (λ p. listed_none x (no_caches k p) 0 59 (λ c. refl)) ∙ over_none partitions
+lists_start partitions (suc k) x = over_same partitions (λ p. 0) (λ p. listed_times x (no_caches k p) 0 170) (λ p. listed_none x (no_caches k p) 0 170 (λ c. refl)) ∙ over_none partitions
 
 pub start_shows : (a : Parts) → IsFiled a → ShowsFront a 0 [] a.ps (start_of (2097152 * a.supers) (a.threads + 1))
 start_shows a h =

@@ -98,7 +98,7 @@ module _ (a : Parts) (h : IsFiled a) where
         ],
       )
 
-  -- and one that is written has the value
+  -- after a write the content of its slot, at the number after the one that the write found, is the value written
   pub content_written : (x : Played) (seen : Seen) (reg value : ℕ) → Contains a.ps x → x.op ≡ ops.Write reg value → x.answer ≡ Done seen → IsContent a.ps seen.slot (number_of seen.found.0 + 1) value
   content_written x seen reg value there op answer =
       let k = number_of seen.found.0 in

@@ -52,11 +52,11 @@ module _ (a : Parts) (before rest : List Played) (x : Played) (h : IsFiled a) (p
     (shown : IsShown (titles_in a (root_at a x.line)) (a.threads + 1) (2097152 * a.supers) (ledger_of a.partitions st) s) where
   -- the lists of the thread after the record
   pub lists_here : (content : SlotName → ℕ) (y : SlotName) →
-      in_lists a.partitions (next_st a before rest x h parts st f s shown content) y (suc x.thread) ≡ over a.partitions (λ p. listed_times y (cache_left a before rest x h parts st f p) 0 59)
+      in_lists a.partitions (next_st a before rest x h parts st f s shown content) y (suc x.thread) ≡ over a.partitions (λ p. listed_times y (cache_left a before rest x h parts st f p) 0 170)
   lists_here content y =
       let same : with_cache st.caches x.thread (cache_left a before rest x h parts st f) x.thread ≡ cache_left a before rest x h parts st f = rw (eq-eqb x.thread x.thread refl) refl in
-      over_same a.partitions (λ p. listed_times y (cache_left a before rest x h parts st f p) 0 59) (λ p. listed_times y (with_cache st.caches x.thread (cache_left a before rest x h parts st f) x.thread p) 0 59)
-      (λ p. ap (λ (c : Cache). listed_times y (c p) 0 59) same)
+      over_same a.partitions (λ p. listed_times y (cache_left a before rest x h parts st f p) 0 170) (λ p. listed_times y (with_cache st.caches x.thread (cache_left a before rest x h parts st f) x.thread p) 0 170)
+      (λ p. ap (λ (c : Cache). listed_times y (c p) 0 170) same)
 
   -- what a step that returns a slot leaves is its free title
   pub left_free : (m : Mark) (p : Step) (t u : Title) → mark_of x ≡ Some m → m.step ≡ Some p → IsReturning p m.found → MadeIn a t → name_of t ≡ m.slot → count_word s.words t ≡ st.word (name_of t) → MadeIn a u →
@@ -99,7 +99,7 @@ module _ (a : Parts) (before rest : List Played) (x : Played) (h : IsFiled a) (p
       let content = with_slot st.content seen.slot 0 in
       let kept : (y : SlotName) → (y ≡ m.slot → ⊥) → content y ≡ st.content y = λ y ne. at_other_slot st.content seen.slot 0 y ne in
       let fall = lists_fall a.partitions a.roots x seen (st.caches x.thread) (cache_left a before rest x h parts st f)
-      (λ p class (r, n, asks, class_of). (let both : ops.Alloc reg part size ≡ ops.Alloc r p n = sym op ∙ asks in let e : part ≡ p = cc in (subst (λ z. z < a.partitions) e part_few, class_of.real))) no_acts row in
+      (λ p class (r, n, asks, class_of). (let both : ops.Alloc reg part size ≡ ops.Alloc r p n = sym op ∙ asks in let e : part ≡ p = cc in (subst (λ z. z < a.partitions) e part_few, omega (arith, class_of.real)))) no_acts row in
       let set = set_named a before rest x h parts st f s shown t m Issue reg Own content name (set_by a before rest x h parts st f m Issue reg (Own m.slot) content is refl reg_few other becomes kept) in
       let can = subst (λ y. CanStep Issue (st.word y)) (sym name) (can_step a before rest x h parts st f m Issue is refl) in
       let now : content seen.slot ≡ 0 = at_slot st.content seen.slot 0 in

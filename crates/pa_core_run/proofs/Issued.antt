@@ -59,10 +59,10 @@ module _ (a : Parts) (before rest : List Played) (x : Played) (h : IsFiled a) (p
   abbrev pub names_next : Titles
   names_next = titles_in a (root_at a (x.line + 1))
 
-  pub lists_mine : (list : Cache) (y : SlotName) → in_lists a.partitions (listing list) y (suc x.thread) ≡ over a.partitions (λ p. listed_times y (list p) 0 59)
+  pub lists_mine : (list : Cache) (y : SlotName) → in_lists a.partitions (listing list) y (suc x.thread) ≡ over a.partitions (λ p. listed_times y (list p) 0 170)
   lists_mine list y =
       let same : with_cache st.caches x.thread list x.thread ≡ list = rw (eq-eqb x.thread x.thread refl) refl in
-      over_same a.partitions (λ p. listed_times y (list p) 0 59) (λ p. listed_times y (with_cache st.caches x.thread list x.thread p) 0 59) (λ p. ap (λ (c : Cache). listed_times y (c p) 0 59) same)
+      over_same a.partitions (λ p. listed_times y (list p) 0 170) (λ p. listed_times y (with_cache st.caches x.thread list x.thread p) 0 170) (λ p. ap (λ (c : Cache). listed_times y (c p) 0 170) same)
 
   pub lists_others : (list : Cache) (j : ℕ) (y : SlotName) → (j ≡ x.thread → ⊥) → in_lists a.partitions (listing list) y (suc j) ≡ in_lists a.partitions st y (suc j)
   lists_others list j y ne = lists_beside a before rest x h parts st f list j y ne
@@ -76,7 +76,7 @@ module _ (a : Parts) (before rest : List Played) (x : Played) (h : IsFiled a) (p
 
   pub issue_plays : (reg part size usable : ℕ) (seen : Seen) (list : Cache) (mid : State) → x.op ≡ ops.Alloc reg part size → x.answer ≡ answers.Made seen usable → reg < 64 → HoldsNone (st.regs x.thread reg) →
       Becomes (regs_left a before rest x h parts st f) (with (st.regs x.thread) reg (Own seen.slot)) →
-      ((y : SlotName) → over a.partitions (λ p. listed_times y (cache_left a before rest x h parts st f p) 0 59) + once y seen.slot ≤ over a.partitions (λ p. listed_times y (list p) 0 59)) →
+      ((y : SlotName) → over a.partitions (λ p. listed_times y (cache_left a before rest x h parts st f p) 0 170) + once y seen.slot ≤ over a.partitions (λ p. listed_times y (list p) 0 170)) →
       IsBrought list mid → Outcome a before rest x h parts st f s shown
   issue_plays reg part size usable seen list mid op answer reg_few none becomes fall brought =
       let m : Mark = mark_at x.line seen (Some Issue) in

@@ -59,7 +59,7 @@ module _ (a : Parts) (h : IsFiled a) where
       row_usable (at.all q.thread reg) (facts_of a) (at.all q.thread) at.next reg size usable seen row
 
   -- the title of a slot of a class, and of a direct map
-  class_long : (y : SlotName) (p c : ℕ) (t : Title) → IsOfClass a.roots y p c → MadeIn a t → name_of t ≡ y → (c < 59) × (t.len ≡ slot_of c)
+  class_long : (y : SlotName) (p c : ℕ) (t : Title) → IsOfClass a.roots y p c → MadeIn a t → name_of t ≡ y → (c < 170) × (t.len ≡ slot_of c)
   class_long y p c t (e, asked, slots, among, is, member) made name =
       let (u, was, named, sized) = title_of a.pools (a.roots p) e y (h.journals.journals p) among (subst (λ act. Contains (leaves_by act) y) (sym is) member) in
       let (real, len) = subst (λ act. HasLen act u) is sized in

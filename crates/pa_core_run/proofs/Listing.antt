@@ -44,35 +44,35 @@ no_gives [] e = refl
 no_gives (x ∷ xs) e = absurd (let P : List RootAct → Type 0 = λ ys. (length ys ≡ 0) in let z : length (gives (x ∷ xs)) ≡ 0 = subst P (sym e) refl in omega arith)
 
 -- what a thread's lists have when one of them changed, of a partition or of none that there is
-pub over_lists : (partitions p class : ℕ) (y : SlotName) (cache after : Cache) (xs : List Numbered) (more : ℕ) → class < 59 → SameLists after (with_list cache p class xs) →
+pub over_lists : (partitions p class : ℕ) (y : SlotName) (cache after : Cache) (xs : List Numbered) (more : ℕ) → class < 170 → SameLists after (with_list cache p class xs) →
     stands y xs ≡ stands y (cache p class) + more →
-    over partitions (λ q. listed_times y (after q) 0 59) ≤ over partitions (λ q. listed_times y (cache q) 0 59) + more
+    over partitions (λ q. listed_times y (after q) 0 170) ≤ over partitions (λ q. listed_times y (cache q) 0 170) + more
 over_lists partitions p class y cache after xs more real becomes grows =
     let change = listed_changed y cache after p class xs real (λ c. becomes p c) in
-    let same : (q : ℕ) → (q ≡ p → ⊥) → listed_times y (after q) 0 59 ≡ listed_times y (cache q) 0 59 =
-    λ q ne. listed_agree y (after q) (cache q) 0 59 (λ c low. becomes q c ∙ list_of_another cache p class xs q c ne) in
+    let same : (q : ℕ) → (q ≡ p → ⊥) → listed_times y (after q) 0 170 ≡ listed_times y (cache q) 0 170 =
+    λ q ne. listed_agree y (after q) (cache q) 0 170 (λ c low. becomes q c ∙ list_of_another cache p class xs q c ne) in
     elim (cases_lt p partitions) [
-      | inl inside ↦ let one = over_one partitions p (λ q. listed_times y (cache q) 0 59) (λ q. listed_times y (after q) 0 59) inside same in omega arith
-      | inr past ↦ let all = past_all partitions p (λ q. listed_times y (cache q) 0 59) (λ q. listed_times y (after q) 0 59) past same in omega arith
+      | inl inside ↦ let one = over_one partitions p (λ q. listed_times y (cache q) 0 170) (λ q. listed_times y (after q) 0 170) inside same in omega arith
+      | inr past ↦ let all = past_all partitions p (λ q. listed_times y (cache q) 0 170) (λ q. listed_times y (after q) 0 170) past same in omega arith
     ]
   where
     past_all : (n i : ℕ) (f g : ℕ → ℕ) → n ≤ i → ((j : ℕ) → (j ≡ i → ⊥) → g j ≡ f j) → over n g ≡ over n f
     past_all zero i f g le h = refl
     past_all (suc n) i f g le h = let ne : n ≡ i → ⊥ = λ e. omega (arith, e) in omega (arith, past_all n i f g (omega arith) h, h n ne)
 
-pub less_lists : (partitions p class : ℕ) (y : SlotName) (cache after : Cache) (xs : List Numbered) (less : ℕ) → class < 59 → p < partitions → SameLists after (with_list cache p class xs) →
+pub less_lists : (partitions p class : ℕ) (y : SlotName) (cache after : Cache) (xs : List Numbered) (less : ℕ) → class < 170 → p < partitions → SameLists after (with_list cache p class xs) →
     stands y xs + less ≡ stands y (cache p class) →
-    over partitions (λ q. listed_times y (after q) 0 59) + less ≤ over partitions (λ q. listed_times y (cache q) 0 59)
+    over partitions (λ q. listed_times y (after q) 0 170) + less ≤ over partitions (λ q. listed_times y (cache q) 0 170)
 less_lists partitions p class y cache after xs less real inside becomes falls =
     let change = listed_changed y cache after p class xs real (λ c. becomes p c) in
-    let same : (q : ℕ) → (q ≡ p → ⊥) → listed_times y (after q) 0 59 ≡ listed_times y (cache q) 0 59 =
-    λ q ne. listed_agree y (after q) (cache q) 0 59 (λ c low. becomes q c ∙ list_of_another cache p class xs q c ne) in
-    let one = over_one partitions p (λ q. listed_times y (cache q) 0 59) (λ q. listed_times y (after q) 0 59) inside same in
+    let same : (q : ℕ) → (q ≡ p → ⊥) → listed_times y (after q) 0 170 ≡ listed_times y (cache q) 0 170 =
+    λ q ne. listed_agree y (after q) (cache q) 0 170 (λ c low. becomes q c ∙ list_of_another cache p class xs q c ne) in
+    let one = over_one partitions p (λ q. listed_times y (cache q) 0 170) (λ q. listed_times y (after q) 0 170) inside same in
     omega arith
 
 -- what a slot that came back makes of the lists
-pub lists_grow : (partitions : ℕ) (roots : Journals) (x : Played) (slot : Numbered) (cache after : Cache) (y : SlotName) → ((p class : ℕ) → IsOfClass roots slot.slot p class → class < 59) → NoActs roots x.line → ReturnRow roots x slot cache after →
-    over partitions (λ q. listed_times y (after q) 0 59) ≤ over partitions (λ q. listed_times y (cache q) 0 59) + once y slot.slot
+pub lists_grow : (partitions : ℕ) (roots : Journals) (x : Played) (slot : Numbered) (cache after : Cache) (y : SlotName) → ((p class : ℕ) → IsOfClass roots slot.slot p class → class < 170) → NoActs roots x.line → ReturnRow roots x slot cache after →
+    over partitions (λ q. listed_times y (after q) 0 170) ≤ over partitions (λ q. listed_times y (cache q) 0 170) + once y slot.slot
 lists_grow partitions roots x slot cache after y real none (inl (p, class, of, only, becomes)) =
     let list = slot ∷ cache p class in
     let nothing : spilled class list ≡ [] = no_gives (spilled class list) (sym only.0 ∙ none p) in
@@ -83,8 +83,8 @@ lists_grow partitions roots x slot cache after y real none (inl (p, class, of, o
 lists_grow partitions roots x slot cache after y real none (inr (p, asked, number, direct, only, becomes)) = absurd (no_only roots x.line p _ [] none only)
 
 -- if a slot was made from the front of a list, the thread's lists have it once less, and no other slot more often
-pub lists_fall : (partitions : ℕ) (roots : Journals) (x : Played) (seen : Seen) (cache after : Cache) → ((p class : ℕ) → AsksForClass x.op p class → (p < partitions) × (class < 59)) → NoActs roots x.line → MadeRow roots x seen cache after →
-    (y : SlotName) → over partitions (λ q. listed_times y (after q) 0 59) + once y seen.slot ≤ over partitions (λ q. listed_times y (cache q) 0 59)
+pub lists_fall : (partitions : ℕ) (roots : Journals) (x : Played) (seen : Seen) (cache after : Cache) → ((p class : ℕ) → AsksForClass x.op p class → (p < partitions) × (class < 170)) → NoActs roots x.line → MadeRow roots x seen cache after →
+    (y : SlotName) → over partitions (λ q. listed_times y (after q) 0 170) + once y seen.slot ≤ over partitions (λ q. listed_times y (cache q) 0 170)
 lists_fall partitions roots x seen cache after real none (inl (p, class, xs, rest, asks, filled, front, becomes)) y =
     let (inside, class_few) = real p class asks in
     let had = had_front (cache p class) filled in

@@ -131,11 +131,11 @@ module _ (a : Parts) (before rest : List Played) (x : Played) (h : IsFiled a) (p
       ]
 
   -- the lists of the other threads, whatever the thread's own are
-  pub lists_beside : (list : Cache) (j : ℕ) (y : SlotName) → (j ≡ x.thread → ⊥) → over a.partitions (λ p. listed_times y (with_cache st.caches x.thread list j p) 0 59) ≡ in_lists a.partitions st y (suc j)
+  pub lists_beside : (list : Cache) (j : ℕ) (y : SlotName) → (j ≡ x.thread → ⊥) → over a.partitions (λ p. listed_times y (with_cache st.caches x.thread list j p) 0 170) ≡ in_lists a.partitions st y (suc j)
   lists_beside list j y ne =
       let same : with_cache st.caches x.thread list j ≡ st.caches j = rw (ne_eqb j x.thread ne) refl in
-      over_same a.partitions (λ p. listed_times y (st.caches j p) 0 59) (λ p. listed_times y (with_cache st.caches x.thread list j p) 0 59)
-      (λ p. ap (λ (c : Cache). listed_times y (c p) 0 59) same)
+      over_same a.partitions (λ p. listed_times y (st.caches j p) 0 170) (λ p. listed_times y (with_cache st.caches x.thread list j p) 0 170)
+      (λ p. ap (λ (c : Cache). listed_times y (c p) 0 170) same)
 
   pub lists_left : (content : SlotName → ℕ) (j : ℕ) (y : SlotName) → (j ≡ x.thread → ⊥) →
       in_lists a.partitions (after_record a before x st regs_left cache_left content) y (suc j) ≡ in_lists a.partitions st y (suc j)
@@ -184,8 +184,8 @@ module _ (a : Parts) (before rest : List Played) (x : Played) (h : IsFiled a) (p
   lists_same content same (suc j) y = elim (cases_eq j x.thread) [
     | inl e ↦
         let there : with_cache st.caches x.thread cache_left j ≡ cache_left = rw (eq-eqb j x.thread e) refl in
-        over_same a.partitions (λ p. listed_times y (st.caches j p) 0 59) (λ p. listed_times y (with_cache st.caches x.thread cache_left j p) 0 59)
-        (λ p. ap (λ (c : Cache). listed_times y (c p) 0 59) there ∙ (listed_agree y (cache_left p) (st.caches x.thread p) 0 59 (λ c low. same p c) ∙ ap (λ i. listed_times y (st.caches i p) 0 59) (sym e)))
+        over_same a.partitions (λ p. listed_times y (st.caches j p) 0 170) (λ p. listed_times y (with_cache st.caches x.thread cache_left j p) 0 170)
+        (λ p. ap (λ (c : Cache). listed_times y (c p) 0 170) there ∙ (listed_agree y (cache_left p) (st.caches x.thread p) 0 170 (λ c low. same p c) ∙ ap (λ i. listed_times y (st.caches i p) 0 170) (sym e)))
     | inr ne ↦ lists_left content j y ne
   ]
 

@@ -44,17 +44,18 @@ slots_from lists class (suc n) = lists class ++ slots_from lists (class + 1) n
 -- the slots of the lists of all classes of the first partitions
 abbrev pub all_slots : Cache → ℕ → List Numbered
 all_slots cache zero = []
-all_slots cache (suc p) = all_slots cache p ++ slots_from (cache p) 0 59
+all_slots cache (suc p) = all_slots cache p ++ slots_from (cache p) 0 170
 
 slots_stand : (y : SlotName) (lists : ℕ → List Numbered) (class n : ℕ) → stands y (slots_from lists class n) ≡ listed_times y lists class n
+unfolding listed_times
 slots_stand y lists class zero = refl
 slots_stand y lists class (suc n) = let a = stands_append y (lists class) (slots_from lists (class + 1) n) in let ih = slots_stand y lists (class + 1) n in omega arith
 
-all_stand : (y : SlotName) (cache : Cache) (partitions : ℕ) → stands y (all_slots cache partitions) ≡ over partitions (λ p. listed_times y (cache p) 0 59)
+all_stand : (y : SlotName) (cache : Cache) (partitions : ℕ) → stands y (all_slots cache partitions) ≡ over partitions (λ p. listed_times y (cache p) 0 170)
 all_stand y cache zero = refl
 all_stand y cache (suc p) =
-    let a = stands_append y (all_slots cache p) (slots_from (cache p) 0 59) in
-    let b = slots_stand y (cache p) 0 59 in
+    let a = stands_append y (all_slots cache p) (slots_from (cache p) 0 170) in
+    let b = slots_stand y (cache p) 0 170 in
     let ih = all_stand y cache p in
     omega arith
 
@@ -68,15 +69,15 @@ slot_among lists class (suc n) m among = elim (Contains-append_cases (lists clas
 
 all_among : (cache : Cache) (partitions : ℕ) (m : Numbered) → Contains (all_slots cache partitions) m → (p c : ℕ) × Contains (cache p c) m
 all_among cache zero m among = absurd (not_in_none m among)
-all_among cache (suc p) m among = elim (Contains-append_cases (all_slots cache p) (slots_from (cache p) 0 59) m among) [
+all_among cache (suc p) m among = elim (Contains-append_cases (all_slots cache p) (slots_from (cache p) 0 170) m among) [
   | inl before ↦ all_among cache p m before
-  | inr here ↦ let (c, there) = slot_among (cache p) 0 59 m here in (p, c, there)
+  | inr here ↦ let (c, there) = slot_among (cache p) 0 170 m here in (p, c, there)
 ]
 
 -- empty lists have none
-none_over : (y : SlotName) (cache : Cache) (partitions : ℕ) → ((p c : ℕ) → cache p c ≡ []) → over partitions (λ p. listed_times y (cache p) 0 59) ≡ 0
+none_over : (y : SlotName) (cache : Cache) (partitions : ℕ) → ((p c : ℕ) → cache p c ≡ []) → over partitions (λ p. listed_times y (cache p) 0 170) ≡ 0
 none_over y cache zero none = refl
-none_over y cache (suc p) none = let ih = none_over y cache p none in let here = listed_none y (cache p) 0 59 (none p) in omega arith
+none_over y cache (suc p) none = let ih = none_over y cache p none in let here = listed_none y (cache p) 0 170 (none p) in omega arith
 
 -- a purge of a partition ends with its Purge
 pub purge_in : (lists : ℕ → List Numbered) (class n : ℕ) → Contains (purge_acts lists class n) Purge
@@ -98,7 +99,7 @@ module _ (a : Parts) (before rest : List Played) (x : Played) (h : IsFiled a) (p
 
   pub giving : (p : ℕ) → AreGiving (acts_of a.roots x.line p)
   giving p = elim (cases_lt p a.partitions) [
-    | inl low ↦ subst AreGiving (sym (purged_row.0 p low)) (giving_purge (cache p) 0 59)
+    | inl low ↦ subst AreGiving (sym (purged_row.0 p low)) (giving_purge (cache p) 0 170)
     | inr past ↦ subst AreGiving (sym (acts_past p past)) tt
   ]
 
@@ -117,8 +118,9 @@ module _ (a : Parts) (before rest : List Played) (x : Played) (h : IsFiled a) (p
     | inl old ↦ inl old
     | inr (p, made, some) ↦ elim (cases_lt p a.partitions) [
       | inl low ↦
-          let same : back_in (name_of u) (acts_of a.roots x.line p) ≡ listed_times (name_of u) (cache p) 0 59 = ap (back_in (name_of u)) (purged_row.0 p low) ∙ back_purge (name_of u) (cache p) 0 59 in
-          let part = over_part a.partitions p (λ q. listed_times (name_of u) (cache q) 0 59) low in
+          let same : back_in (name_of u) (acts_of a.roots x.line p) ≡ listed_times (name_of u) (cache p) 0 170 =
+          ap (back_in (name_of u)) (purged_row.0 p low) ∙ back_purge (name_of u) (cache p) 0 170 in
+          let part = over_part a.partitions p (λ q. listed_times (name_of u) (cache q) 0 170) low in
           let all = all_stand (name_of u) cache a.partitions in
           inr (title_among a (all_slots cache a.partitions) purged_titles purged_titled.1 u h (p, inl (made_at_end a h p (x.line + 1) u made)) (omega arith))
       | inr past ↦ let none : back_in (name_of u) (acts_of a.roots x.line p) ≡ 0 = ap (back_in (name_of u)) (acts_past p past) in absurd (omega arith)
@@ -132,5 +134,5 @@ module _ (a : Parts) (before rest : List Played) (x : Played) (h : IsFiled a) (p
       let none = none_over y (cache_left a before rest x h parts st f) a.partitions purged_row.2 in
       let named = named_stands a (all_slots cache a.partitions) purged_titles purged_titled.1 y in
       let all = all_stand y cache a.partitions in
-      let had : in_lists a.partitions st y (suc x.thread) ≡ over a.partitions (λ p. listed_times y (cache p) 0 59) = refl in
+      let had : in_lists a.partitions st y (suc x.thread) ≡ over a.partitions (λ p. listed_times y (cache p) 0 170) = refl in
       omega arith

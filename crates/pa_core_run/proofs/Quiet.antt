@@ -279,8 +279,8 @@ module _ (a : Parts) (before rest : List Played) (x : Played) (h : IsFiled a) (s
       swap_plays a before rest x h parts st f s shown cell reg op within.0 within.1 (ap (λ z. mark_of_answer x.line x.op z) answer) (cache_as (answers.Swapped entry) answer).1 none
   by_op ops.Purge op within (slots, answer, becomes) =
       let acts = (cache_as (answers.Purged slots) answer).0 0 some in
-      let e : length (purge_acts (old_cache 0) 0 59) ≡ 0 = ap length (sym acts ∙ none 0) in
-      let more = purge_some (old_cache 0) 0 59 in
+      let e : length (purge_acts (old_cache 0) 0 170) ≡ 0 = ap length (sym acts ∙ none 0) in
+      let more = purge_some (old_cache 0) 0 170 in
       absurd (omega arith)
 
 -- a record without an entry can be played

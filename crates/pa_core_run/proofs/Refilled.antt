@@ -173,7 +173,7 @@ module _ (a : Parts) (before rest : List Played) (x : Played) (h : IsFiled a) (p
   abbrev list_now : Cache
   list_now = with_list (st.caches x.thread) p class xs
 
-  lists_filled : class < 59 → st.caches x.thread p class ≡ [] → (y : SlotName) →
+  lists_filled : class < 170 → st.caches x.thread p class ≡ [] → (y : SlotName) →
       in_lists a.partitions (listing a before rest x h parts st f s shown list_now) y (suc x.thread) ≤ in_lists a.partitions st y (suc x.thread) + named_in y taken
   lists_filled real empty y =
       let mine = lists_mine a before rest x h parts st f s shown list_now y in
@@ -184,7 +184,7 @@ module _ (a : Parts) (before rest : List Played) (x : Played) (h : IsFiled a) (p
 
   -- ---- the line
 
-  pub fill_brings : class < 59 → st.caches x.thread p class ≡ [] → (mid : State) × IsBrought a before rest x h parts st f s shown list_now mid
+  pub fill_brings : class < 170 → st.caches x.thread p class ≡ [] → (mid : State) × IsBrought a before rest x h parts st f s shown list_now mid
   fill_brings real empty = titles_come a before rest x h parts st f s shown new taken list_now (record {
     can = can_cut;
     apart = all_apart new (λ t among. (new_made t among).0) fresh.1.once;

@@ -80,11 +80,12 @@ module _ (a : Parts) (before rest : List Played) (x : Played) (h : IsFiled a) (p
       let within = op_within reg p size op in
       let (none, sets) = made_sets reg p size usable seen op answer in
       let list = with_list (st.caches x.thread) p class xs in
-      let (mid, brought) = fill_brings a before rest x h parts st f s shown p class asked xs only class_of.real empty in
-      let fall : (y : SlotName) → over a.partitions (λ q. listed_times y (left q) 0 59) + once y seen.slot ≤ over a.partitions (λ q. listed_times y (list q) 0 59) = λ y.
+      let (mid, brought) = fill_brings a before rest x h parts st f s shown p class asked xs only (omega (arith, class_of.real)) empty in
+      let fall : (y : SlotName) → over a.partitions (λ q. listed_times y (left q) 0 170) + once y seen.slot ≤ over a.partitions (λ q. listed_times y (list q) 0 170) = λ y.
       (let one = times_cons y seen.slot (names ys) in
       let all = ap (stands y) (list_changed (st.caches x.thread) p class xs ∙ front) in
-      less_lists a.partitions p class y list left ys (once y seen.slot) class_of.real within.1 (λ q c. becomes q c ∙ list_twice (st.caches x.thread) p class xs ys q c) (omega arith)) in
+      less_lists a.partitions p class y list left ys (once y seen.slot) (omega (arith, class_of.real)) within.1
+      (λ q c. becomes q c ∙ list_twice (st.caches x.thread) p class xs ys q c) (omega arith)) in
       issue_plays a before rest x h parts st f s shown reg p size usable seen list mid op answer within.0 none sets fall brought
 
   -- by the thread's list
@@ -114,7 +115,7 @@ module _ (a : Parts) (before rest : List Played) (x : Played) (h : IsFiled a) (p
       let xs : List Numbered = record { slot = seen.slot; number = 0 } ∷ cache p 0 in
       let list = with_list cache p 0 xs in
       let (mid, brought) = map_brings a before rest x h parts st f s shown p asked len seen.slot only in
-      let fall : (y : SlotName) → over a.partitions (λ q. listed_times y (left a before rest x h parts st f s shown q) 0 59) + once y seen.slot ≤ over a.partitions (λ q. listed_times y (list q) 0 59) = λ y.
+      let fall : (y : SlotName) → over a.partitions (λ q. listed_times y (left a before rest x h parts st f s shown q) 0 170) + once y seen.slot ≤ over a.partitions (λ q. listed_times y (list q) 0 170) = λ y.
       (let one = times_cons y seen.slot (names (cache p 0)) in
       let all = ap (stands y) (list_changed cache p 0 xs) in
       less_lists a.partitions p 0 y list (left a before rest x h parts st f s shown) (cache p 0) (once y seen.slot) (omega arith) within.1 (λ q c. same q c ∙ list_back cache p 0 xs q c) (omega arith)) in

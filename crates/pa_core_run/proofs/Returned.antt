@@ -49,7 +49,7 @@ module _ (a : Parts) (before rest : List Played) (x : Played) (h : IsFiled a) (p
   Grows list slot = (y : SlotName) → in_lists a.partitions (listing a before rest x h parts st f s shown list) y (suc x.thread) ≤ in_lists a.partitions st y (suc x.thread) + once y slot
 
   -- a slot before a list is one more of it
-  pub one_more : (p class : ℕ) (slot : Numbered) → class < 59 → Grows (with_list (st.caches x.thread) p class (slot ∷ st.caches x.thread p class)) slot.slot
+  pub one_more : (p class : ℕ) (slot : Numbered) → class < 170 → Grows (with_list (st.caches x.thread) p class (slot ∷ st.caches x.thread p class)) slot.slot
   one_more p class slot real y =
       let cache = st.caches x.thread in
       let list = with_list cache p class (slot ∷ cache p class) in

@@ -1,5 +1,5 @@
 -- A slot that came to the front of a list which spills: what doesn't stay of the list goes back to the root.
-use Rattle.std.proofs.Common.{◌≡◌, ℕ, suc, ◌+◌, ◌*◌, ◌/◌, ◌<◌, ◌≤◌, List, [], ◌∷◌, ◌++◌, sym, ◌∙◌, ap, subst, arith, inl, inr}
+use Rattle.std.proofs.Common.{◌≡◌, ℕ, suc, ◌+◌, ◌*◌, ◌<◌, ◌≤◌, List, ◌∷◌, ◌++◌, sym, ◌∙◌, ap, subst, arith, inl, inr}
 use Rattle.std.proofs.lemmas.Bool.{cases_eq}
 use Rattle.pa_slot.specs.declared.word.SlotName.{SlotName}
 use Rattle.pa_slot.specs.declared.title.Title.{Title}
@@ -54,7 +54,7 @@ module _ (a : Parts) (before rest : List Played) (x : Played) (h : IsFiled a) (p
   abbrev left : Cache
   left = cache_left a before rest x h parts st f
 
-  real : class < 59
+  real : class < 170
   real = class_real a.pools a.roots slot.slot p class (h.journals.journals p) of
 
   -- the slots of the list have titles
@@ -70,7 +70,7 @@ module _ (a : Parts) (before rest : List Played) (x : Played) (h : IsFiled a) (p
   ts = titled.0
 
   -- with what goes back the thread's lists are what they were with the slot
-  lists_fall : (y : SlotName) → over a.partitions (λ q. listed_times y (left q) 0 59) + named_in y ts ≤ over a.partitions (λ q. listed_times y (list_full q) 0 59)
+  lists_fall : (y : SlotName) → over a.partitions (λ q. listed_times y (left q) 0 170) + named_in y ts ≤ over a.partitions (λ q. listed_times y (list_full q) 0 170)
   lists_fall y =
       let split = stands_kept y class list in
       let full = ap (stands y) (list_changed (st.caches x.thread) p class list) in
@@ -98,7 +98,7 @@ module _ (a : Parts) (before rest : List Played) (x : Played) (h : IsFiled a) (p
     ]
   ]
 
-  -- so they go back, and the core shows the next roots
+  -- from a core that shows the list with the slot, the thread's events give back what doesn't stay and lead to the next roots
   pub slots_go : (mid : State) → IsShown (titles_in a (root_at a x.line)) (a.threads + 1) (2097152 * a.supers) (ledger_of a.partitions (given_st a before rest x h parts st f s shown list_full)) mid →
       (last : State) × IsReached (names_next a before rest x h parts st f s shown) (a.threads + 1) (2097152 * a.supers) (ledger_of a.partitions (given_st a before rest x h parts st f s shown left)) mid (suc x.thread) last
   slots_go mid now =

@@ -99,7 +99,7 @@ module _ (names : Titles) (partitions actors bytes : ℕ) (st : Standing) (s : S
       let all = h.ref (suc k) t below made in
       omega arith
 
-  -- so a register that names the slot is a handle
+  -- a thread with an Own or a Ref of a made title's slot in a register has a handle to the title
   pub has_handle : (k reg : ℕ) (t : Title) → suc k < actors → reg < 64 → names.Made t → (st.regs k reg ≡ Own (name_of t)) ⊎ (st.regs k reg ≡ Ref (name_of t)) → HasHandle s (suc k) t
   has_handle k reg t below few made (inl owner) = inl (has_own k reg t below few made owner)
   has_handle k reg t below few made (inr pointer) = inr (has_ref k reg t below few made pointer)

@@ -47,7 +47,7 @@ module _ (a : Parts) (xs : List Numbered) (ts : List Title) (are : AreTitlesOf a
   pub named_stands : (y : SlotName) → named_in y ts ≡ stands y xs
   named_stands y = named_times y ts ∙ ap (times y) are.named
 
-  -- and a title whose slot is in the list is among them
+  -- a made title is among the titles of a list if its slot is in the list
   pub title_among : (u : Title) → IsFiled a → MadeIn a u → 0 < stands (name_of u) xs → Contains ts u
   title_among u h made some =
       let among = times_member (name_of u) (names xs) some in

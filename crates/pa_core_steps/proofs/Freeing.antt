@@ -55,7 +55,7 @@ poisoned (suc n) s actor t a good has own room =
       subst (λ (k : ℕ). Holds q.0 actor (OwnAs t (Poisoned k))) e q.2,
     )
 
--- so do all of them, of a title that has some
+-- the holder of a clean Own can turn its first n content words to poison, one after the other, if there are n and n isn't 0
 all_poisoned : (n : ℕ) (s : State) (actor : ℕ) (t : Title) → IsGoodState s → HasActor s actor → Holds s actor (OwnAs t Clean) → 0 < n → n ≤ content_count t →
     (after : State) × IsTurn s actor t (OwnPiece t Clean ∷ []) (OwnPiece t (Poisoned n) ∷ []) (count_word s.words t) (poisons n actor t) after
     × Holds after actor (OwnAs t (Poisoned n))

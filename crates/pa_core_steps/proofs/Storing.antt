@@ -72,7 +72,7 @@ own_store s actor t a i value good has holds alone below =
       one_stored s r.0 t i value well below r.1.words,
     )
 
--- and that many
+-- the holder of a clean or dirty Own can store a value to every content word from i to the last, if no raw_ptr points to the slot
 own_stores : (n : ℕ) (s : State) (actor : ℕ) (t : Title) (a : OwnState) (i value : ℕ) → IsGoodState s → HasActor s actor → HoldsOpen s actor t a →
     refs_of (count_word s.words t) ≡ 0 → i + suc n ≡ content_count t →
     (after : State) × IsTurn s actor t (OwnPiece t a ∷ []) (OwnPiece t Dirty ∷ []) (count_word s.words t) (stores (suc n) i actor t value) after

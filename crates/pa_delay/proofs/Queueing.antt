@@ -32,10 +32,10 @@ pub some_goes : (q : QueueList) (r : Option Freed) (rest : List Freed) → q.slo
 some_goes q None rest whole many = tt
 some_goes q (Some s) rest whole many = front_goes q s rest whole many
 
--- a slot has at most 917,504 bytes
-pub bytes_few : (xs : List Freed) → HaveClasses xs → freed_bytes xs ≤ 917504 * length xs
+-- a slot has at most 983,040 bytes
+pub bytes_few : (xs : List Freed) → HaveClasses xs → freed_bytes xs ≤ 983040 * length xs
 bytes_few [] all = omega arith
 bytes_few (x ∷ xs) all =
-    let one = (IsRow-of x.class (All-head (λ (s : Freed). s.class < 59) x xs all)).greatest_slot in
-    let rest = bytes_few xs (All-tail (λ (s : Freed). s.class < 59) x xs all) in
+    let one = (IsRow-of x.class (All-head (λ (s : Freed). s.class < 170) x xs all)).greatest_slot in
+    let rest = bytes_few xs (All-tail (λ (s : Freed). s.class < 170) x xs all) in
     omega arith

@@ -15,7 +15,8 @@ use Rattle.pa_record.specs.declared.root.RootEntry.{RootEntry}
 use Rattle.pa_record.specs.declared.root.RootAct.{RootAct}
 use Rattle.pa_record.specs.declared.root.RootAct.TheVariants.{Fill}
 use Rattle.pa_record.specs.Worked.{slots, fill}
-use Rattle.pa_rules.specs.Caches.{Cache, Caches, with_list, with_cache, acts_of, IsOfClass, MadeRow, no_caches}
+use Rattle.pa_rules.specs.Caches.{Cache, Caches, with_list, with_cache, acts_of, IsOfClass, MadeRow, no_caches, listed_slots}
+use Rattle.pa_rules.specs.Report.{listed_bytes}
 use Rattle.pa_rules.specs.Worked.{first_slot, of_first_thread}
 use Rattle.pa_rules.proofs.Worked.{class_0}
 use Rattle.pa_delay.specs.Queue.{GoesPast}
@@ -121,7 +122,7 @@ made_second : MadeRow waiting_roots (of_first_thread 4 (ops.Alloc 1 0 8) (answer
 made_second = inl (0, 0, after_one, after_two, (1, 8, refl, class_0), (refl, none_4), refl, λ p c. refl)
 
 leaves : AllLeave waiting_roots (a ∷ []) lists_4 (λ q. []) lists_5
-unfolding limit_of
+unfolding rows row_of limit_of
 leaves = (lists_5, (λ q. []), (λ q. []), (0, 0, a_is, nothing, λ p c. refl), ((λ q. refl), λ p c. refl), λ q. refl)
   where
     nothing : (q : ℕ) → [] ≡ cond {A = List RootAct} (q == 0) [] []
@@ -157,7 +158,7 @@ walked = (
 )
 
 pub one_waits : OneWaits
-unfolding rows row_of slot_of
+unfolding rows row_of slot_of listed_slots listed_bytes
 one_waits = record {
   rows = (all_after, left_after, walked);
   cached = (

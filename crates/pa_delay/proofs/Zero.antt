@@ -71,7 +71,7 @@ module _ (pools : List PoolEntry) (roots : Journals) (journals : (p : ℕ) → I
       let (quiet, same) = subst (λ zs. AllLeave roots zs before.lists acts mid) none leave in
       let long : length before.queue ≡ 0 = ap length none in (
         (
-          λ p below. are p below ∙ (ap (λ zs. zs ++ purge_acts (mid p) 0 59) (quiet p) ∙ purge_alike (mid p) (before.lists p) (same p) 0 59),
+          λ p below. are p below ∙ (ap (λ zs. zs ++ purge_acts (mid p) 0 170) (quiet p) ∙ purge_alike (mid p) (before.lists p) (same p) 0 170),
           omega arith,
           lists,
         ),

@@ -94,7 +94,7 @@ module _ (t : Trace) (c : Course) (v : View) (limits : IsWithinLimits t) (course
           | inr none ↦ ap (entered_in p) (told.idle m.stake none)
         ]
 
-    -- so it made none, and the first entry isn't there
+    -- the list of partition p, which is past the run's, has no first entry
     no_first : ⊥
     no_first =
         let small = (subst (λ l. Each (λ (n : Made). n.stake < 16) l) first (closes.aware.makers p)).0 in

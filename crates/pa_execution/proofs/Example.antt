@@ -13,7 +13,8 @@ use Rattle.pa_region.specs.Aware.{IsAware}
 use Rattle.pa_region.proofs.Awareness.{aware_of}
 use Rattle.pa_region.proofs.FirstLists.{stake_count}
 use Rattle.pa_region.proofs.Opens.{opens}
-use Rattle.pa_rules.specs.Caches.{NoActs}
+use Rattle.pa_rules.specs.Caches.{NoActs, listed_slots}
+use Rattle.pa_rules.specs.Report.{listed_bytes}
 use Rattle.pa_logs.specs.Said.{IsLineSaid, LayersSay}
 use Rattle.pa_logs.proofs.Said.{layers_tell_all}
 use Rattle.pa_op_specs.specs.Counts.{CountsBy}
@@ -205,7 +206,7 @@ abbrev Counted : ℕ → Type 0
 Counted n = IsLineBy small_trace small_course small_seat (small_report n)
 
 by_worker : (n : ℕ) → 1 ≤ n → n ≤ 2 → Counted n
-unfolding slot_of row_of rows
+unfolding listed_slots listed_bytes slot_of row_of rows
 by_worker = two_phases Counted
     (record {
       live = record { slots = refl; bytes = refl };

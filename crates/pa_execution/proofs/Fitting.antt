@@ -177,7 +177,7 @@ module _ (t : Trace) (r : Told) (c : Course) (v : View) (xs : List Exchange) (ru
       starts_many zero k low high few = absurd (omega arith)
       starts_many (suc n) k low high few = (starts_of t c run.left.limits run.course k n high few).many
 
-  -- so each record is what the run asks
+  -- each record is what the run requires of it, by its thread's state before it and after it
   pub answer : (x : ToldRecord) (among : Contains ts x) → AnswersIn (outcome_of t r) (played x among).before.stock (played x among).after.stock x
   answer x among =
       let is = within t c run.left.limits run.course x among in

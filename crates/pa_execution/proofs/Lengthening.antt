@@ -144,7 +144,7 @@ module _ (partitions : ℕ) (pools : List PoolEntry) (roots : Journals) (journal
 
   -- a slot that an entry hands out has the length that the journals say
   pub handed_out : (p : ℕ) (e : RootEntry) (class : Option ℕ) (t : Title) → Contains (roots p) e → HandsOut class t e.act → lengths_by partitions pools roots (name_of t) ≡ t.len
-  handed_out p e (Some class) t among (asked, slots, act, member, size) =
+  handed_out p e (Some class) t among (asked, slots, act, member, size, small) =
       let (u, by, name, len) = title_of pools (roots p) e (name_of t) (journals p) among (subst (λ a. Contains (leaves_by a) (name_of t)) (sym act) member) in
       let (real, long) = subst (λ a. HasLen a u) act len in
       ap (λ n. lengths_by partitions pools roots n) (sym name) ∙ (made p u by ∙ (long ∙ sym size))
@@ -161,7 +161,7 @@ module _ (partitions : ℕ) (pools : List PoolEntry) (roots : Journals) (journal
 
   -- a slot that an entry hands out has the partition that the journals say
   pub handed_home : (p : ℕ) (e : RootEntry) (class : Option ℕ) (t : Title) → Contains (roots p) e → HandsOut class t e.act → homes_by partitions pools roots (name_of t) ≡ p
-  handed_home p e (Some class) t among (asked, slots, act, member, size) =
+  handed_home p e (Some class) t among (asked, slots, act, member, size, small) =
       let (u, by, name, len) = title_of pools (roots p) e (name_of t) (journals p) among (subst (λ a. Contains (leaves_by a) (name_of t)) (sym act) member) in
       ap (λ n. homes_by partitions pools roots n) (sym name) ∙ home_made p u by
   handed_home p e None t among (asked, act) =

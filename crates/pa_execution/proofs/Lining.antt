@@ -62,18 +62,18 @@ module _ (t : Trace) (c : Course) (n p : ℕ) where
   has_lists : (k : ℕ) → k < t.threads → lists_at t c n k ≡ lists_of k
   has_lists k few = rw (lt-ltb k t.threads few) refl
 
-  slots_over : (m : ℕ) → m ≤ t.threads → cached_slots (lists_at t c n) p m ≡ sum_over (λ k. listed_slots (lists_of k p) 0 59) m
+  slots_over : (m : ℕ) → m ≤ t.threads → cached_slots (lists_at t c n) p m ≡ sum_over (λ k. listed_slots (lists_of k p) 0 170) m
   slots_over zero few = refl
   slots_over (suc m) few =
-      let here : listed_slots (lists_at t c n m p) 0 59 ≡ listed_slots (lists_of m p) 0 59 = ap (λ (z : Cache). listed_slots (z p) 0 59) (has_lists m (omega arith)) in
+      let here : listed_slots (lists_at t c n m p) 0 170 ≡ listed_slots (lists_of m p) 0 170 = ap (λ (z : Cache). listed_slots (z p) 0 170) (has_lists m (omega arith)) in
       let rest = slots_over m (omega arith) in
       omega arith
 
-  bytes_over : (m : ℕ) → m ≤ t.threads → cached_bytes (lists_at t c n) p m ≡ sum_over (λ k. listed_bytes (λ class. length (lists_of k p class)) 0 59) m
+  bytes_over : (m : ℕ) → m ≤ t.threads → cached_bytes (lists_at t c n) p m ≡ sum_over (λ k. listed_bytes (λ class. length (lists_of k p class)) 0 170) m
   bytes_over zero few = refl
   bytes_over (suc m) few =
-      let here : listed_bytes (λ class. length (lists_at t c n m p class)) 0 59 ≡ listed_bytes (λ class. length (lists_of m p class)) 0 59 =
-      ap (λ (z : Cache). listed_bytes (λ class. length (z p class)) 0 59) (has_lists m (omega arith)) in
+      let here : listed_bytes (λ class. length (lists_at t c n m p class)) 0 170 ≡ listed_bytes (λ class. length (lists_of m p class)) 0 170 =
+      ap (λ (z : Cache). listed_bytes (λ class. length (z p class)) 0 170) (has_lists m (omega arith)) in
       let rest = bytes_over m (omega arith) in
       omega arith
 
@@ -192,7 +192,7 @@ module _ (t : Trace) (r : Told) (c : Course) (v : View) (xs : List Exchange) (ru
         let same = ap weighed own in
         omega arith
 
-    -- so did all threads together
+    -- at the end of phase n all threads have added to a totals word the bytes of its kind that their records count up to there
     added_by : (n : ℕ) → 1 ≤ n → n ≤ phases t r c v xs run →
         added_in (c.seats n) (4 * p + q) ≡ counted_by (is_of_kind q) (bytes_of home size p) (until n (played_in (told_in t c))) t.threads
     added_by n first high =

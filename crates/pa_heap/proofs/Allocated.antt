@@ -39,7 +39,7 @@ pub record Came (s mid : StockValue) (r : ℕ) : Type 0 where
   pub now : IsStock mid
   pub now_aware : IsAware mid.view
 
--- so its seat can issue the title to the register
+-- the seat has what an issue to register r needs: the title back, its stake, a bare register, and no less budget than before
 pub record CanIssueTo (h : Handle) (s mid : StockValue) (r : ℕ) : Type 0 where
   pub back : IsBack h mid
   pub stake : HasItsStake mid

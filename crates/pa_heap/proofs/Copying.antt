@@ -91,7 +91,7 @@ point_does counts s after from to h seen is aware stake budget below within has 
     (subst (DoesOp line (ops.Copy from to) (answers.Done (record { slot = name_of h.title; found = record { 0 = seen.found.0 } })) s) (sym points.after_is)
     (copied_does counts s from to seen.found.0 h is aware stake budget below within has bare points.found line))
 
--- and if the second register has a handle
+-- a copy to a register that has a handle answers `filled` and leaves the thread state as it is
 pub copy_fills : (s : StockValue) (from to : ℕ) (h : Handle) → IsStock s → HasHandleTo h (register_in s.registers from) →
     HasSomeHandle (register_in s.registers to) →
     (line : ℕ) → DoesOp line (ops.Copy from to) answers.Filled s s

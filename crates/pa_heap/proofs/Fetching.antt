@@ -41,7 +41,7 @@ fill_back line p c s u n t rest gives is awares long low small =
         | inl here ↦ first_alone t rest gives.differ here.2
         | inr listed ↦ took_new s u n (t ∷ rest) is took q d t listed (first_in t rest)
       ];
-      made = fill_made line p c (fill_of c) s u n (t ∷ rest) gives is awares long low t (first_in t rest);
+      made = fill_made line p c (fill_of c) s u n (t ∷ rest) gives is awares long low small t (first_in t rest);
     }
 
 pub fill_brings : (line size p c : ℕ) (s : StockValue) (u n : View) (t : Title) (rest : List Title) (gives : FillGives s.thread p line c (fill_of c) s.view u n (t ∷ rest)) → (is : IsStock s) →

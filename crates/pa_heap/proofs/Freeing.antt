@@ -77,7 +77,7 @@ freed_does counts owns states s r word h is aware stake budget below own found s
       home = λ m e. (h.partition, home_of o h.partition (mark_at line (seen_at h word) (Some steps.Free)) m e slot.size);
     })
 
--- the same by what the call says
+-- a call that let go of a register's Own by a free which didn't return the slot did the op, which answers `done`
 pub free_kept : CountLeaves → OwnsChange → StatesAreOwns → (s after : StockValue) (r : ℕ) (h : Handle) (seen : Seen) → IsStock s → IsAware s.view → HasItsStake s → 0 < s.view.budget → r < 64 →
     register_in s.registers r ≡ Own h → LetsGo steps.Free h r Freed (poisoned h.title s.view) seen s after → (IsReturning steps.Free seen.found.0 → ⊥) → (line : ℕ) →
     DoesOp line (ops.Free r) (answers.Done seen) s after

@@ -67,6 +67,7 @@ acts_same xs ys i zero same = refl
 acts_same xs ys i (suc n) same = ap (λ ms. gives ms ++ purge_acts xs (i + 1) n) (same i) ∙ ap (λ acts. gives (ys i) ++ acts) (acts_same xs ys (i + 1) n same)
 
 slots_same : (xs ys : ℕ → List Numbered) (i n : ℕ) → ((c : ℕ) → xs c ≡ ys c) → listed_slots xs i n ≡ listed_slots ys i n
+unfolding listed_slots
 slots_same xs ys i zero same = refl
 slots_same xs ys i (suc n) same = ap (λ (ms : List Numbered). length ms + listed_slots xs (i + 1) n) (same i) ∙ ap (λ k. length (ys i) + k) (slots_same xs ys (i + 1) n same)
 
@@ -76,10 +77,10 @@ slots_same xs ys i (suc n) same = ap (λ (ms : List Numbered). length ms + liste
 pub record Purging (line n slots : ℕ) (s now : StockValue) : Type 0 where
   stretch : List Entry
   enters : Entering s.thread line stretch s.view now.view
-  says : (p : ℕ) → p < n → map (λ (m : Made). m.numbers) (entered_in p stretch) ≡ map root_numbers (map (root_entry line) (purge_acts (listed_in s p) 0 59))
+  says : (p : ℕ) → p < n → map (λ (m : Made). m.numbers) (entered_in p stretch) ≡ map root_numbers (map (root_entry line) (purge_acts (listed_in s p) 0 170))
   none : (p : ℕ) → n ≤ p → entered_in p stretch ≡ []
   quiet : touches stretch ≡ []
-  signs : filter_map sign_of stretch ≡ flat_map (λ p. flat_map (act_signs line p) (purge_acts (listed_in s p) 0 59)) (range_with_len 0 n)
+  signs : filter_map sign_of stretch ≡ flat_map (λ p. flat_map (act_signs line p) (purge_acts (listed_in s p) 0 170)) (range_with_len 0 n)
   uncut : (t : Title) → Contains stretch (Uncut t) → ⊥
   kept : (q c : ℕ) → titles_in now.caches q c ≡ (if nat_lt q n then [] else titles_in s.caches q c)
   numbers : (m : ℕ) (t : Title) → IsWellFormed m t → 0 < free_of now.view t → seen_of now.view t ≡ seen_of s.view t
@@ -161,12 +162,12 @@ pub purging_more : (line n slots more : ℕ) (s now next : StockValue) → IsSto
 purging_more line n slots more s now next is some (more_is, given) below low = record {
   stretch = some.stretch ++ es;
   enters = entering_both s.thread line some.stretch es s.view now.view next.view some.enters
-      (subst (λ k. Entering k line es now.view next.view) some.same.0 (gives_enters line n (purge_acts (listed_in now n) 0 59) (without_lists n (titles_in now.caches)) now next given (omega arith)));
+      (subst (λ k. Entering k line es now.view next.view) some.same.0 (gives_enters line n (purge_acts (listed_in now n) 0 170) (without_lists n (titles_in now.caches)) now next given (omega arith)));
   says = λ p lower. elim (eqb_tells p n) [
     | inl y ↦
-        subst (λ q. map (λ (m : Made). m.numbers) (entered_in q (some.stretch ++ es)) ≡ map root_numbers (map (root_entry line) (purge_acts (listed_in s q) 0 59))) (sym y.1)
+        subst (λ q. map (λ (m : Made). m.numbers) (entered_in q (some.stretch ++ es)) ≡ map root_numbers (map (root_entry line) (purge_acts (listed_in s q) 0 170))) (sym y.1)
         (ap (map (λ (m : Made). m.numbers)) (entered_append n some.stretch es ∙ (ap (λ ms. ms ++ entered_in n es) (some.none n (omega arith)) ∙ entered_here n given.entries))
-        ∙ (given.says ∙ ap (λ acts. map root_numbers (map (root_entry line) acts)) (acts_same (listed_in now n) (listed_in s n) 0 59 lists)))
+        ∙ (given.says ∙ ap (λ acts. map root_numbers (map (root_entry line) acts)) (acts_same (listed_in now n) (listed_in s n) 0 170 lists)))
     | inr away ↦
         ap (map (λ (m : Made). m.numbers)) (entered_append p some.stretch es ∙ (ap (λ ms. entered_in p some.stretch ++ ms) (entered_elsewhere n p given.entries away.1) ∙ append-nil (entered_in p some.stretch)))
         ∙ some.says p (less p n lower away.1)
@@ -175,11 +176,11 @@ purging_more line n slots more s now next is some (more_is, given) below low = r
       entered_append p some.stretch es ∙ (ap (λ ms. ms ++ entered_in p es) (some.none p (omega arith)) ∙ entered_elsewhere n p given.entries (λ e. omega arith));
   quiet = filter-append is_touch some.stretch es ∙ (ap (λ ms. ms ++ touches es) some.quiet ∙ entered_quiet n given.entries);
   signs =
-      let acts : ℕ → List RootAct = λ p. purge_acts (listed_in s p) 0 59 in
+      let acts : ℕ → List RootAct = λ p. purge_acts (listed_in s p) 0 170 in
       let signs_in : ℕ → List Sign = λ p. flat_map (act_signs line p) (acts p) in
-      let here = acts_same (listed_in now n) (listed_in s n) 0 59 lists in
-      let entered = shapes_have_signs.entries line n given.entries (purge_acts (listed_in now n) 0 59) low
-      (given.says ∙ numbers_again line (purge_acts (listed_in now n) 0 59)) (purge_names_none (listed_in now n) 0 59) in
+      let here = acts_same (listed_in now n) (listed_in s n) 0 170 lists in
+      let entered = shapes_have_signs.entries line n given.entries (purge_acts (listed_in now n) 0 170) low
+      (given.says ∙ numbers_again line (purge_acts (listed_in now n) 0 170)) (purge_names_none (listed_in now n) 0 170) in
       filter_map-append sign_of some.stretch es ∙ ap (λ ys. ys ++ filter_map sign_of es) some.signs
       ∙ ap (λ ys. flat_map signs_in (range_with_len 0 n) ++ ys) (entered ∙ ap (flat_map (act_signs line n)) here)
       ∙ sym (range_more signs_in 0 n ∙ ap (λ k. flat_map signs_in (range_with_len 0 n) ++ signs_in k) (let e : 0 + n ≡ n = omega arith in e));
@@ -193,8 +194,8 @@ purging_more line n slots more s now next is some (more_is, given) below low = r
   same = (given.same.0 ∙ some.same.0, given.same.1 ∙ some.same.1, given.same.2 ∙ some.same.2);
   count =
       let e : s.partitions - n ≡ suc (s.partitions - (n + 1)) = omega arith in
-      let f : all_listed (listed_in s) n (s.partitions - n) ≡ listed_slots (listed_in s n) 0 59 + all_listed (listed_in s) (n + 1) (s.partitions - (n + 1)) = ap (all_listed (listed_in s) n) e in
-      let g = slots_same (listed_in now n) (listed_in s n) 0 59 lists in
+      let f : all_listed (listed_in s) n (s.partitions - n) ≡ listed_slots (listed_in s n) 0 170 + all_listed (listed_in s) (n + 1) (s.partitions - (n + 1)) = ap (all_listed (listed_in s) n) e in
+      let g = slots_same (listed_in now n) (listed_in s n) 0 170 lists in
       let h = some.count in
       omega arith;
 }
@@ -259,7 +260,7 @@ purge_does line slots s now is still some =
             told = some.quiet;
             row = (slots, refl, λ k. ap (λ (rs : List StockRegister). regs_of rs k) some.same.2);
             lists = (
-              (λ p low. acts.here p (few p (subst (λ n. p < n) many low)) ∙ (ap acts_in (roots_at p (subst (λ n. p < n) many low)) ∙ acts_back line (purge_acts (listed_in s p) 0 59))),
+              (λ p low. acts.here p (few p (subst (λ n. p < n) many low)) ∙ (ap acts_in (roots_at p (subst (λ n. p < n) many low)) ∙ acts_back line (purge_acts (listed_in s p) 0 170))),
               subst (λ n. slots ≡ all_listed (listed_in s) 0 n) (sym many) total,
               (λ p c. ap (numbered_by now.view) (empty o run many sees p c)),
             );
@@ -267,22 +268,22 @@ purge_does line slots s now is still some =
             unmaps = λ seen p asked slot e done among on act. absurd (not_done seen done);
             makes = makes_each (quiet_record s now.view line phase ops.Purge (answers.Purged slots) some.stretch) (it phase) o.pools (λ p e low among. makes p e o.pools among);
             home = λ m e. absurd (not_some m e);
-            signs = some.signs ∙ ap (λ n. flat_map (λ p. flat_map (act_signs line p) (purge_acts (listed_in s p) 0 59)) (range_with_len 0 n)) (sym many)
-                ∙ range_same (λ p. flat_map (act_signs line p) (purge_acts (listed_in s p) 0 59)) (λ p. flat_map (act_signs line p) (acts_of o.roots line p)) 0 o.partitions
+            signs = some.signs ∙ ap (λ n. flat_map (λ p. flat_map (act_signs line p) (purge_acts (listed_in s p) 0 170)) (range_with_len 0 n)) (sym many)
+                ∙ range_same (λ p. flat_map (act_signs line p) (purge_acts (listed_in s p) 0 170)) (λ p. flat_map (act_signs line p) (acts_of o.roots line p)) 0 o.partitions
                 (λ p low.
                 let below : p < s.partitions = subst (λ n. p < n) many (let b : p < o.partitions = omega arith in b) in
                 ap (flat_map (act_signs line p))
-                (sym (acts.here p (few p below) ∙ (ap acts_in (roots_at p below) ∙ acts_back line (purge_acts (listed_in s p) 0 59)))));
+                (sym (acts.here p (few p below) ∙ (ap acts_in (roots_at p below) ∙ acts_back line (purge_acts (listed_in s p) 0 170)))));
           };
     })
   where
     roots : ℕ → List RootEntry
-    roots p = if nat_lt p s.partitions then map (root_entry line) (purge_acts (listed_in s p) 0 59) else []
+    roots p = if nat_lt p s.partitions then map (root_entry line) (purge_acts (listed_in s p) 0 170) else []
 
-    roots_at : (p : ℕ) → p < s.partitions → roots p ≡ map (root_entry line) (purge_acts (listed_in s p) 0 59)
+    roots_at : (p : ℕ) → p < s.partitions → roots p ≡ map (root_entry line) (purge_acts (listed_in s p) 0 170)
     roots_at p low = go (nat_lt p s.partitions) refl
       where
-        go : (b : Bool) → nat_lt p s.partitions ≡ b → (if b then map (root_entry line) (purge_acts (listed_in s p) 0 59) else []) ≡ map (root_entry line) (purge_acts (listed_in s p) 0 59)
+        go : (b : Bool) → nat_lt p s.partitions ≡ b → (if b then map (root_entry line) (purge_acts (listed_in s p) 0 170) else []) ≡ map (root_entry line) (purge_acts (listed_in s p) 0 170)
         go true is = refl
         go false is = absurd (let high : s.partitions ≤ p = grind (arith, nat_tests) in omega arith)
 
@@ -293,15 +294,15 @@ purge_does line slots s now is still some =
     entered_are p = go (nat_lt p s.partitions) refl
       where
         go : (b : Bool) → nat_lt p s.partitions ≡ b →
-            map (λ (m : Made). m.numbers) (entered_in p some.stretch) ≡ map root_numbers (if b then map (root_entry line) (purge_acts (listed_in s p) 0 59) else [])
+            map (λ (m : Made). m.numbers) (entered_in p some.stretch) ≡ map root_numbers (if b then map (root_entry line) (purge_acts (listed_in s p) 0 170) else [])
         go true is = some.says p (grind (arith, nat_tests))
         go false is = ap (map (λ (m : Made). m.numbers)) (some.none p (grind (arith, nat_tests)))
 
     asked_none : (p : ℕ) → filter asks (roots p) ≡ []
     asked_none p = go (nat_lt p s.partitions)
       where
-        go : (b : Bool) → filter asks (if b then map (root_entry line) (purge_acts (listed_in s p) 0 59) else []) ≡ []
-        go true = purge_asks_none line (listed_in s p) 0 59
+        go : (b : Bool) → filter asks (if b then map (root_entry line) (purge_acts (listed_in s p) 0 170) else []) ≡ []
+        go true = purge_asks_none line (listed_in s p) 0 170
         go false = refl
 
     it : (phase : ℕ) → Enters (quiet_record s now.view line phase ops.Purge (answers.Purged slots) some.stretch)
@@ -332,8 +333,8 @@ purge_does line slots s now is still some =
     makes : (p : ℕ) (e : RootEntry) (pools : List PoolEntry) → Contains (roots p) e → MakesEntry pools p e.act ops.Purge
     makes p e pools among = go (nat_lt p s.partitions) among
       where
-        go : (b : Bool) → Contains (if b then map (root_entry line) (purge_acts (listed_in s p) 0 59) else []) e → MakesEntry pools p e.act ops.Purge
-        go true among = made_by_purge (listed_in s p) 0 59 pools p e.act (act_among line (purge_acts (listed_in s p) 0 59) e among)
+        go : (b : Bool) → Contains (if b then map (root_entry line) (purge_acts (listed_in s p) 0 170) else []) e → MakesEntry pools p e.act ops.Purge
+        go true among = made_by_purge (listed_in s p) 0 170 pools p e.act (act_among line (purge_acts (listed_in s p) 0 170) e among)
         go false none = absurd (not_in_none e none)
 
     not_full : (j : ℕ) → answers.Purged slots ≡ answers.Full j → ⊥

@@ -17,7 +17,7 @@ use Rattle.pa_op_specs.proofs.Touching.{Touched, Touches}
 use Rattle.pa_thread_state.specs.Changes.{IsBack}
 use Rattle.pa_heap.proofs.Issuing.{Bringing}
 
--- the same was stored in both directions
+-- if w is v with other links stored in its free titles, v is w with other links stored in its free titles
 pub relinked_back : (v w : View) → Relinked v w → Relinked w v
 relinked_back v w re = record {
   rest = ap (λ (x : View). record x { words = v.words; since = record x.since { stored = v.since.stored } }) (sym re.rest);

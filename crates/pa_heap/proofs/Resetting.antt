@@ -59,7 +59,7 @@ cleared_does counts s r word h is aware stake budget below ref found stays =
       home = λ m e. (h.partition, home_of o h.partition (mark_at line (seen_at h word) (Some steps.Reset)) m e slot.size);
     })
 
--- the same by what the call says
+-- a call that let go of a register's Ref by a reset which didn't return the slot did the op, which answers `done`
 pub reset_kept : CountLeaves → (s after : StockValue) (r : ℕ) (h : Handle) (seen : Seen) → IsStock s → IsAware s.view → HasItsStake s → 0 < s.view.budget → r < 64 →
     register_in s.registers r ≡ Ref h → LetsGo steps.Reset h r Cleared s.view seen s after → (IsReturning steps.Reset seen.found.0 → ⊥) → (line : ℕ) →
     DoesOp line (ops.Reset r) (answers.Done seen) s after

@@ -273,7 +273,7 @@ spill_does stays op step h class word line s after w rs is sound of class_is sma
         let free = sound.lists.free q d t among in
         ap (λ (v : View). seen_of v t) view ∙ given.numbers well.0 t well.1 (subst (λ (v : View). 0 < free_of v t) view free)
 
-    -- and one that was listed before has the number that was seen before
+    -- titles that are listed at the end and were listed before have the numbers that were seen of them before
     both_numbers : (q d : ℕ) (ts : List Title) → ((t : Title) → Contains ts t → Contains (titles_in after.caches q d) t × Contains (titles_in s.caches q d) t) →
         numbered_by after.view ts ≡ numbered_by s.view ts
     both_numbers q d ts each =

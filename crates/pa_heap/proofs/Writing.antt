@@ -119,7 +119,7 @@ filled_does counts looks owns states fills n s reg value first word h is aware s
 seen_is : (h : Handle) (seen : Seen) → seen.slot ≡ name_of h.title → seen ≡ seen_at h seen.found.0
 seen_is h seen e = ap (λ n. record seen { slot = n }) e
 
--- the same by what the calls say
+-- a write to an Own at whose slot a look found a Ref counted did its op, which answers `shared`
 pub shared_does : LookLeaves → (s after : StockValue) (reg value : ℕ) (h : Handle) (seen : Seen) → IsStock s → IsAware s.view → HasItsStake s → reg < 64 →
     register_in s.registers reg ≡ Own h → LooksAtSlot h seen s after → 0 < refs_of seen.found.0 → (line : ℕ) → DoesOp line (ops.Write reg value) (answers.Shared seen) s after
 shared_does looks s after reg value h seen is aware stake below own at some line =

@@ -69,8 +69,8 @@ module _ (supers partitions n p class usable : ℕ) (ps : List Played) (x : Play
     unmaps = λ other q at slot e done. absurd (not_done_made x.answer seen usable other made done);
   }
 
-  real : class < 59
-  real = let (reg, size, is, of) = asks in of.real
+  real : class < 170
+  real = let (reg, size, is, of) = asks in omega (arith, of.real)
 
   -- without asking the pool
   filled_without : (after : Root) (plan : PoolState) (titles : List Title) → Fills class (fill_of class) (pool_at supers pools) plan (root_at pools roots p) (record { root = after; titles = titles }) None →
@@ -166,7 +166,7 @@ module _ (supers partitions n p j : ℕ) (ps : List Played) (x : Played) (pools 
       (pool_grows.next supers pools e ∙ sym next)
 
 -- a fill that asked and got a super page has a slot
-never_empty : (class want first entry : ℕ) (r : Root) → IsSound r → IsBornBelow entry r → class < 59 → 1 ≤ want → (takes class want (opened first entry r)).titles ≡ [] → ⊥
+never_empty : (class want first entry : ℕ) (r : Root) → IsSound r → IsBornBelow entry r → class < 170 → 1 ≤ want → (takes class want (opened first entry r)).titles ≡ [] → ⊥
 never_empty class zero first entry r sound born real some none = absurd (omega arith)
 never_empty class (suc want) first entry r sound born real some none =
     let many = fill_keeps.finds class want (opened first entry r) (fill_keeps.opens first entry r sound born) real (fill_keeps.finds_new class first entry r real) in
@@ -180,8 +180,8 @@ full_is_done supers partitions n p class asked j ps x pools roots all plan after
     r : Root
     r = root_at pools roots p
 
-    real : class < 59
-    real = let (reg, size, is, of) = asks in of.real
+    real : class < 170
+    real = let (reg, size, is, of) = asks in omega (arith, of.real)
 
     by_found : (titles : List Title) (found : Option ℕ) → IsNone (span_for class (root_at pools roots p)) → IsAsked 1 asked found (pool_at supers pools) plan →
         record { root = after; titles = titles } ≡ filled_by class (fill_of class) asked found (root_at pools roots p) → titles ≡ [] →

@@ -118,14 +118,14 @@ purge_is lists class (suc n) a among = elim (Contains-append_cases (gives (lists
   | inr rest ↦ purge_is lists (class + 1) n a rest
 ]
 
-pub purge_asks : (lists : ℕ → List Numbered) → AskNothing (purge_acts lists 0 59)
-purge_asks lists a among = elim (purge_is lists 0 59 a among) [
+pub purge_asks : (lists : ℕ → List Numbered) → AskNothing (purge_acts lists 0 170)
+purge_asks lists a among = elim (purge_is lists 0 170 a among) [
   | inl give ↦ give_asks a give
   | inr e ↦ ap asked_by e
 ]
 
-pub purge_leaves : (lists : ℕ → List Numbered) → NothingLeaves (purge_acts lists 0 59)
-purge_leaves lists a m line among move = elim (purge_is lists 0 59 a among) [
+pub purge_leaves : (lists : ℕ → List Numbered) → NothingLeaves (purge_acts lists 0 170)
+purge_leaves lists a m line among move = elim (purge_is lists 0 170 a among) [
   | inl give ↦ give_leaves a m line give move
   | inr e ↦ absurd (not_in_none m (subst (λ z. Contains (moves_by line z) m) e move))
 ]

@@ -59,6 +59,7 @@ threads_below (x ∷ xs) n low = All-cons (λ (y : Played). y.thread < n) x xs (
 -- ---- lists of one thread
 
 listed_is : (s : SlotName) (lists : ℕ → List Numbered) (class n : ℕ) → stands s (all_of lists class n) ≡ listed_times s lists class n
+unfolding listed_times
 listed_is s lists class zero = refl
 listed_is s lists class (suc n) =
     let a = stands_append s (lists class) (all_of lists (class + 1) n) in
@@ -73,16 +74,17 @@ listed_from lists class (suc n) m among = elim (Contains-append_cases (lists cla
 ]
 
 pub listed_least : (s : SlotName) (lists : ℕ → List Numbered) (c class n : ℕ) → class ≤ c → c < class + n → stands s (lists c) ≤ listed_times s lists class n
+unfolding listed_times
 listed_least s lists c class zero low high = absurd (omega arith)
 listed_least s lists c class (suc n) low high = elim (cases_eq class c) [
   | inl e ↦ let same : stands s (lists class) ≡ stands s (lists c) = ap (λ z. stands s (lists z)) e in omega arith
   | inr other ↦ let ih = listed_least s lists c (class + 1) n (omega arith) (omega arith) in omega arith
 ]
 
-pub cached_least : (s : SlotName) (all : Caches) (p threads t : ℕ) → t < threads → listed_times s (all t p) 0 59 ≤ cached_times s all p threads
+pub cached_least : (s : SlotName) (all : Caches) (p threads t : ℕ) → t < threads → listed_times s (all t p) 0 170 ≤ cached_times s all p threads
 cached_least s all p zero t below = absurd (omega arith)
 cached_least s all p (suc u) t below = elim (cases_eq u t) [
-  | inl e ↦ let same : listed_times s (all u p) 0 59 ≡ listed_times s (all t p) 0 59 = ap (λ z. listed_times s (all z p) 0 59) e in omega arith
+  | inl e ↦ let same : listed_times s (all u p) 0 170 ≡ listed_times s (all t p) 0 170 = ap (λ z. listed_times s (all z p) 0 170) e in omega arith
   | inr other ↦ let ih = cached_least s all p u t (omega arith) in omega arith
 ]
 
@@ -151,7 +153,7 @@ module _ (supers partitions n : ℕ) (ls : List Line) (ps : List Played) (pools 
   known_class t p class m among = all_known partitions roots ps no_caches all (λ u q c k none. absurd (not_in_none k none)) h.placed.caches t p class m among
 
   -- a slot of a list is out, and is in no other
-  listed_out : (t p class : ℕ) (m : Numbered) → Contains (all t p class) m → IsOut (root_at pools roots p) m.slot × (listed_times m.slot (all t p) 0 59 ≤ 1)
+  listed_out : (t p class : ℕ) (m : Numbered) → Contains (all t p class) m → IsOut (root_at pools roots p) m.slot × (listed_times m.slot (all t p) 0 170 ≤ 1)
   listed_out t p class m among =
       let of = known_class t p class m among in
       let left = class_leaves roots m.slot p class of in
@@ -164,29 +166,29 @@ module _ (supers partitions n : ℕ) (ls : List Line) (ps : List Played) (pools 
         | inr (away, none) ↦ absurd (omega arith)
       ]
 
-  lists_out : (p t : ℕ) → AreOut (root_at pools roots p) (all_of (all t p) 0 59)
+  lists_out : (p t : ℕ) → AreOut (root_at pools roots p) (all_of (all t p) 0 170)
   lists_out p t = (
     members_out (IsOut (root_at pools roots p)) (λ m among.
-        let (c, low, high, there) = listed_from (all t p) 0 59 m among in
+        let (c, low, high, there) = listed_from (all t p) 0 170 m among in
         (listed_out t p c m there).0),
-    once_differ (names (all_of (all t p) 0 59)) once,
+    once_differ (names (all_of (all t p) 0 170)) once,
   )
     where
-      members_out : (P : SlotName → Type 0) → ((m : Numbered) → Contains (all_of (all t p) 0 59) m → P m.slot) → All P (names (all_of (all t p) 0 59))
-      members_out P each = all_from_members P (names (all_of (all t p) 0 59)) (λ s among.
-          let (m, member, is) = map_cases (λ (z : Numbered). z.slot) (all_of (all t p) 0 59) s among in
+      members_out : (P : SlotName → Type 0) → ((m : Numbered) → Contains (all_of (all t p) 0 170) m → P m.slot) → All P (names (all_of (all t p) 0 170))
+      members_out P each = all_from_members P (names (all_of (all t p) 0 170)) (λ s among.
+          let (m, member, is) = map_cases (λ (z : Numbered). z.slot) (all_of (all t p) 0 170) s among in
           subst P is (each m member))
 
-      once : (s : SlotName) → times s (names (all_of (all t p) 0 59)) ≤ 1
-      once s = elim (cases_eq (times s (names (all_of (all t p) 0 59))) 0) [
+      once : (s : SlotName) → times s (names (all_of (all t p) 0 170)) ≤ 1
+      once s = elim (cases_eq (times s (names (all_of (all t p) 0 170))) 0) [
         | inl none ↦ omega arith
         | inr some ↦
-            let among = times_member s (names (all_of (all t p) 0 59)) (omega arith) in
-            let (m, member, is) = map_cases (λ (z : Numbered). z.slot) (all_of (all t p) 0 59) s among in
-            let (c, low, high, there) = listed_from (all t p) 0 59 m member in
+            let among = times_member s (names (all_of (all t p) 0 170)) (omega arith) in
+            let (m, member, is) = map_cases (λ (z : Numbered). z.slot) (all_of (all t p) 0 170) s among in
+            let (c, low, high, there) = listed_from (all t p) 0 170 m member in
             let few = (listed_out t p c m there).1 in
-            let same : listed_times m.slot (all t p) 0 59 ≡ listed_times s (all t p) 0 59 = ap (λ z. listed_times z (all t p) 0 59) is in
-            let a = listed_is s (all t p) 0 59 in
+            let same : listed_times m.slot (all t p) 0 170 ≡ listed_times s (all t p) 0 170 = ap (λ z. listed_times z (all t p) 0 170) is in
+            let a = listed_is s (all t p) 0 170 in
             omega arith
       ]
 
@@ -198,7 +200,7 @@ module _ (supers partitions n : ℕ) (ls : List Line) (ps : List Played) (pools 
       let real = class_real pools roots s p class (h.placed.journals p) of in
       let used = busy_some w (in_use step w returning) in
       let least = cached_least s all p (max (t + 1) (threads_of ps)) t (omega arith) in
-      let here = listed_least s (all t p) class 0 59 (omega arith) (omega arith) in
+      let here = listed_least s (all t p) class 0 170 (omega arith) (omega arith) in
       elim (stands_once p t s w (inside p s left) left word) [
         | inl (out, one) ↦ (class_out p class s of out, omega arith)
         | inr (away, none) ↦ absurd (omega arith)

@@ -80,14 +80,14 @@ done_row roots x o step seen cache after is returning row = subst (λ z. DoneRow
 
 module _ (supers partitions n p class : ℕ) (ls : List Line) (ps : List Played) (x : Played) (pools : List PoolEntry) (roots : Journals) (all : Caches) (seen : Seen)
     (h : IsSoFar supers partitions n ls ps pools roots all) (line : x.line ≡ n) (returns : Returns ps x seen) (of : IsOfClass roots seen.slot p class) where
-  real : class < 59
+  real : class < 170
   real = class_real pools roots seen.slot p class (h.placed.journals p) of
 
   out : AreOut (root_at pools roots p) (returned_by seen ∷ all x.thread p class)
   out =
       let (slot, none) = returned_out supers partitions n ls ps pools roots all h p x.thread class seen.slot returns.step seen.found.0 of returns.word returns.returning in
       front_out (root_at pools roots p) (returned_by seen) (all x.thread p class) slot none
-      (listed_alone (root_at pools roots p) (all x.thread p) class 0 59 (omega arith) (let low = real in omega arith) (lists_are_out supers partitions n p x.thread ls ps pools roots all h))
+      (listed_alone (root_at pools roots p) (all x.thread p) class 0 170 (omega arith) (let low = real in omega arith) (lists_are_out supers partitions n p x.thread ls ps pools roots all h))
 
   acted : (xs : List Numbered) → AreOut (root_at pools roots p) xs → xs ≡ spilled class (returned_by seen ∷ all x.thread p class) → p < partitions →
       IsActed partitions n p x pools [] roots (gives xs) (all x.thread) (with_list (all x.thread) p class (kept class (returned_by seen ∷ all x.thread p class)))
@@ -147,18 +147,18 @@ return_is_done supers partitions n p class ls ps x pools roots all seen h line r
 module _ (supers partitions n : ℕ) (ls : List Line) (ps : List Played) (x : Played) (pools : List PoolEntry) (roots : Journals) (all : Caches)
     (h : IsSoFar supers partitions n ls ps pools roots all) (line : x.line ≡ n) (op : x.op ≡ ops.Purge) (answer : x.answer ≡ answers.Purged (all_listed (all x.thread) 0 partitions)) where
   -- what holds of each of the first partitions with its acts, and of the others without
-  each_partition : (P : ℕ → List RootAct → Type 0) → ((q : ℕ) → q < partitions → P q (purge_acts (all x.thread q) 0 59)) → ((q : ℕ) → P q []) → (q : ℕ) → P q (purge_in partitions (all x.thread) q)
+  each_partition : (P : ℕ → List RootAct → Type 0) → ((q : ℕ) → q < partitions → P q (purge_acts (all x.thread q) 0 170)) → ((q : ℕ) → P q []) → (q : ℕ) → P q (purge_in partitions (all x.thread) q)
   each_partition P here others q = elim (cases_lt q partitions) [
     | inl low ↦ rw (lt-ltb q partitions low) (here q low)
     | inr past ↦ rw (le-ltb q partitions past) (others q)
   ]
 
-  purge_here : (q : ℕ) → q < partitions → purge_in partitions (all x.thread) q ≡ purge_acts (all x.thread q) 0 59
+  purge_here : (q : ℕ) → q < partitions → purge_in partitions (all x.thread) q ≡ purge_acts (all x.thread q) 0 170
   purge_here q low = rw (lt-ltb q partitions low) refl
 
-  fit : (more : List PoolEntry) (q : ℕ) → ActsFit more (least_after_all 0 (roots q)) (purge_acts (all x.thread q) 0 59) (root_at pools roots q)
+  fit : (more : List PoolEntry) (q : ℕ) → ActsFit more (least_after_all 0 (roots q)) (purge_acts (all x.thread q) 0 170) (root_at pools roots q)
   fit more q =
-      purge_fits more (least_after_all 0 (roots q)) 0 59 (all x.thread q) (root_at pools roots q) (journal_leaves pools (roots q) (h.placed.journals q)).sound
+      purge_fits more (least_after_all 0 (roots q)) 0 170 (all x.thread q) (root_at pools roots q) (journal_leaves pools (roots q) (h.placed.journals q)).sound
       (lists_are_out supers partitions n q x.thread ls ps pools roots all h)
 
   act_makes : (q : ℕ) (a : RootAct) → IsGive a ⊎ (a ≡ Purge) → MakesEntry (pools ++ []) q a x.op
@@ -176,7 +176,7 @@ module _ (supers partitions n : ℕ) (ls : List Line) (ps : List Played) (x : Pl
     deed = record {
       line = line;
       fits = each_partition (λ q bs. ActsFit (pools ++ []) (least_after_all 0 (roots q)) bs (root_at pools roots q)) (λ q low. fit (pools ++ []) q) (λ q. tt);
-      makes = each_partition (λ q bs. (a : RootAct) → Contains bs a → MakesEntry (pools ++ []) q a x.op) (λ q low a among. act_makes q a (purge_is (all x.thread q) 0 59 a among))
+      makes = each_partition (λ q bs. (a : RootAct) → Contains bs a → MakesEntry (pools ++ []) q a x.op) (λ q low a among. act_makes q a (purge_is (all x.thread q) 0 170 a among))
           (λ q a among. absurd (not_in_none a among));
       none_past = λ q past. rw (le-ltb q partitions past) refl;
       refusal = λ j reg q size full. absurd (not_purged_full j full);
@@ -187,7 +187,7 @@ module _ (supers partitions n : ℕ) (ls : List Line) (ps : List Played) (x : Pl
         λ q c. refl,
       );
       numbers = each_partition (λ q bs. (s : SlotName) → IsNumbered (at_end (Some 0) (moves_of (roots q) s)) (moves_of (entries_at n bs) s))
-          (λ q low s. backs_numbered pools (roots q) n (purge_acts (all x.thread q) 0 59) s (h.placed.journals q) (fit pools q) (h.placed.numbers q s) (purge_leaves (all x.thread q)))
+          (λ q low s. backs_numbered pools (roots q) n (purge_acts (all x.thread q) 0 170) s (h.placed.journals q) (fit pools q) (h.placed.numbers q s) (purge_leaves (all x.thread q)))
           (λ q s. tt);
       unmaps = λ seen q asked slot e is. absurd (not_purged_done seen is);
     };
@@ -195,13 +195,13 @@ module _ (supers partitions n : ℕ) (ls : List Line) (ps : List Played) (x : Pl
   }
 
   pub purge_done : IsDone supers partitions n x pools [] roots (purge_in partitions (all x.thread)) (all x.thread) (λ p class. [])
-      × ((p : ℕ) → p < partitions → root_at pools (grown roots n (purge_in partitions (all x.thread))) p ≡ purged (all_returned (names (all_of (all x.thread p) 0 59)) (root_at pools roots p)))
+      × ((p : ℕ) → p < partitions → root_at pools (grown roots n (purge_in partitions (all x.thread))) p ≡ purged (all_returned (names (all_of (all x.thread p) 0 170)) (root_at pools roots p)))
   purge_done = (
     done,
     λ p low. ap (λ z. root_at z (grown roots n (purge_in partitions (all x.thread))) p) (sym (append-nil pools))
         ∙ line_replays.roots partitions n ps x pools [] roots (purge_in partitions (all x.thread)) all (λ q class. []) p h.placed done.deed
         ∙ ap (λ z. root_after (pools ++ []) z (root_at pools roots p)) (purge_here p low)
-        ∙ purge_after (pools ++ []) 0 59 (all x.thread p) (root_at pools roots p),
+        ∙ purge_after (pools ++ []) 0 170 (all x.thread p) (root_at pools roots p),
   )
 
 pub purge_is_done : PurgeIsDone

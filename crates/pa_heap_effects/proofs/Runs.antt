@@ -1,6 +1,6 @@
 -- A run that an entry of the pool took is taken until another gives it.
 use Rattle.std.proofs.Common.{◌≡◌, ℕ, zero, suc, ◌+◌, List, [], ◌∷◌, ◌++◌, length, Some, None, refl, sym, ◌∙◌, ap, subst, arith, ◌⊎◌, inl, inr, append_assoc, length-append}
-use Rattle.std.specs.Prelude.{Contains, slice_get, ◌==◌}
+use Rattle.std.specs.Prelude.{Contains, slice_get}
 use Rattle.std.proofs.lemmas.Bool.{cases_eq}
 use Rattle.std.proofs.lemmas.List.{append-nil}
 use Rattle.std.proofs.lemmas.List.Elements.{Contains-append_left, Contains-push}
@@ -44,7 +44,7 @@ step_of_pool supers pools before e es parts h fits = record {
   acts = fits_before supers before (e ∷ es) e.partition e.act h (subst (λ z. PoolActFits z e.partition e.act (pool_at supers before)) parts fits.0);
 }
 
--- and those after it fit one after the other
+-- if an entry and those after it replay on the pool before it, those after it replay on the pool with it
 rest_of : (supers : ℕ) (pools before : List PoolEntry) (e : PoolEntry) (es : List PoolEntry) → PoolReplays pools (e ∷ es) (pool_at supers before) → PoolReplays pools es (pool_at supers (before ++ e ∷ []))
 rest_of supers pools before e es fits = subst (λ s. PoolReplays pools es s) (sym (pool_grows.next supers before e)) fits.1
 

@@ -1,16 +1,17 @@
 -- A slot that left a root has one partition, and one class or one length of a direct map.
-use Rattle.std.proofs.Common.{◌≡◌, ℕ, ◌<◌, ◌≤◌, List, [], Some, sym, ◌∙◌, ap, subst, arith, inl, inr}
+use Rattle.std.proofs.Common.{◌≡◌, ℕ, ◌<◌, ◌≤◌, List, [], Option, Some, sym, ◌∙◌, ap, subst, arith, inl, inr}
 use Rattle.std.specs.Prelude.{Contains}
 use Rattle.std.proofs.lemmas.Bool.{cases_order}
 use Rattle.std.proofs.lemmas.Option.{slice_get-get_or}
 use Rattle.pa_slot.specs.declared.title.Title.{Title}
 use Rattle.pa_slot.specs.declared.word.SlotName.{SlotName}
 use Rattle.pa_buckets.specs.Table.{slot_of}
-use Rattle.pa_buckets.proofs.Facts.{IsRow-of, slot_of-rises}
+use Rattle.pa_buckets.proofs.Facts.{IsRow_1-of, slot_of-rises}
 use Rattle.pa_trace.specs.declared.script.Op.{Op}
+use Rattle.pa_record.specs.declared.numbered.Numbered.{Numbered}
 use Rattle.pa_record.specs.declared.pool.PoolEntry.{PoolEntry}
 use Rattle.pa_record.specs.declared.root.RootEntry.{RootEntry}
-use Rattle.pa_record.specs.declared.root.RootAct.TheVariants.{Map}
+use Rattle.pa_record.specs.declared.root.RootAct.TheVariants.{Fill, Map}
 use Rattle.pa_record.specs.Spans.{name_of}
 use Rattle.pa_record.specs.Sound.{IsMadeBy, AreTitles}
 use Rattle.pa_record.specs.Laws.{leaves_by}
@@ -80,11 +81,21 @@ module _ (supers partitions : ℕ) (ps : List Played) (pools : List PoolEntry) (
   pub one_partition : (s : SlotName) (p q : ℕ) → HasLeft roots p s → HasLeft roots q s → p ≡ q
   one_partition s p q (e, among, leaves) (f, among', leaves') = only_of supers partitions ps pools roots q f s r h among' leaves' p e among leaves
 
+  -- the class of a fill is the one that its record asks for
+  class_asked : (p c : ℕ) (asked : Option ℕ) (slots : List Numbered) (e : RootEntry) → Contains (roots p) e → e.act ≡ Fill c asked slots → c < 59
+  class_asked p c asked slots e among is =
+      let (x, of, makes) = entry_made p e among in
+      let (reg, size, asks, class) = subst (λ act. MakesEntry pools p act x.op) is makes in
+      class.real
+
+  real_class : (s : SlotName) (p c : ℕ) → IsOfClass roots s p c → c < 59
+  real_class s p c (e, asked, slots, among, is, member) = class_asked p c asked slots e among is
+
   class_title : (s : SlotName) (p c : ℕ) → IsOfClass roots s p c → (t : Title) × HasClassTitle pools roots s p c t
   class_title s p c (e, asked, slots, among, is, member) =
       let (t, made, named, sized) = title_of pools (roots p) e s (r.journals p) among (subst (λ act. Contains (leaves_by act) s) (sym is) member) in
-      let (real, len) = subst (λ act. HasLen act t) is sized in
-      (t, record { made = made; names = named; real = real; len = len })
+      let (small, len) = subst (λ act. HasLen act t) is sized in
+      (t, record { made = made; names = named; real = class_asked p c asked slots e among is; len = len })
 
   map_title_of : (s : SlotName) (p len : ℕ) (e : RootEntry) → IsMapOf roots p e s len → (t : Title) × HasMapTitle pools roots s p len t
   map_title_of s p len e (asked, among, is) =
@@ -107,8 +118,8 @@ module _ (supers partitions : ℕ) (ps : List Played) (pools : List PoolEntry) (
   class_here s p c d x y =
       let (t, v) = class_title s p c x in
       let (u, w) = class_title s p d y in
-      let some = (IsRow-of c v.real).least_slot in
-      let some' = (IsRow-of d w.real).least_slot in
+      let some = (IsRow_1-of c v.real).least_slot in
+      let some' = (IsRow_1-of d w.real).least_slot in
       let len = v.len in
       let len' = w.len in
       let same : t.len ≡ u.len = one_len p t u v.made w.made (v.names ∙ sym w.names) (omega arith) (omega arith) in
@@ -126,7 +137,7 @@ module _ (supers partitions : ℕ) (ps : List Played) (pools : List PoolEntry) (
   class_or_direct_here s p c x (e, asked, len', among, is) =
       let (t, v) = class_title s p c x in
       let (u, w) = map_title_of s p len' e (asked, among, is) in
-      let row = IsRow-of c v.real in
+      let row = IsRow_1-of c v.real in
       let some = row.least_slot in
       let most = row.greatest_slot in
       let len = v.len in
@@ -153,6 +164,7 @@ module _ (supers partitions : ℕ) (ps : List Played) (pools : List PoolEntry) (
 pub one_kind : OneKind
 one_kind supers partitions ps pools roots s r h = record {
   class = λ p q c d. one_class supers partitions ps pools roots r h s p q c d;
+  real = λ p c. real_class supers partitions ps pools roots r h s p c;
   direct = λ p q. one_direct supers partitions ps pools roots r h s p q;
   either = λ p q c. class_or_direct supers partitions ps pools roots r h s p q c;
   size = λ p q len more. one_size supers partitions ps pools roots r h s p q len more;

@@ -1,6 +1,7 @@
 -- What a slot is: of one partition, and of one class or a direct map of one length.
-use Rattle.std.specs.Prelude.{◌≡◌, ℕ, List}
+use Rattle.std.specs.Prelude.{◌≡◌, ℕ, ◌<◌, List}
 use Rattle.pa_slot.specs.declared.word.SlotName.{SlotName}
+use Rattle.pa_buckets.specs.Limits.{sparse_count}
 use Rattle.pa_record.specs.declared.pool.PoolEntry.{PoolEntry}
 use Rattle.pa_rules.specs.declared.played.Played.{Played}
 use Rattle.pa_rules.specs.Roots.{Journals, AreRoots, IsPoolOf}
@@ -9,11 +10,13 @@ use Rattle.pa_rules.specs.Report.{HasSize}
 
 -- A slot of the journals has one kind.
 --   class: fills give it one partition and class
+--   real: the class is one of version 1
 --   direct: direct maps give it one partition
 --   either: a slot of a class is no direct map
 --   size: it has one length
 pub record HasOneKind (roots : Journals) (s : SlotName) : Type 0 where
   pub class : (p q c d : ℕ) → IsOfClass roots s p c → IsOfClass roots s q d → (p ≡ q) × (c ≡ d)
+  pub real : (p c : ℕ) → IsOfClass roots s p c → c < sparse_count
   pub direct : (p q : ℕ) → IsDirect roots s p → IsDirect roots s q → p ≡ q
   pub either : (p q c : ℕ) → IsOfClass roots s p c → IsDirect roots s q → ⊥
   pub size : (p q len more : ℕ) → HasSize roots p s len → HasSize roots q s more → (p ≡ q) × (len ≡ more)

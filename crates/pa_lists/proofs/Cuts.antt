@@ -27,7 +27,7 @@ last_or_within (x ∷ xs) z (u ∷ us) m vs e =
       | inr (ws, within) ↦ inr (ws, ap (λ w. w ∷ xs) same ∙ ap (λ zs. u ∷ zs) within)
     ]
 
--- and then the last one ends what comes after it
+-- of a list with z at its end, cut at m: nothing follows m, or z ends what follows it
 pub last_split : {A : Type 0} (xs : List A) (z : A) (us : List A) (m : A) (vs : List A) → xs ++ z ∷ [] ≡ us ++ m ∷ vs →
     (vs ≡ []) ⊎ ((ws : List A) × (xs ≡ us ++ m ∷ ws) × (vs ≡ ws ++ z ∷ []))
 last_split [] z [] m vs e = inl cc

@@ -60,6 +60,7 @@ record IsListed (s : SlotName) (lists : ℕ → List Numbered) (class n : ℕ) :
   same : slot.slot ≡ s
 
 listed_some : (s : SlotName) (lists : ℕ → List Numbered) (class n : ℕ) → 0 < listed_times s lists class n → IsListed s lists class n
+unfolding listed_times
 listed_some s lists class zero more = absurd (omega arith)
 listed_some s lists class (suc n) more = elim (cases_lt 0 (times s (slot_names (lists class)))) [
   | inl here ↦
@@ -71,10 +72,10 @@ listed_some s lists class (suc n) more = elim (cases_lt 0 (times s (slot_names (
       record { at = rest.at; within = omega arith; slot = rest.slot; among = rest.among; same = rest.same }
 ]
 
-cached_some : (s : SlotName) (all : Caches) (p n : ℕ) → 0 < cached_times s all p n → (k : ℕ) × (k < n) × IsListed s (all k p) 0 59
+cached_some : (s : SlotName) (all : Caches) (p n : ℕ) → 0 < cached_times s all p n → (k : ℕ) × (k < n) × IsListed s (all k p) 0 170
 cached_some s all p zero more = absurd (omega arith)
-cached_some s all p (suc n) more = elim (cases_lt 0 (listed_times s (all n p) 0 59)) [
-  | inl here ↦ (n, omega arith, listed_some s (all n p) 0 59 here)
+cached_some s all p (suc n) more = elim (cases_lt 0 (listed_times s (all n p) 0 170)) [
+  | inl here ↦ (n, omega arith, listed_some s (all n p) 0 170 here)
   | inr none ↦ let (k, below, is) = cached_some s all p n (omega arith) in (k, omega arith, is)
 ]
 

@@ -187,14 +187,14 @@ leads partitions roots all (x ∷ xs) ends each =
 same_slots : (all ends : Caches) (p n : ℕ) → ((k : ℕ) → all k ≡ ends k) → cached_slots all p n ≡ cached_slots ends p n
 same_slots all ends p zero same = refl
 same_slots all ends p (suc n) same =
-    let a : listed_slots (all n p) 0 59 ≡ listed_slots (ends n p) 0 59 = ap (λ (c : Cache). listed_slots (c p) 0 59) (same n) in
+    let a : listed_slots (all n p) 0 170 ≡ listed_slots (ends n p) 0 170 = ap (λ (c : Cache). listed_slots (c p) 0 170) (same n) in
     let again = same_slots all ends p n same in omega arith
 
 same_bytes : (all ends : Caches) (p n : ℕ) → ((k : ℕ) → all k ≡ ends k) → cached_bytes all p n ≡ cached_bytes ends p n
 same_bytes all ends p zero same = refl
 same_bytes all ends p (suc n) same =
-    let a : listed_bytes (λ class. length (all n p class)) 0 59 ≡ listed_bytes (λ class. length (ends n p class)) 0 59 =
-    ap (λ (c : Cache). listed_bytes (λ class. length (c p class)) 0 59) (same n) in
+    let a : listed_bytes (λ class. length (all n p class)) 0 170 ≡ listed_bytes (λ class. length (ends n p class)) 0 170 =
+    ap (λ (c : Cache). listed_bytes (λ class. length (c p class)) 0 170) (same n) in
     let again = same_bytes all ends p n same in omega arith
 
 cached : (partitions threads : ℕ) (roots : Journals) (xs : List Played) (p : ℕ) (tally : Tally) → AreListed partitions threads roots xs p tally → IsCached partitions threads roots xs p tally

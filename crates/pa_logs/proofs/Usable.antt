@@ -3,7 +3,6 @@ use Rattle.std.proofs.Common.{◌≡◌, ℕ, ◌+◌, ◌⊎◌, List, [], ◌�
 use Rattle.std.specs.Prelude.{Contains}
 use Rattle.std.proofs.lemmas.Bool.{cases_Bool}
 use Rattle.pa_slot.specs.declared.word.SlotName.{SlotName}
-use Rattle.pa_slot.specs.declared.word.Step.TheVariants as steps
 use Rattle.pa_slot.specs.Run.{same_slot}
 use Rattle.pa_slot.proofs.Runs.{same_slot_eq, same_slot_yes, issue_first}
 use Rattle.pa_trace.specs.declared.script.Op.{Op}
@@ -40,7 +39,7 @@ made_here sizes s op a es other seen usable told e slot =
     let size : usable + 8 ≡ sizes s = made.1 ∙ ap sizes slot in
     omega arith
 
--- so the first record that made it says it
+-- by the records, a slot that one of them made has 8 usable bytes fewer than its size
 first_made : (sizes : SlotName → ℕ) (s : SlotName) (ts : List ToldRecord) (x : Played) (seen : Seen) (usable : ℕ) → AreTold sizes ts → Contains (played_in ts) x → x.answer ≡ answers.Made seen usable → seen.slot ≡ s →
     usable_in (played_in ts) s + 8 ≡ sizes s
 first_made sizes s [] x seen usable told among e slot = absurd (not_in_none x among)

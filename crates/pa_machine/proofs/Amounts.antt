@@ -1,12 +1,12 @@
 -- What one piece of a title counts as.
-use Rattle.std.proofs.Common.{◌≡◌, ℕ, ◌+◌, ◌<◌, ◌≤◌, List, [], ◌∷◌, length, refl, ◌∙◌, arith, ◌⊎◌, inl, inr, set}
+use Rattle.std.proofs.Common.{◌≡◌, ℕ, ◌<◌, List, [], ◌∷◌, length, refl, arith, ◌⊎◌, inl, inr, set}
 use Rattle.std.proofs.lemmas.List.{get_or-set_other, get_or-set_same}
 use Rattle.pa_slot.specs.declared.title.Title.{Title}
 use Rattle.pa_slot.specs.declared.title.OwnState.{OwnState}
 use Rattle.pa_slot.specs.Count.{held_of, refs_of}
 use Rattle.pa_slot.specs.Run.{IsFree}
 use Rattle.pa_slot.specs.Titles.{content_count, content_place, count_place, count_word, content_at, IsWellFormed}
-use Rattle.pa_slot.specs.Holdings.{FreePiece, OwnPiece, RefPiece, FreeTitle, OwnOf, OwnAs, RefOf, held_in, one}
+use Rattle.pa_slot.specs.Holdings.{FreePiece, OwnPiece, RefPiece, FreeTitle, OwnOf, OwnAs, RefOf, held_in}
 use Rattle.pa_machine.specs.Events.{returned_at}
 use Rattle.pa_slot.proofs.Same.{title_self, state_self, state_tells}
 use Rattle.std.proofs.lemmas.Bool.Decides.{eqb_tells}

@@ -1,5 +1,5 @@
 -- Each step on a count word keeps its title good.
-use Rattle.std.proofs.Common.{◌≡◌, ℕ, ◌+◌, ◌-◌, ◌*◌, ◌/◌, ◌%◌, ◌<◌, ◌≤◌, List, [], ◌∷◌, length, set, refl, ◌∙◌, arith, ◌⊎◌, inl, inr}
+use Rattle.std.proofs.Common.{◌≡◌, ℕ, ◌<◌, ◌≤◌, List, [], ◌∷◌, length, set, refl, ◌∙◌, arith, ◌⊎◌, inl, inr}
 use Rattle.pa_slot.specs.declared.word.Step.TheVariants.{Issue, Copy, Reset, Free, Write}
 use Rattle.pa_slot.specs.declared.title.Title.{Title}
 use Rattle.pa_slot.specs.declared.title.OwnState.{OwnState}
@@ -7,7 +7,7 @@ use Rattle.pa_slot.specs.declared.title.OwnState.TheVariants.{Clean, Poisoned}
 use Rattle.pa_slot.specs.Count.{refs_of}
 use Rattle.pa_slot.specs.Run.{IsFree}
 use Rattle.pa_slot.specs.Titles.{IsWellFormed, content_count, count_place, content_at, count_word, HasContentFrom, IsUniform}
-use Rattle.pa_slot.specs.Holdings.{FreePiece, OwnPiece, RefPiece, Thing, FreeTitle, OwnOf, OwnAs, RefOf, held_in, one}
+use Rattle.pa_slot.specs.Holdings.{FreePiece, OwnPiece, RefPiece, Thing, FreeTitle, OwnOf, OwnAs, RefOf, held_in}
 use Rattle.pa_machine.specs.Events.{returned_at}
 use Rattle.pa_slot.proofs.Arith.{IsStepped, held_small}
 use Rattle.pa_slot.proofs.Same.{state_tells}

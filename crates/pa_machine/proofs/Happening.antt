@@ -1,5 +1,5 @@
 -- Each event that is enabled keeps the state of the core good.
-use Rattle.std.proofs.Common.{◌≡◌, ℕ, ◌+◌, ◌-◌, ◌*◌, ◌/◌, ◌%◌, ◌<◌, ◌≤◌, List, [], ◌∷◌, length, ◌∙◌, arith, ◌⊎◌, inl, inr}
+use Rattle.std.proofs.Common.{◌≡◌, ℕ, ◌*◌, ◌/◌, ◌<◌, ◌≤◌, List, [], ◌∷◌, length, arith, inl, inr}
 use Rattle.pa_slot.specs.declared.word.Step.TheVariants.{Issue, Copy, Reset, Free, Write}
 use Rattle.pa_slot.specs.declared.title.Title.{Title}
 use Rattle.pa_slot.specs.declared.title.OwnState.{OwnState}
@@ -58,7 +58,7 @@ few_owns s t g has =
     let small = held_small (count_word s.words t) in
     omega arith
 
--- so two states of it are one
+-- two actors that hold the Own of a title hold it in the same state
 pub own_state_is : (s : State) (actor other : ℕ) (t : Title) (a b : OwnState) → IsGoodState s → Holds s actor (OwnAs t a) → Holds s other (OwnAs t b) → a ≡ b
 own_state_is s actor other t a b g x y =
     let tally = tally_of s.holdings in

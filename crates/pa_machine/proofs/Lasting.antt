@@ -39,7 +39,7 @@ end_more s (next ∷ ss) after = end_more next ss after
 pub run_start : (s : State) → IsGoodState s → IsRunTo s [] s
 run_start s good = record { states = []; played = tt; ends = refl; shape = (refl, refl); lasts = λ last k. (good, k) }
 
--- and one more event makes a longer run
+-- a run with one more event that can happen at its end is a run
 pub run_more : (s mid after : State) (es : List Event) (e : Event) → IsGoodState s → IsRunTo s es mid → IsEnabled e mid → Happens e mid after → IsRunTo s (es ++ e ∷ []) after
 run_more s mid after es e good r can h =
     let played = played_more s es r.states e after r.played (rw (← r.ends) can) (rw (← r.ends) h) in

@@ -1,5 +1,5 @@
 -- How a change of the tables changes what the actors hold, and that the tables stay sound.
-use Rattle.std.proofs.Common.{◌≡◌, ℕ, zero, suc, ◌+◌, ◌-◌, ◌*◌, ◌/◌, ◌%◌, ◌<◌, ◌≤◌, Bool, true, false, cond, eqb, List, [], ◌∷◌, ◌++◌, Option, Some, None, length, get_or, set, refl, sym, ◌∙◌, ap, subst, arith, ◌⊎◌, inl, inr}
+use Rattle.std.proofs.Common.{◌≡◌, ℕ, zero, suc, ◌+◌, ◌-◌, ◌<◌, Bool, true, false, cond, eqb, List, [], ◌∷◌, ◌++◌, Option, Some, None, length, get_or, set, refl, sym, ◌∙◌, ap, subst, arith, inl, inr}
 use Rattle.std.specs.List.{swap_remove}
 use Rattle.std.proofs.lemmas.List.Sums.{sum_by-set, sum_by_push, sum_by-swap_remove}
 use Rattle.std.proofs.lemmas.List.FromFn.{length-map-range_with_len}
@@ -13,7 +13,7 @@ use Rattle.pa_slot.specs.declared.title.OwnState.TheVariants.{Clean}
 use Rattle.pa_machine.specs.declared.slot.Owner.{Owner}
 use Rattle.pa_machine.specs.declared.slot.Slot.{Slot}
 use Rattle.pa_machine.specs.declared.tables.Tables.{Tables}
-use Rattle.pa_slot.specs.Holdings.{Piece, FreePiece, OwnPiece, RefPiece, Thing, IsTitleHeld, one, held_in}
+use Rattle.pa_slot.specs.Holdings.{Piece, FreePiece, OwnPiece, RefPiece, Thing, IsTitleHeld, held_in}
 use Rattle.pa_machine.specs.Events.{Exchanges, of_actor, total_of}
 use Rattle.pa_machine.specs.Trail.{IsGoodState}
 use Rattle.pa_machine.specs.Tables.{Place, raw_pieces, free_pieces, own_pieces, ref_pieces, slot_pieces, place_pieces, pieces_of, holdings_of, state_of, IsHolderWithin, IsOwnerWithin, IsPlaced, AreSound, IsNextSlot}
@@ -47,7 +47,7 @@ pub slot_exchange : (holders : List (Option ℕ)) (slots : List Place) (p : ℕ)
 slot_exchange holders slots p new actors lost gained inside each =
     tables_exchange holders holders slots p new actors lost gained inside (λ actor x has. let e = each actor x has in omega arith)
 
--- and if only holders of bytes change
+-- what an actor has of the whole tables, where only the holders of bytes change
 pub raw_exchange : (holders later : List (Option ℕ)) (slots : List Place) (actors : ℕ) (lost gained : ℕ → List Piece) →
     ((actor : ℕ) (x : Thing) → actor < actors →
     held_in (raw_pieces actor 0 later) x + held_in (lost actor) x ≡ held_in (raw_pieces actor 0 holders) x + held_in (gained actor) x) →
@@ -193,7 +193,7 @@ pub record IsSlotChange (c after : Tables) (p : ℕ) (old new : Box Slot Global)
   pub homes : after.homes.items ≡ c.homes.items
   pub actors : after.actors ≡ c.actors
 
--- so the actors exchange what they do at the entry
+-- an index at which the table has an entry is within the table
 place_inside : (slots : List Place) (p : ℕ) (b : Box Slot Global) → get_or slots p None ≡ Some b → p < length slots
 place_inside [] p b is = absurd cc
 place_inside (x ∷ xs) zero b is = omega arith

@@ -1,5 +1,5 @@
 -- The tables at the start are sound, and represent the start.
-use Rattle.std.proofs.Common.{◌≡◌, ℕ, zero, suc, ◌+◌, ◌-◌, ◌*◌, ◌/◌, ◌%◌, ◌<◌, ◌≤◌, List, [], ◌∷◌, Some, None, length, get_or, replicate, refl, sym, ◌∙◌, ap, subst, arith, ◌⊎◌, inl, inr}
+use Rattle.std.proofs.Common.{◌≡◌, ℕ, zero, suc, ◌-◌, ◌/◌, ◌%◌, ◌<◌, ◌≤◌, List, [], ◌∷◌, Some, None, length, get_or, replicate, refl, sym, ◌∙◌, ap, subst, arith, inl, inr}
 use Rattle.std.specs.List.{sum_by}
 use Rattle.std.proofs.lemmas.List.{get_or-replicate, length-replicate}
 use Rattle.std.proofs.lemmas.List.Sums.{sum_by-cons}
@@ -64,7 +64,7 @@ start_held c bytes actors actor st has (OwnOf t) = start_titles c bytes actors a
 start_held c bytes actors actor st has (OwnAs t s) = start_titles c bytes actors actor (OwnAs t s) st has ((raw_titles actor 0 c.holders.items t).state s) ∙ sym (none_of actor 0 (RawPiece 0 bytes ∷ []) (OwnAs t s) refl)
 start_held c bytes actors actor st has (RefOf t) = start_titles c bytes actors actor (RefOf t) st has (raw_titles actor 0 c.holders.items t).ref ∙ sym (none_of actor 0 (RawPiece 0 bytes ∷ []) (RefOf t) refl)
 
--- so all actors together hold each byte once, and no title
+-- all actors together hold each byte once at the start, and no title
 start_total : (c : Tables) (bytes actors : ℕ) → IsStartTables bytes actors c → 1 ≤ actors → (x : Thing) → total_of (state_of c) x ≡ held_in (RawPiece 0 bytes ∷ []) x
 start_total c bytes actors st some_actor x =
     let count = length-map-range_with_len (pieces_of c.holders.items c.slots.items) 0 c.actors in

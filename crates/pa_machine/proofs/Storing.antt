@@ -1,5 +1,5 @@
 -- A store and a poisoning keep their title good.
-use Rattle.std.proofs.Common.{◌≡◌, ℕ, ◌+◌, ◌-◌, ◌*◌, ◌/◌, ◌%◌, ◌<◌, ◌≤◌, List, [], ◌∷◌, ◌∙◌, arith, ◌⊎◌, inl, inr}
+use Rattle.std.proofs.Common.{◌≡◌, ℕ, ◌+◌, ◌<◌, ◌≤◌, List, [], ◌∷◌, ◌∙◌, arith, inl, inr}
 use Rattle.std.proofs.lemmas.Bool.{cases_eq}
 use Rattle.pa_slot.specs.declared.title.Title.{Title}
 use Rattle.pa_slot.specs.declared.title.OwnState.{OwnState}
@@ -7,7 +7,7 @@ use Rattle.pa_slot.specs.declared.title.OwnState.TheVariants.{Clean, Dirty, Pois
 use Rattle.pa_slot.specs.Count.{refs_of}
 use Rattle.pa_slot.specs.Run.{IsFree}
 use Rattle.pa_slot.specs.Titles.{content_count, content_at, count_word, HasContentFrom, IsPoisonedTo, poison, progress}
-use Rattle.pa_slot.specs.Holdings.{OwnPiece, Thing, FreeTitle, OwnOf, OwnAs, RefOf, held_in, one}
+use Rattle.pa_slot.specs.Holdings.{OwnPiece, Thing, FreeTitle, OwnOf, OwnAs, RefOf, held_in}
 use Rattle.pa_machine.specs.Good.{IsCounted}
 use Rattle.pa_slot.proofs.Arith.{held_small}
 use Rattle.pa_slot.proofs.Same.{state_tells}

@@ -1,5 +1,5 @@
 -- What the state that the tables represent says of each actor and thing, read off the tables.
-use Rattle.std.proofs.Common.{◌≡◌, ℕ, zero, suc, ◌+◌, ◌-◌, ◌*◌, ◌/◌, ◌%◌, ◌<◌, ◌≤◌, Bool, true, false, cond, eqb, List, [], ◌∷◌, ◌++◌, Option, Some, None, get_or, refl, sym, ◌∙◌, ap, arith, ◌⊎◌, inl, inr}
+use Rattle.std.proofs.Common.{◌≡◌, ℕ, zero, suc, ◌+◌, ◌-◌, ◌/◌, ◌<◌, Bool, true, false, cond, eqb, List, [], ◌∷◌, ◌++◌, Option, Some, None, get_or, refl, sym, ◌∙◌, ap, arith, ◌⊎◌, inl, inr}
 use Rattle.std.specs.List.{sum_by, slice_index_or, flat_map}
 use Rattle.std.proofs.lemmas.List.Sums.{sum_by-cons, sum_by-append}
 use Rattle.std.proofs.lemmas.List.FromFn.{get_or-map-range_with_len}
@@ -211,7 +211,7 @@ place_none actor words actors i (Some b) t placed ne =
     let e = placed.0 in
     slot_none actor b.value t (λ same. let s = ap (λ (x : Title). x.start) same in ne (omega arith))
 
--- so what an actor holds of a title is read off one place
+-- what an actor holds of a title is read off one place of the table
 pub slots_at : (actor words actors : ℕ) (slots : List Place) (t : Title) (x : Thing) → ((i : ℕ) → IsPlaced words actors i (get_or slots i None)) →
     ((ps : List Piece) → IsNoneOf ps t → held_in ps x ≡ 0) →
     sum_by (λ p. held_in (place_pieces actor p) x) slots ≡ held_in (place_pieces actor (get_or slots (t.start / 8) None)) x

@@ -1,6 +1,6 @@
 -- The core: its state, the condition of each event, and what it changes.
-use Rattle.std.specs.Prelude.{◌≡◌, ℕ, ◌+◌, ◌*◌, ◌/◌, ◌%◌, ◌<◌, ◌≤◌, ◌⊎◌, List, [], ◌∷◌, Bool, true, false, ◌==◌, ◌&&◌, length, slice_set, if◌then◌else◌}
-use Rattle.std.specs.List.{slice_index_or, sum_by}
+use Rattle.std.specs.Prelude.{◌≡◌, ℕ, ◌+◌, ◌/◌, ◌%◌, ◌<◌, ◌≤◌, ◌⊎◌, List, [], ◌∷◌, ◌==◌, ◌&&◌, length, slice_set, if◌then◌else◌}
+use Rattle.std.specs.List.{slice_index_or}
 use Rattle.pa_slot.specs.declared.word.Step.{Step}
 use Rattle.pa_slot.specs.declared.word.Step.TheVariants.{Issue, Copy, Reset, Free, Write}
 use Rattle.pa_slot.specs.declared.title.Title.{Title}
@@ -11,9 +11,8 @@ use Rattle.pa_machine.specs.declared.event.Item.TheVariants.{Raw as RawItem, Fre
 use Rattle.pa_machine.specs.declared.event.Event.{Event}
 use Rattle.pa_machine.specs.declared.event.Event.TheVariants.{Count, Store, Poison, Load, Hand, Cut, Uncut}
 use Rattle.pa_slot.specs.Count.{CanStep, stepped, refs_of, held_of}
-use Rattle.pa_slot.specs.Run.{IsFree}
 use Rattle.pa_slot.specs.Titles.{Covers, content_count, content_place, count_place, count_word, IsContentOf, HasContentFrom, IsUniform, poison, progress}
-use Rattle.pa_slot.specs.Holdings.{Piece, RawPiece, FreePiece, OwnPiece, RefPiece, Thing, RawByte, FreeTitle, OwnAs, RefOf, amount, held_in, held_by_all}
+use Rattle.pa_slot.specs.Holdings.{Piece, RawPiece, FreePiece, OwnPiece, RefPiece, Thing, RawByte, FreeTitle, OwnAs, RefOf, held_in, held_by_all}
 
 -- the words of the region, and for each actor what it holds
 pub record State : Type 0 where

@@ -1,5 +1,5 @@
 -- When the core is good, said of its words and of what all actors together hold.
-use Rattle.std.specs.Prelude.{◌≡◌, ℕ, ◌+◌, ◌*◌, ◌<◌, ◌≤◌, ◌⊎◌, List, length}
+use Rattle.std.specs.Prelude.{◌≡◌, ℕ, ◌*◌, ◌<◌, ◌≤◌, ◌⊎◌, List, length}
 use Rattle.pa_slot.specs.declared.title.Title.{Title}
 use Rattle.pa_slot.specs.declared.title.OwnState.{OwnState}
 use Rattle.pa_slot.specs.declared.title.OwnState.TheVariants.{Clean, Poisoned}

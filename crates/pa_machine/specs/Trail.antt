@@ -1,17 +1,16 @@
 -- Whole runs of the core, and what holds along each of them.
-use Rattle.std.specs.Prelude.{◌≡◌, ℕ, ◌+◌, ◌<◌, ◌≤◌, ◌⊎◌, List, [], ◌∷◌, Bool, true, false, Option, Some, None, if◌then◌else◌}
+use Rattle.std.specs.Prelude.{◌≡◌, ℕ, ◌+◌, ◌<◌, List, [], ◌∷◌, Option, Some, None, if◌then◌else◌}
 use Rattle.pa_slot.specs.declared.word.Step.{Step}
 use Rattle.pa_slot.specs.declared.word.Step.TheVariants.{Issue, Copy, Reset, Free, Write}
 use Rattle.pa_slot.specs.declared.title.Title.{Title}
-use Rattle.pa_slot.specs.declared.title.OwnState.{OwnState}
-use Rattle.pa_slot.specs.declared.title.OwnState.TheVariants.{Clean, Dirty, Poisoned}
+use Rattle.pa_slot.specs.declared.title.OwnState.TheVariants.{Clean, Poisoned}
 use Rattle.pa_machine.specs.declared.event.Event.{Event}
 use Rattle.pa_machine.specs.declared.event.Event.TheVariants.{Count, Store, Poison, Load, Hand, Cut, Uncut}
 use Rattle.pa_machine.specs.declared.event.StepFault.{StepFault}
 use Rattle.pa_machine.specs.declared.event.StepFault.TheVariants.{NotEnabled, OutOfMemory}
 use Rattle.pa_slot.specs.Run.{IsReturning}
 use Rattle.pa_slot.specs.Titles.{content_at, count_word, HasContentFrom, same_title}
-use Rattle.pa_slot.specs.Holdings.{Thing, FreeTitle, OwnOf, OwnAs, RefOf}
+use Rattle.pa_slot.specs.Holdings.{FreeTitle, OwnOf, OwnAs, RefOf}
 use Rattle.pa_machine.specs.Good.{IsGood}
 use Rattle.pa_machine.specs.Events.{State, held_by, total_of, IsEnabled, Happens, IsSameShape}
 

@@ -48,7 +48,7 @@ module _ (bytes : List ℕ) (u : Unread) (p : Player) where
     input_ready l v line =
         record { region = u.head.region; partitions = u.head.partitions; threads = u.head.threads; ls = so_far.ls; can = can l v line }
 
-    -- and then one line more was played
+    -- after a line was read and the player went on over it, the input is played up to that line
     pub input_goes_on : (l : Line) (v : Unread) (q : Player) → IsLineRead u l v → GoesOnTo p l q → IsPlayedUpTo bytes v q
     input_goes_on l v q line goes = record {
       ls = so_far.ls ++ l ∷ [];

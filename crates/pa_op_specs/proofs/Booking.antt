@@ -1,6 +1,6 @@
 -- What a worker booked to the totals words grows by what its ops owe, and a settling leaves it as it is.
-use Rattle.std.proofs.Common.{◌≡◌, ℕ, ◌+◌, ◌*◌, ◌<◌, ◌≤◌, true, List, [], ◌∷◌, ◌++◌, refl, sym, ◌∙◌, ap, subst, arith}
-use Rattle.std.specs.Prelude.{◌==◌, Contains, if◌then◌else◌}
+use Rattle.std.proofs.Common.{◌≡◌, ℕ, ◌+◌, ◌*◌, ◌≤◌, true, List, [], ◌∷◌, ◌++◌, refl, ◌∙◌, ap, arith}
+use Rattle.std.specs.Prelude.{◌==◌, Contains}
 use Rattle.std.specs.List.{sum_by}
 use Rattle.std.proofs.lemmas.Bool.{eq-eqb}
 use Rattle.std.proofs.lemmas.List.Sums.{sum_by-cons, sum_by-append}
@@ -11,15 +11,14 @@ use Rattle.pa_region.specs.declared.view.Entry.TheVariants.{Counted, Looked, Rea
 use Rattle.pa_region.specs.Takes.{log_of}
 use Rattle.pa_region.specs.Totals.{is_of_kind, owes_as, added_as, added_to}
 use Rattle.pa_rules.specs.declared.played.Played.{Played}
-use Rattle.pa_rules.specs.Played.{marks_of}
-use Rattle.pa_legal.specs.Tallies.{weight_of, bytes_of}
+use Rattle.pa_legal.specs.Tallies.{bytes_of}
 use Rattle.pa_logs.specs.Told.{ToldRecord}
 use Rattle.pa_logs.specs.Touches.{step_by}
 use Rattle.pa_totals.specs.declared.owed.Owed.{Owed}
 use Rattle.pa_totals.specs.Settled.{owed_in}
 use Rattle.pa_op_specs.specs.Stocks.{StockValue}
 use Rattle.pa_op_specs.specs.Workers.{WorkerValue, HasItsStake, IsCovered}
-use Rattle.pa_op_specs.specs.Booking.{booked, BooksBy}
+use Rattle.pa_op_specs.specs.Booking.{BooksBy}
 use Rattle.pa_op_specs.specs.Owing.{AddsNothing, bytes_stepped, owed_by}
 use Rattle.pa_op_specs.specs.Plays.{Does}
 use Rattle.pa_op_specs.proofs.Counting.{OwesBy, weight_append}

@@ -163,7 +163,7 @@ module _ (home size : SlotName → ℕ) (x : Played) (m : Mark) (step : Step) (m
   if_zero true n none = none
   if_zero false n none = refl
 
-  -- and one for which the slot weighs nothing
+  -- a record whose slot weighs nothing adds nothing to a number
   grew_elsewhere : (test : Step → ℕ → Bool) (weight : SlotName → ℕ) (n : ℕ) → weight m.slot ≡ 0 → n ≡ n + weight_of test weight (marks_of (x ∷ []))
   grew_elsewhere test weight n none =
       let a : weight_of test weight (marks_of (x ∷ [])) ≡ 0 = weight_one test weight x m marked ∙ if_zero (at_step test m.found m.step) (weight m.slot) none in

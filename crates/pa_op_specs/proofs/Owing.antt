@@ -18,7 +18,7 @@ use Rattle.pa_logs.specs.Touches.{touches, title_of, value_by, done_step, AreLoo
 use Rattle.pa_op_specs.specs.Owing.{bytes_stepped, owed_by, OwesOf}
 use Rattle.pa_op_specs.specs.Stocks.{StockRegister}
 
--- the same entry before both
+-- if a log segment owes what its touches owe, it does with one more entry in front of both
 owes_both : (q : ℕ) (e : Entry) (es : List Entry) → sum_by (owes_as q) es ≡ sum_by (owes_as q) (touches es) →
     sum_by (owes_as q) (e ∷ es) ≡ sum_by (owes_as q) (e ∷ touches es)
 owes_both q e es same = let a = sum_by-cons (owes_as q) e es in let b = sum_by-cons (owes_as q) e (touches es) in omega arith

@@ -90,7 +90,7 @@ same_seen t u n m k other e = elim (title_tells t u) [
   | inr differs ↦ rw differs.0 at e
 ]
 
--- and of the title itself n is seen
+-- after n was seen of a title, the number seen of it isn't less than n
 pub now_seen : (t : Title) (n m k : ℕ) → m ≡ (if same_title t t then max n k else k) → n ≤ m
 now_seen t n m k e = elim (title_tells t t) [
   | inl y ↦ (let f : m ≡ max n k = rw y.0 at e in omega arith)

@@ -4,7 +4,7 @@ use Rattle.std.specs.List.{sum_by}
 use Rattle.pa_slot.specs.declared.title.Title.{Title}
 use Rattle.pa_slot.specs.Titles.{same_title, IsWellFormed}
 use Rattle.pa_slot.specs.Holdings.{one}
-use Rattle.pa_buckets.specs.Limits.{class_count}
+use Rattle.pa_buckets.specs.Limits.{sparse_count}
 use Rattle.pa_record.specs.Spans.{name_of}
 use Rattle.pa_trace.specs.Limits.{register_count, most_partitions, most_threads}
 use Rattle.pa_rules.specs.Limits.{list_count}
@@ -27,7 +27,7 @@ abbrev pub StockRegister : Type 0
 StockRegister = Register Handle
 
 -- A worker's thread state, as contracts see it: the number of its thread, how many partitions the run has, the view of its seat, its
--- registers, and a cache for each of 4 partitions and 59 classes, those of partition 0 first.
+-- registers, and a cache for each of 4 partitions and of the 59 classes of version 1, those of partition 0 first.
 pub record StockValue : Type 0 where
   pub thread : ℕ
   pub partitions : ℕ
@@ -41,7 +41,7 @@ register_in registers i = slice_index_or registers i Empty
 
 -- the index of the cache of a partition and a class
 abbrev pub cache_place : ℕ → ℕ → ℕ
-cache_place p class = class_count * p + class
+cache_place p class = sparse_count * p + class
 
 -- the cache to use if there is none: it has no titles
 abbrev pub no_cache : CacheList
@@ -49,7 +49,7 @@ no_cache = record { class = 0; titles = [] }
 
 -- the titles in the cache of a partition and a class, front first, or none if there is no such class
 abbrev pub titles_in : List CacheList → ℕ → ℕ → List Title
-titles_in caches p class = if nat_lt class class_count then (slice_index_or caches (cache_place p class) no_cache).titles else []
+titles_in caches p class = if nat_lt class sparse_count then (slice_index_or caches (cache_place p class) no_cache).titles else []
 
 -- a worker's register, as the rules of a run have it
 abbrev pub as_reg : StockRegister → Reg
@@ -117,7 +117,7 @@ listed_slot p class t = record { title = t; partition = p; class = Some class }
 pub record HoldsLists (caches : List CacheList) (v : View) : Type 0 where
   pub count : length caches ≡ list_count
   pub sound : (k : ℕ) → IsCache (slice_index_or caches k no_cache)
-  pub classes : (p class : ℕ) → p < most_partitions → class < class_count →
+  pub classes : (p class : ℕ) → p < most_partitions → class < sparse_count →
       (slice_index_or caches (cache_place p class) no_cache).class ≡ class
   pub few : (p class : ℕ) → length (titles_in caches p class) ≤ limit_of class
   pub free : (p class : ℕ) (t : Title) → Contains (titles_in caches p class) t → 0 < free_of v t
@@ -155,4 +155,4 @@ pub record IsNewStock (thread partitions : ℕ) (v : View) (s : StockValue) : Ty
 -- these are the first `count` lists of a worker at the start: of each class in turn, without titles
 pub record AreNoLists (count : ℕ) (caches : List CacheList) : Type 0 where
   pub count_is : length caches ≡ count
-  pub each : (k : ℕ) → k < count → slice_index_or caches k no_cache ≡ record { class = k % class_count; titles = [] }
+  pub each : (k : ℕ) → k < count → slice_index_or caches k no_cache ≡ record { class = k % sparse_count; titles = [] }

@@ -168,7 +168,7 @@ module _ (a : Parts) (h : IsFiled a) (x : Played) where
 
   purged_asks : (slots : ℕ) (cache next : Cache) → PurgedRow a.partitions a.roots x slots cache next → Asks a h x.line
   purged_asks slots cache next (acts, counted, empty) = inl (λ q act among. elim (cases_lt q a.partitions) [
-    | inl less ↦ purge_names_none (cache q) 0 59 act (subst (λ zs. Contains zs act) (acts q less) among)
+    | inl less ↦ purge_names_none (cache q) 0 170 act (subst (λ zs. Contains zs act) (acts q less) among)
     | inr past ↦ absurd (not_in_none act (subst (λ zs. Contains zs act) (no_acts_past a x.line q h past) among))
   ])
 

@@ -4,7 +4,7 @@ use Rattle.pa_slot.specs.declared.word.SlotName.{SlotName}
 use Rattle.pa_slot.specs.Count.{number_of, held_of}
 use Rattle.pa_slot.specs.Run.{Mark}
 use Rattle.pa_slot.specs.Titles.{poison}
-use Rattle.pa_buckets.proofs.Facts.{IsRow-of}
+use Rattle.pa_buckets.proofs.Facts.{IsRow_1-of}
 use Rattle.pa_direct.proofs.Serving.{Serves-of}
 use Rattle.pa_trace.specs.declared.script.Op.{Op}
 use Rattle.pa_trace.specs.declared.script.Op.TheVariants as ops
@@ -87,7 +87,7 @@ whole_words a s h made =
       | inl (p, c, (reg, size, op, class), of) ↦
           let usable = alloc_usable a h q seen (usable_in a.ps s) reg p size among answer op in
           let fits = sizes_fit.class size c class in
-          let row = IsRow-of c class.real in
+          let row = IsRow_1-of c class.real in
           let sixteens = row.sixteens in
           let least = row.least_slot in
           let is : usable_of size ≡ slot_size_for size - 8 = refl in

@@ -10,14 +10,14 @@ use Rattle.pa_lists.proofs.Members.{first_in}
 use Rattle.pa_record.proofs.SpanSteps.{with_free_front, size_some, pages_most}
 use Rattle.pa_place.specs.Served.{IsLow}
 
-pub few_bytes : (c : ℕ) → c < 59 → 16384 * pages_of c ≤ 917504
+pub few_bytes : (c : ℕ) → c < 170 → 16384 * pages_of c ≤ 983040
 few_bytes c real = let b = IsRow-of c real in let p = b.few_pages in omega arith
 
-pub few_slots : (c : ℕ) → c < 59 → slots_of c ≤ 1024
+pub few_slots : (c : ℕ) → c < 170 → slots_of c ≤ 1024
 few_slots c real = let b = IsRow-of c real in let p = b.few_slots in omega arith
 
 -- that many of its slots lie in a span
-pub slots_inside : (c n : ℕ) → c < 59 → n ≤ slots_of c → slot_of c * n ≤ 16384 * pages_of c
+pub slots_inside : (c n : ℕ) → c < 170 → n ≤ slots_of c → slot_of c * n ≤ 16384 * pages_of c
 slots_inside c n real below =
     let b = IsRow-of c real in
     let up : slot_of c * n ≤ slot_of c * slots_of c = mul-le-mul_left (slot_of c) below in
@@ -26,7 +26,7 @@ slots_inside c n real below =
     omega arith
 
 -- the slot with that number ends in its span
-pub slot_inside : (c n : ℕ) → c < 59 → n < slots_of c → slot_of c * n + slot_of c ≤ 16384 * pages_of c
+pub slot_inside : (c n : ℕ) → c < 170 → n < slots_of c → slot_of c * n + slot_of c ≤ 16384 * pages_of c
 slot_inside c n real below =
     let p = slots_inside c (n + 1) real (omega arith) in
     let e : slot_of c * (n + 1) ≡ slot_of c * n + slot_of c = omega arith in
@@ -36,9 +36,9 @@ slot_inside c n real below =
 pub record HasRoom (s : Span) : Type 0 where
   pub some : 0 < slot_of s.class
   pub slots : s.provisioned + 1 ≤ 1024
-  pub product : slot_of s.class * (s.provisioned + 1) ≤ 917504
-  pub committed : s.committed ≤ 224
-  pub pages : more_pages s ≤ 225
+  pub product : slot_of s.class * (s.provisioned + 1) ≤ 983040
+  pub committed : s.committed ≤ 240
+  pub pages : more_pages s ≤ 241
   pub most : more_slots s ≤ slots_of s.class
 
 pub has_room : (s : Span) → IsCounted s → s.provisioned < slots_of s.class → HasRoom s

@@ -171,7 +171,7 @@ in_change a ss i s to turn used e turns = record {
     not_none : (b a : State) → same_state a state.None ≡ false → b ≡ a → same_state b state.None ≡ false
     not_none b a used same = ap (λ z. same_state z state.None) same ∙ used
 
--- so the lists still say which spans are in which state
+-- after a span entered another state and was refiled, the lists say which spans are in which state, if they did before
 pub filed_anew : (ss : List Span) (i : ℕ) (s : Span) (to : State) (turn : ℕ) (lists after : Lists) → slice_get ss i ≡ Some s → HaveTurns ss turn → IsFiledAnew s.class s.state to i lists after → AreFiled ss lists →
     AreFiled (set ss i (in_state to turn s)) after
 filed_anew ss i s to turn lists after e turns done h =
@@ -185,7 +185,7 @@ filed_anew ss i s to turn lists after e turns done h =
       decommitted = all_refiled state.Decommitted ss i s t (same_state s.state state.Decommitted) (same_state to state.Decommitted) lists.decommitted.items after.decommitted.items (in_change state.Decommitted ss i s to turn refl e turns) done.decommitted h.decommitted;
     }
 
--- and have as much room
+-- refiling a span leaves room for as many spans as before in the list of each class
 room_refiled : (class n m : ℕ) (was is : Bool) (i : ℕ) (lists after : List (Vec ℕ Global)) → IsRefiledAt class was is i lists after → HasListRoom m n lists → HasListRoom m n after
 room_refiled class n m was is i lists after (list, next, there, done, e) h = λ ids f.
     elim (set_parts lists class m list next ids there (ap (λ xs. slice_get xs m) (sym e) ∙ f)) [

@@ -80,7 +80,7 @@ purges r next good e ordered =
     subst (IsInPlace r) (sym e)
     (step_by r (purged r) good a.kept.sound (let p = a.fewer in omega arith) (subst IsOrdered e ordered) a.kept.supers a.kept.maps (let p = a.turn in omega arith) a.kept.rises)
 
-pub filled_step : (class want : ℕ) (r next : Root) (titles : List Title) → IsGood r → class < 59 → want ≤ 8 → takes class want r ≡ filled_with next titles → IsOrdered next → IsInPlace r next
+pub filled_step : (class want : ℕ) (r next : Root) (titles : List Title) → IsGood r → class < 170 → want ≤ 8 → takes class want r ≡ filled_with next titles → IsOrdered next → IsInPlace r next
 filled_step class want r next titles good real few e ordered =
     let a = takes_filled class want r good.ready.sound real in
     let same : (takes class want r).root ≡ next = ap (λ (f : Filled). f.root) e in
@@ -88,7 +88,7 @@ filled_step class want r next titles good real few e ordered =
     subst (IsInPlace r) same
     (step_by r (takes class want r).root good a.sound (let p = a.settled in omega arith) (subst IsOrdered (sym same) ordered) a.supers a.maps (let p = a.turn in omega arith) a.rises)
 
--- so if the pool stays as it is, it is a step
+-- a step in place, which leaves super pages and direct maps as they are, is a step with n pool entries before and after it
 pub in_place : (n : ℕ) (r next : Root) → IsInPlace r next → IsStep n n r next
 in_place n r next a = record { turn = a.turn; rises = a.rises; entries = omega arith; one = omega arith; born = a.born n }
 

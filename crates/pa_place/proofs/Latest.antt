@@ -30,7 +30,7 @@ pub record IsLatestAt (test : Span → Bool) (ss : List Span) (o : Option ℕ) :
   pub latest : span_at ss o ≡ latest test ss
   pub within : IfSome o (λ at. at < length ss)
 
-pub class_latest : (a : State) (class : ℕ) (r : Root) (lists : List (Vec ℕ Global)) (o : Option ℕ) → same_state a state.None ≡ false → IsSound r → class < 59 → AreListed a r.spans lists →
+pub class_latest : (a : State) (class : ℕ) (r : Root) (lists : List (Vec ℕ Global)) (o : Option ℕ) → same_state a state.None ≡ false → IsSound r → class < 170 → AreListed a r.spans lists →
     ((list : Vec ℕ Global) → slice_get lists class ≡ Some list → o ≡ last_of list.items) → IsLatestAt (is_of class a) r.spans o
 class_latest a class r lists o used sound real h last =
     let (list, e) = element_at lists class (let k = h.classes in omega arith) in

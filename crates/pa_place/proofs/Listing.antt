@@ -300,13 +300,13 @@ listed_in_turn test ss ids h = record {
   order = h.order;
 }
 
--- so no index is twice in it
+-- a list in the order of turns has no index twice
 pub once_in_turn : (ss : List Span) (ids : List ℕ) → IsInTurn ss ids → AllPairs ◌≢◌ ids
 once_in_turn ss ids h = pairs_give (IsSooner ss) ◌≢◌ ids h.order (λ j k first second sooner same.
     let (v, f) = element_at ss j (h.within j first) in
     not_sooner ss j v f (subst (λ z. IsSooner ss j z) (sym same) sooner))
 
--- and if one is last, the list without it ends before it
+-- if a list has no index twice, taking out its last index leaves just what comes before that
 pub without_last : (i : ℕ) (ids : List ℕ) → AllPairs ◌≢◌ (ids ++ i ∷ []) → without_index i (ids ++ i ∷ []) ≡ ids
 without_last i [] once = rw (eq-eqb i i refl) refl
 without_last i (k ∷ ids) once = elim (cases_Bool (eqb k i)) [
@@ -365,7 +365,7 @@ last_is_latest test r ids None sound used h e = sym (none_is_latest test r.spans
 last_is_latest test r ids (Some i) sound used h e =
     listed_latest test r ids i sound used h (at_in ids (length ids - 1) i (sym e)) (λ j among. last_pair (IsSooner r.spans) ids j i h.order among (sym e))
 
--- and is among the spans
+-- the last index of a listing, if it has one, is the index of a span
 pub listed_within : (test : Span → Bool) (ss : List Span) (ids : List ℕ) (o : Option ℕ) → IsListing test ss ids → o ≡ last_of ids → IfSome o (λ at. at < length ss)
 listed_within test ss ids None h e = tt
 listed_within test ss ids (Some i) h e = let (s, f, p) = h.here i (at_in ids (length ids - 1) i (sym e)) in slice_get_within ss i s f

@@ -5,7 +5,6 @@ use Rattle.std.proofs.lemmas.List.Sums.{sum_by-cons}
 use Rattle.std.proofs.Math.Nat.{mul-le-mul_left}
 use Rattle.pa_slot.specs.declared.title.Title.{Title}
 use Rattle.pa_slot.specs.declared.word.SlotName.{SlotName}
-use Rattle.pa_buckets.specs.declared.spans.State.TheVariants as state
 use Rattle.pa_buckets.specs.Table.{slot_of, slots_of}
 use Rattle.pa_buckets.proofs.Facts.{IsRow-of}
 use Rattle.pa_record.specs.Spans.{Span, title_at, name_of, holds}
@@ -63,16 +62,16 @@ sum_most f m (s ∷ ss) h =
 kept_most : (s : Span) → IsCounted s → kept_of s ≤ slots_of s.class
 kept_most s h = let p = h.most in omega arith
 
-kept_bytes : (s : Span) → IsCounted s → slot_of s.class * kept_of s ≤ 917504
+kept_bytes : (s : Span) → IsCounted s → slot_of s.class * kept_of s ≤ 983040
 kept_bytes s h =
     let p = slots_inside s.class (kept_of s) h.class (kept_most s h) in
     let q = few_bytes s.class h.class in
     omega arith
 
-committed_few : (s : Span) → IsCounted s → s.committed ≤ 224
+committed_few : (s : Span) → IsCounted s → s.committed ≤ 240
 committed_few s h = let b = IsRow-of s.class h.class in let p = h.committed in let q = b.used in let k = b.few_pages in omega arith
 
-low_product : (m n : ℕ) → m ≤ 917504 → n ≤ 2147483647 → m * n ≤ 917504 * 2147483647
+low_product : (m n : ℕ) → m ≤ 983040 → n ≤ 2147483647 → m * n ≤ 983040 * 2147483647
 low_product m n a b =
     let p : m * n ≤ m * 2147483647 = mul-le-mul_left m b in
     omega arith
@@ -82,12 +81,12 @@ counted_all r ready s among = (ready.sound.spans s among).counted
 
 pub bytes_low : (r : Root) → IsReady r → length r.spans ≤ 2147483647 → sum_by (λ (s : Span). slot_of s.class * kept_of s) r.spans < 2 ^ 64
 bytes_low r ready few =
-    let p = sum_most (λ (s : Span). slot_of s.class * kept_of s) 917504 r.spans (λ s among. kept_bytes s (counted_all r ready s among)) in
-    let q = low_product 917504 (length r.spans) (omega arith) few in
+    let p = sum_most (λ (s : Span). slot_of s.class * kept_of s) 983040 r.spans (λ s among. kept_bytes s (counted_all r ready s among)) in
+    let q = low_product 983040 (length r.spans) (omega arith) few in
     omega arith
 
 pub pages_low : (r : Root) → IsReady r → length r.spans ≤ 2147483647 → sum_by (λ (s : Span). s.committed) r.spans ≤ 2 ^ 40
 pages_low r ready few =
-    let p = sum_most (λ (s : Span). s.committed) 224 r.spans (λ s among. committed_few s (counted_all r ready s among)) in
-    let q = low_product 224 (length r.spans) (omega arith) few in
+    let p = sum_most (λ (s : Span). s.committed) 240 r.spans (λ s among. committed_few s (counted_all r ready s among)) in
+    let q = low_product 240 (length r.spans) (omega arith) few in
     omega arith

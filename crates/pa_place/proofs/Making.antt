@@ -205,7 +205,7 @@ new_made class r at t (v, member, n, below, e) = elim (Contains-push_cases r.spa
 still_made : (class : ℕ) (r : Root) (at : SuperPage) (t : Title) → IsMade r t → IsMade (with_span (new_span class at r.page) r) t
 still_made class r at t (v, member, n, below, e) = (v, Contains-append_left r.spans (new_span class at r.page ∷ []) v member, n, below, e)
 
-cut_new : (class : ℕ) (r : Root) (at : SuperPage) → IsReady r → class < 59 → current r ≡ Some at → r.page + pages_of class ≤ 127 →
+cut_new : (class : ℕ) (r : Root) (at : SuperPage) → IsReady r → class < 170 → current r ≡ Some at → r.page + pages_of class ≤ 127 →
     (let s = new_span class at r.page in AreMadeNow class r (from_there s (with_span s r)).root (made_from s.made (with_free s)))
 cut_new class r at ready real now room =
     let s = new_span class at r.page in
@@ -221,21 +221,21 @@ cut_new class r at ready real now room =
       once = h.once;
     }
 
-cut_page : (class : ℕ) (r : Root) (o : Option SuperPage) → IsReady r → class < 59 → current r ≡ o → AreMadeNow class r (taken_from (at_page class r o) r).root (cut_in (at_page class r o))
+cut_page : (class : ℕ) (r : Root) (o : Option SuperPage) → IsReady r → class < 170 → current r ≡ o → AreMadeNow class r (taken_from (at_page class r o) r).root (cut_in (at_page class r o))
 cut_page class r None ready real now = none_made class r
 cut_page class r (Some at) ready real now = elim (cases_Bool (leb (r.page + pages_of class) 127)) [
   | inl room ↦ rw room (cut_new class r at ready real now (leb-true _ _ room))
   | inr full ↦ rw full (none_made class r)
 ]
 
-cut_by : (class : ℕ) (r : Root) (o : Option Span) → IsReady r → class < 59 → listed class r.spans ≡ o → AreMadeNow class r (taken_from (found_or_new class r o) r).root (cut_in (found_or_new class r o))
+cut_by : (class : ℕ) (r : Root) (o : Option Span) → IsReady r → class < 170 → listed class r.spans ≡ o → AreMadeNow class r (taken_from (found_or_new class r o) r).root (cut_in (found_or_new class r o))
 cut_by class r None ready real e = cut_page class r (current r) ready real refl
 cut_by class r (Some s) ready real e =
     let u = listed_is class r.spans s e in
     subst (λ c. AreMadeNow c r (from_there s r).root (made_from s.made (with_free s))) u.of_class
     (cut_there r s ready u.among (usable_less s (ready.sound.spans s u.among) u.left))
 
-one_cut : (class : ℕ) (r : Root) → IsReady r → class < 59 → AreMadeNow class r (one_take class r).root (cut_in (span_for class r))
+one_cut : (class : ℕ) (r : Root) → IsReady r → class < 170 → AreMadeNow class r (one_take class r).root (cut_in (span_for class r))
 one_cut class r ready real = cut_by class r (listed class r.spans) ready real refl
 
 -- batches that are made one after another
@@ -266,8 +266,8 @@ both_made class r mid after bs cs h k = record {
       (λ b c first second t inside other. k.new t (c, second, other) ((h.made t).1 (inr (b, first, inside))));
 }
 
--- and those of a fill
-cuts_by : (class k : ℕ) (r : Root) (o : Option Title) → IsReady r → class < 59 → one_take class r ≡ took_with (one_take class r).root o →
+-- if the batches of a fill of k from any ready root are just what it makes, those of a fill of k + 1 are too
+cuts_by : (class k : ℕ) (r : Root) (o : Option Title) → IsReady r → class < 170 → one_take class r ≡ took_with (one_take class r).root o →
     ((next : Root) → IsReady next → AreMadeNow class next (takes class k next).root (takes_cut class k next)) → AreMadeNow class r (takes class (suc k) r).root (takes_cut class (suc k) r)
 cuts_by class k r None ready real e further =
     let first = cut_in (span_for class r) in
@@ -291,6 +291,6 @@ cuts_by class k r (Some t) ready real e further =
     subst (λ z. AreMadeNow class r z (takes_cut class (suc k) r)) (sym root)
     (subst (λ bs. AreMadeNow class r (takes class k next).root bs) (sym all) (both_made class r next (takes class k next).root first (takes_cut class k next) (one_cut class r ready real) after))
 
-pub cuts_made : (class want : ℕ) (r : Root) → IsReady r → class < 59 → AreMadeNow class r (takes class want r).root (takes_cut class want r)
+pub cuts_made : (class want : ℕ) (r : Root) → IsReady r → class < 170 → AreMadeNow class r (takes class want r).root (takes_cut class want r)
 cuts_made class zero r ready real = none_made class r
 cuts_made class (suc k) r ready real = cuts_by class k r (one_take class r).title ready real refl (λ next good. cuts_made class k next good real)

@@ -87,7 +87,7 @@ order_push class r at sound h now =
       supers = h.supers;
     }
 
--- so does a new super page
+-- a root stays in order when a super page is opened that was born after all its others
 pub order_opened : (number born : ℕ) (r : Root) → IsBornBelow born r → IsOrdered r → IsOrdered (opened number born r)
 order_opened number born r old h =
     let at : SuperPage = record { number = number; born = born } in

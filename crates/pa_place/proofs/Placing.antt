@@ -101,7 +101,7 @@ pub record IsReadyFound (f : Found) : Type 0 where
   pub ready : IsReady f.root
   pub left : f.span.allocated < slots_of f.span.class
 
-ready_page : (class : ℕ) (r : Root) (o : Option SuperPage) (f : Found) → IsReady r → class < 59 → current r ≡ o → at_page class r o ≡ Some f → IsReadyFound f
+ready_page : (class : ℕ) (r : Root) (o : Option SuperPage) (f : Found) → IsReady r → class < 170 → current r ≡ o → at_page class r o ≡ Some f → IsReadyFound f
 ready_page class r None f ready real now e = absurd (not_some f e)
 ready_page class r (Some at) f ready real now e = elim (cases_Bool (leb (r.page + pages_of class) 127)) [
   | inl room ↦
@@ -113,13 +113,13 @@ ready_page class r (Some at) f ready real now e = elim (cases_Bool (leb (r.page 
   | inr full ↦ absurd (not_some f (rw full at e))
 ]
 
-ready_by : (class : ℕ) (r : Root) (o : Option Span) (f : Found) → IsReady r → class < 59 → listed class r.spans ≡ o → found_or_new class r o ≡ Some f → IsReadyFound f
+ready_by : (class : ℕ) (r : Root) (o : Option Span) (f : Found) → IsReady r → class < 170 → listed class r.spans ≡ o → found_or_new class r o ≡ Some f → IsReadyFound f
 ready_by class r None f ready real is e = ready_page class r (current r) f ready real refl e
 ready_by class r (Some s) f ready real is e =
     let u = listed_is class r.spans s is in
     subst IsReadyFound (of_some _ f e) (record { ready = ready; left = usable_less s (ready.sound.spans s u.among) u.left })
 
-pub found_ready : (class : ℕ) (r : Root) (f : Found) → IsReady r → class < 59 → span_for class r ≡ Some f → IsReadyFound f
+pub found_ready : (class : ℕ) (r : Root) (f : Found) → IsReady r → class < 170 → span_for class r ≡ Some f → IsReadyFound f
 found_ready class r f ready real e = ready_by class r (listed class r.spans) f ready real refl e
 
 -- a take from the span there

@@ -17,7 +17,7 @@ not_none ts f r e some none =
     let empty = ap length none in
     omega arith
 
-pub fill_refused : (class want : ℕ) (pool next : PoolState) (r after : Root) (ts : List Title) (asked : Option ℕ) → IsSound r → IsBornBelow pool.entries r → class < 59 → 1 ≤ want →
+pub fill_refused : (class want : ℕ) (pool next : PoolState) (r after : Root) (ts : List Title) (asked : Option ℕ) → IsSound r → IsBornBelow pool.entries r → class < 170 → 1 ≤ want →
     Fills class want pool next r (filled_with after ts) asked → (ts ≡ []) ↔ IsRefused 1 pool asked
 fill_refused class zero pool next r after ts asked sound old real some h = absurd (omega arith)
 fill_refused class (suc k) pool next r after ts None sound old real some (found, same, e) = (

@@ -91,7 +91,7 @@ firsts_many : (ts : List Taken) → length (map (λ (t : Taken). t.first) ts) �
 firsts_many [] = refl
 firsts_many (t ∷ ts) = ap (λ n. suc n) (firsts_many ts)
 
--- so there are no more of them than super pages
+-- a sound plan has no more runs taken than there are super pages
 pub runs_most : (supers entries : ℕ) (ts : List Taken) → IsSoundPlan (state_of supers entries ts) → length ts ≤ supers
 runs_most supers entries ts h =
     let firsts = map (λ (t : Taken). t.first) ts in
@@ -101,7 +101,7 @@ runs_most supers entries ts h =
     let many = firsts_many ts in
     omega arith
 
--- and there is room for one more that is free
+-- a sound plan that has a free run of one super page or more has fewer than 64 runs taken
 pub run_fits : (supers entries : ℕ) (ts : List Taken) (t : Taken) → IsSoundPlan (state_of supers entries ts) → 1 ≤ t.count →
     IsFreeRun (state_of supers entries ts) t.count t.first → length ts < 64
 run_fits supers entries ts t h some run =

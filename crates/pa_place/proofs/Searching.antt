@@ -78,7 +78,7 @@ before_misses name u v before not_after = elim (cases_Bool (holds name u)) [
       ]
 ]
 
--- so a span that holds it is the one that is found
+-- a span that holds a slot doesn't start after it, and a search of ordered spans for the slot finds that span
 held_not_after : (name : SlotName) (v : Span) → holds name v ≡ true → starts_after name v ≡ false
 held_not_after name v hit = elim (cases_Bool (starts_after name v)) [
   | inl after ↦ absurd (both_ways _ (after_misses name v after) hit)
@@ -90,7 +90,7 @@ held_found name ss at v order e hit =
     find_first (holds name) ss at v e hit
     (λ i y less f. before_misses name y v (pairs_at IsBefore ss i at y v order less f e) (held_not_after name v hit))
 
--- and without one before the cut there is none
+-- if the last span that doesn't start after a slot doesn't hold the slot, a search of the ordered spans finds none
 pub none_held : (name : SlotName) (ss : List Span) (at : ℕ) (v : Span) → AllPairs IsBefore ss → IsCut name ss (at + 1) → slice_get ss at ≡ Some v → holds name v ≡ false →
     find (holds name) ss ≡ None
 none_held name ss at v order cut e miss = find_nothing (holds name) ss (λ i y f. elim (order_of i at) [

@@ -71,7 +71,7 @@ removed_at (j ∷ ids) (suc k) i once e =
 pub removed_cut : (ss : List Span) (ids : List ℕ) (k i : ℕ) → IsInTurn ss ids → slice_get ids k ≡ Some i → remove ids k ≡ without_index i ids
 removed_cut ss ids k i h e = removed_at ids k i (once_in_turn ss ids h) e
 
--- and if another does it isn't listed
+-- taking out an index that isn't in a list leaves the list as it is
 absent_without : (i : ℕ) (ids : List ℕ) → (Contains ids i → ⊥) → ids ≡ without_index i ids
 absent_without i [] away = refl
 absent_without i (k ∷ ids) away = elim (cases_Bool (eqb k i)) [

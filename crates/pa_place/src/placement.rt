@@ -39,7 +39,7 @@ impl Model for Placement {
 }
 
 impl Placement {
-    /// A root with no super page.
+    /// The placement of a new root, which has no super page.
     pub fn new(alloc: Global) -> Result<Placement, OutOfMemory>
         ensures start { IfOk result (λ p. p ≡ new_root) }
     {

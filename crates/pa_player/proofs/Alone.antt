@@ -48,18 +48,18 @@ pub record IsFree (p : Player) (i : ℕ) : Type 0 where
 
 -- lists of two threads
 cached_two : (s : SlotName) (all : Caches) (q threads t u : ℕ) → t < threads → u < threads → (t ≡ u → ⊥)
-    → listed_times s (all t q) 0 59 + listed_times s (all u q) 0 59 ≤ cached_times s all q threads
+    → listed_times s (all t q) 0 170 + listed_times s (all u q) 0 170 ≤ cached_times s all q threads
 cached_two s all q zero t u below lower apart = absurd (omega arith)
 cached_two s all q (suc n) t u below lower apart = elim (cases_eq t n) [
   | inl e ↦
       let other : u ≡ n → ⊥ = λ f. apart (e ∙ sym f) in
       let least = cached_least s all q n u (omega arith) in
-      let same : listed_times s (all t q) 0 59 ≡ listed_times s (all n q) 0 59 = ap (λ z. listed_times s (all z q) 0 59) e in
+      let same : listed_times s (all t q) 0 170 ≡ listed_times s (all n q) 0 170 = ap (λ z. listed_times s (all z q) 0 170) e in
       omega arith
   | inr ne ↦ elim (cases_eq u n) [
     | inl e ↦
         let least = cached_least s all q n t (omega arith) in
-        let same : listed_times s (all u q) 0 59 ≡ listed_times s (all n q) 0 59 = ap (λ z. listed_times s (all z q) 0 59) e in
+        let same : listed_times s (all u q) 0 170 ≡ listed_times s (all n q) 0 170 = ap (λ z. listed_times s (all z q) 0 170) e in
         omega arith
     | inr other ↦ let ih = cached_two s all q n t u (omega arith) (omega arith) apart in omega arith
   ]
@@ -123,7 +123,7 @@ module _ (region partitions threads : ℕ) (ls : List Line) (p : Player) (h : Is
       rw (a, b) (map_in (numbered_at p.table) (list_at p t q class) i among)
 
   some_here : (i t q class bound : ℕ) → q < partitions → class < 59 → t < bound → Contains (list_at p t q class) i → 1 ≤ cached_times (named_at p.table i) (caches p) q bound
-  some_here i t q class bound inside real below among = some_cached (caches p) q bound t class (numbered_at p.table i) below real (listed_cached i t q class inside real among)
+  some_here i t q class bound inside real below among = some_cached (caches p) q bound t class (numbered_at p.table i) below (omega (arith, real)) (listed_cached i t q class inside real among)
 
   in_table : (i t q class : ℕ) → t < threads → q < partitions → class < 59 → Contains (list_at p t q class) i → (i < length p.table) × ((slot_at p.table i).partition ≡ q) × ((slot_at p.table i).class ≡ Some class)
   in_table i t q class below inside real among = h.shaped.listed t q class i below inside real among
@@ -166,9 +166,9 @@ module _ (region partitions threads : ℕ) (ls : List Line) (p : Player) (h : Is
   stands_here i t q class inside real among =
       some_times (named_at p.table i) (names (caches p t q class)) (map_in (λ (n : Numbered). n.slot) (caches p t q class) (numbered_at p.table i) (listed_cached i t q class inside real among))
 
-  listed_some : (i t q class : ℕ) → q < partitions → class < 59 → Contains (list_at p t q class) i → 1 ≤ listed_times (named_at p.table i) (caches p t q) 0 59
+  listed_some : (i t q class : ℕ) → q < partitions → class < 59 → Contains (list_at p t q class) i → 1 ≤ listed_times (named_at p.table i) (caches p t q) 0 170
   listed_some i t q class inside real among =
-      let a = listed_least (named_at p.table i) (caches p t q) class 0 59 (omega arith) (omega (arith, real)) in
+      let a = listed_least (named_at p.table i) (caches p t q) class 0 170 (omega arith) (omega (arith, real)) in
       let b = stands_here i t q class inside real among in
       omega arith
 
@@ -213,7 +213,7 @@ module _ (region partitions threads : ℕ) (ls : List Line) (p : Player) (h : Is
       let there : Contains (list_at p t q class) i = subst (λ z. Contains z i) (sym is) (first_in i rest) in
       let at = in_table i t q class below inside real there in
       let two = twice i t q class rest inside real is among in
-      let some = listed_least (named_at p.table i) (caches p t q) class 0 59 (omega arith) (omega (arith, real)) in
+      let some = listed_least (named_at p.table i) (caches p t q) class 0 170 (omega arith) (omega (arith, real)) in
       let bound = max (t + 1) (threads_of h.ps) in
       let least = cached_least (named_at p.table i) (caches p) q bound t (omega arith) in
       let many : 2 ≤ cached_times (named_at p.table i) (caches p) (slot_at p.table i).partition bound =

@@ -10,7 +10,7 @@ use Rattle.pa_slot.specs.declared.word.SlotName.{SlotName}
 use Rattle.pa_slot.specs.declared.word.Step.{Step}
 use Rattle.pa_slot.specs.Run.{Mark}
 use Rattle.pa_buckets.specs.Table.{slot_of}
-use Rattle.pa_buckets.proofs.Facts.{IsRow-of}
+use Rattle.pa_buckets.proofs.Facts.{IsRow-of, IsRow_1-of}
 use Rattle.pa_direct.proofs.Serving.{Serves-of}
 use Rattle.pa_trace.specs.declared.script.Line.{Line}
 use Rattle.pa_trace.specs.declared.script.Line.TheVariants.{Phase, Do}
@@ -67,24 +67,26 @@ weight_few test weight most (m ∷ ms) low =
 -- ---- lists that are short
 
 pub listed_few : (lists : ℕ → List Numbered) (class n : ℕ) → ((c : ℕ) → length (lists c) ≤ 64) → listed_slots lists class n ≤ 64 * n
+unfolding listed_slots
 listed_few lists class zero short = omega arith
 listed_few lists class (suc n) short = omega (arith, short class, listed_few lists (class + 1) n short)
 
-bytes_few : (counts : ℕ → ℕ) (class n : ℕ) → class + n ≤ 59 → ((c : ℕ) → counts c ≤ 64) → listed_bytes counts class n ≤ 58720256 * n
+bytes_few : (counts : ℕ → ℕ) (class n : ℕ) → class + n ≤ 170 → ((c : ℕ) → counts c ≤ 64) → listed_bytes counts class n ≤ 62914560 * n
+unfolding listed_bytes
 bytes_few counts class zero low short = omega arith
 bytes_few counts class (suc n) low short =
-    let great : slot_of class ≤ 917504 = (IsRow-of class (omega (arith, low))).greatest_slot in
-    omega (arith, mul-le (slot_of class) (counts class) 917504 64 great (short class), bytes_few counts (class + 1) n (omega (arith, low)) short)
+    let great : slot_of class ≤ 983040 = (IsRow-of class (omega (arith, low))).greatest_slot in
+    omega (arith, mul-le (slot_of class) (counts class) 983040 64 great (short class), bytes_few counts (class + 1) n (omega (arith, low)) short)
 
-all_few : (all : Caches) (q n : ℕ) → ((t c : ℕ) → t < n → length (all t q c) ≤ 64) → cached_slots all q n ≤ 3776 * n
+all_few : (all : Caches) (q n : ℕ) → ((t c : ℕ) → t < n → length (all t q c) ≤ 64) → cached_slots all q n ≤ 10880 * n
 all_few all q zero short = omega arith
 all_few all q (suc t) short =
-    omega (arith, listed_few (all t q) 0 59 (λ c. short t c (omega arith)), all_few all q t (λ u c lt. short u c (omega (arith, lt))))
+    omega (arith, listed_few (all t q) 0 170 (λ c. short t c (omega arith)), all_few all q t (λ u c lt. short u c (omega (arith, lt))))
 
-all_bytes_few : (all : Caches) (q n : ℕ) → ((t c : ℕ) → t < n → length (all t q c) ≤ 64) → cached_bytes all q n ≤ 3464495104 * n
+all_bytes_few : (all : Caches) (q n : ℕ) → ((t c : ℕ) → t < n → length (all t q c) ≤ 64) → cached_bytes all q n ≤ 10695475200 * n
 all_bytes_few all q zero short = omega arith
 all_bytes_few all q (suc t) short =
-    omega (arith, bytes_few (λ class. length (all t q class)) 0 59 (omega arith) (λ c. short t c (omega arith)), all_bytes_few all q t (λ u c lt. short u c (omega (arith, lt))))
+    omega (arith, bytes_few (λ class. length (all t q class)) 0 170 (omega arith) (λ c. short t c (omega arith)), all_bytes_few all q t (λ u c lt. short u c (omega (arith, lt))))
 
 -- the bounds of a slot's length, which is whole words
 pub record IsLength (len : ℕ) : Type 0 where
@@ -95,7 +97,7 @@ pub record IsLength (len : ℕ) : Type 0 where
 module _ (region partitions threads : ℕ) (ls : List Line) (p : Player) (h : IsPlaying region partitions threads ls p) where
   let_out_length : (x : Slot) (class : Option ℕ) → IsLetOut (journals p) x class → IsLength x.title.len
   let_out_length x (Some class) of =
-      let row = IsRow-of class of.0 in
+      let row = IsRow_1-of class of.0 in
       record { whole = omega (arith, of.2, row.sixteens); least = omega (arith, of.2, row.least_slot); greatest = omega (arith, of.2, row.greatest_slot) }
   let_out_length x None (e, asked, among, act) =
       let (y, of, makes) = h.placed.lines x.partition e among in
@@ -134,7 +136,7 @@ module _ (region partitions threads : ℕ) (ls : List Line) (p : Player) (h : Is
   pub list_short : (t q class : ℕ) → t < threads → q < partitions → length (caches p t q class) ≤ 64
   list_short t q class below low = elim (cases_lt class 59) [
     | inl real ↦
-        let kept = (IsRow-of class real).few_kept in
+        let kept = (IsRow_1-of class real).few_kept in
         let same = ap length (caches_here p t q class (omega (arith, low, h.shaped.many)) real) in
         omega (arith, kept, same, length-map (list_at p t q class) (numbered_at p.table), h.shaped.short t q class below low real)
     | inr past ↦ omega (arith, ap length (caches_none p t q class (λ a b. omega (arith, past, b))))

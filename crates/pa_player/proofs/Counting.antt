@@ -63,7 +63,7 @@ levels w lists class (suc n) = w class (lists class) + levels w lists (class + 1
 
 totals : (ℕ → List Numbered → ℕ) → Caches → ℕ → ℕ → ℕ
 totals w all k zero = 0
-totals w all k (suc t) = levels w (all t k) 0 59 + totals w all k t
+totals w all k (suc t) = levels w (all t k) 0 170 + totals w all k t
 
 levels_same : (w : ℕ → List Numbered → ℕ) (lists others : ℕ → List Numbered) (from n : ℕ) → ((c : ℕ) → from ≤ c → others c ≡ lists c) → levels w others from n ≡ levels w lists from n
 unfolding levels
@@ -93,22 +93,22 @@ totals_past : (w : ℕ → List Numbered → ℕ) (all others : Caches) (k n t :
 unfolding totals
 totals_past w all others k zero t past same = refl
 totals_past w all others k (suc n) t past same =
-    let here = levels_same w (all n k) (others n k) 0 59 (λ c low. same n c (λ is. omega arith)) in
+    let here = levels_same w (all n k) (others n k) 0 170 (λ c low. same n c (λ is. omega arith)) in
     let rest = totals_past w all others k n t (omega arith) same in
     omega arith
 
 totals_one : (w : ℕ → List Numbered → ℕ) (all others : Caches) (k n t : ℕ) → t < n → ((u c : ℕ) → (u ≡ t → ⊥) → others u k c ≡ all u k c)
-    → totals w others k n + levels w (all t k) 0 59 ≡ totals w all k n + levels w (others t k) 0 59
+    → totals w others k n + levels w (all t k) 0 170 ≡ totals w all k n + levels w (others t k) 0 170
 unfolding totals
 totals_one w all others k zero t below same = absurd (omega arith)
 totals_one w all others k (suc n) t below same = elim (cases_eq n t) [
   | inl e ↦
-      let a : levels w (all n k) 0 59 ≡ levels w (all t k) 0 59 = ap (λ z. levels w (all z k) 0 59) e in
-      let b : levels w (others n k) 0 59 ≡ levels w (others t k) 0 59 = ap (λ z. levels w (others z k) 0 59) e in
+      let a : levels w (all n k) 0 170 ≡ levels w (all t k) 0 170 = ap (λ z. levels w (all z k) 0 170) e in
+      let b : levels w (others n k) 0 170 ≡ levels w (others t k) 0 170 = ap (λ z. levels w (others z k) 0 170) e in
       let rest = totals_past w all others k n t (omega arith) same in
       omega arith
   | inr ne ↦
-      let here = levels_same w (all n k) (others n k) 0 59 (λ c low. same n c ne) in
+      let here = levels_same w (all n k) (others n k) 0 170 (λ c low. same n c ne) in
       let rest = totals_one w all others k n t (omega arith) same in
       omega arith
 ]
@@ -129,7 +129,7 @@ totals_set w all n t q class k xs below real =
       | inl e ↦
           let P : ℕ → Type 0 = λ z. totals w others z n + (if q == z then w class (all t q class) else 0) ≡ totals w all z n + (if q == z then w class xs else 0) in
           let whole = totals_one w all others q n t below (λ u c ne. there u q c ne) in
-          let one = levels_one w (all t q) (others t q) class 0 59 (omega arith) (omega arith) (λ c ne. here q c ∙ rw (ne_eqb c class ne, eq-eqb q q refl) refl) in
+          let one = levels_one w (all t q) (others t q) class 0 170 (omega arith) (omega arith) (λ c ne. here q c ∙ rw (ne_eqb c class ne, eq-eqb q q refl) refl) in
           let new : w class (others t q class) ≡ w class xs = ap (w class) (here q class ∙ rw (eq-eqb q q refl, eq-eqb class class refl) refl) in
           subst P e (rw (eq-eqb q q refl) (omega arith))
       | inr ne ↦
@@ -153,24 +153,24 @@ bytes_by : ℕ → List Numbered → ℕ
 bytes_by class xs = slot_of class * length xs
 
 levels_slots : (lists : ℕ → List Numbered) (from n : ℕ) → listed_slots lists from n ≡ levels slots_by lists from n
-unfolding levels slots_by
+unfolding levels slots_by listed_slots
 levels_slots lists from zero = refl
 levels_slots lists from (suc n) = ap (λ z. length (lists from) + z) (levels_slots lists (from + 1) n)
 
 levels_bytes : (lists : ℕ → List Numbered) (from n : ℕ) → listed_bytes (λ class. length (lists class)) from n ≡ levels bytes_by lists from n
-unfolding levels bytes_by
+unfolding levels bytes_by listed_bytes
 levels_bytes lists from zero = refl
 levels_bytes lists from (suc n) = ap (λ z. slot_of from * length (lists from) + z) (levels_bytes lists (from + 1) n)
 
 totals_slots : (all : Caches) (k n : ℕ) → cached_slots all k n ≡ totals slots_by all k n
 unfolding totals
 totals_slots all k zero = refl
-totals_slots all k (suc n) = let a = levels_slots (all n k) 0 59 in let b = totals_slots all k n in omega arith
+totals_slots all k (suc n) = let a = levels_slots (all n k) 0 170 in let b = totals_slots all k n in omega arith
 
 totals_bytes : (all : Caches) (k n : ℕ) → cached_bytes all k n ≡ totals bytes_by all k n
 unfolding totals
 totals_bytes all k zero = refl
-totals_bytes all k (suc n) = let a = levels_bytes (all n k) 0 59 in let b = totals_bytes all k n in omega arith
+totals_bytes all k (suc n) = let a = levels_bytes (all n k) 0 170 in let b = totals_bytes all k n in omega arith
 
 -- what the lists of all threads have, if one list is changed
 pub cached_slots_set : (all : Caches) (threads t q class k : ℕ) (xs : List Numbered) → t < threads → class < 59
@@ -193,7 +193,7 @@ cached_bytes_set all threads t q class k xs below real =
     let whole = totals_set bytes_by all threads t q class k xs below real in
     omega arith
 
--- the same lists have the same number of cached slots
+-- caches with equal lists have equal numbers of cached slots and of cached bytes
 pub cached_slots_same : (all others : Caches) (threads k : ℕ) → ((t q class : ℕ) → others t q class ≡ all t q class) → cached_slots others k threads ≡ cached_slots all k threads
 cached_slots_same all others threads k same =
     totals_slots others k threads ∙ totals_same slots_by all others k threads (λ t c. same t k c) ∙ sym (totals_slots all k threads)

@@ -3,7 +3,7 @@ use Rattle.std.proofs.Common.{◌≡◌, ℕ, ◌+◌, ◌<◌, ◌≤◌, List,
 use Rattle.std.specs.Prelude.{Contains, AllPairs, ◌≢◌}
 use Rattle.std.proofs.lemmas.List.{append-nil}
 use Rattle.pa_slot.specs.declared.title.Title.{Title}
-use Rattle.pa_buckets.specs.Table.{slot_of}
+use Rattle.pa_buckets.specs.Table.{rows, row_of, slot_of}
 use Rattle.pa_buckets.specs.Bands.{fill_of, limit_of}
 use Rattle.pa_buckets.proofs.Tests.{at_most_below}
 use Rattle.pa_record.specs.declared.numbered.Numbered.{Numbered}
@@ -46,7 +46,7 @@ taken_is class want r from after titles maps turn taken is =
       differ = subst (λ zs. AllPairs (λ (t : Title) (u : Title). name_of t ≢ name_of u) zs) (sym ts) taken.differ;
     }
 
-pub fill_of_root : (class want : ℕ) (before next : PoolState) (r after : Root) (titles : List Title) (o : Option ℕ) → IsSound r → IsBornBelow before.entries r → class < 59
+pub fill_of_root : (class want : ℕ) (before next : PoolState) (r after : Root) (titles : List Title) (o : Option ℕ) → IsSound r → IsBornBelow before.entries r → class < 170
     → Fills class want before next r (record { root = after; titles = titles }) o → IsFillOf class want r after titles
 fill_of_root class want before next r after titles None sound born real (some, same, is) = taken_is class want r r after titles refl refl (takes_filled class want r sound real) is
 fill_of_root class want before next r after titles (Some entry) sound born real (no_span, None, ask, is) =
@@ -84,5 +84,5 @@ fill_lets class asked xs = record {
 
 -- what a fill gives and one of them leaves fits its list
 pub fill_within : (class : ℕ) → class < 59 → fill_of class ≤ limit_of class + 1
-unfolding fill_of limit_of
+unfolding rows row_of fill_of limit_of
 fill_within class real = at_most_below fill_of (λ c. limit_of c + 1) 59 refl class real

@@ -11,7 +11,7 @@ use Rattle.pa_slot.specs.Count.{stepped}
 use Rattle.pa_buckets.specs.Table.{slot_of}
 use Rattle.pa_buckets.specs.Bands.{fill_of, limit_of}
 use Rattle.pa_buckets.specs.Classes.{IsClassOf}
-use Rattle.pa_buckets.proofs.Facts.{IsRow-of}
+use Rattle.pa_buckets.proofs.Facts.{IsRow_1-of}
 use Rattle.pa_trace.specs.declared.script.Op.TheVariants as ops
 use Rattle.pa_trace.specs.declared.script.Line.{Line}
 use Rattle.pa_trace.specs.declared.script.Line.TheVariants.{Do}
@@ -139,10 +139,10 @@ module _ (p : Player) (thread reg q size class : ℕ) (none : HasNone (register_
     -- ---- after the op
 
     fits : size ≤ 33521656
-    fits = omega (arith, of.fits, (IsRow-of class of.real).greatest_slot)
+    fits = omega (arith, of.fits, (IsRow_1-of class of.real).greatest_slot)
 
     few_news : length u.news ≤ 8
-    few_news = omega (arith, u.few, taken.many, (IsRow-of class of.real).few_fill)
+    few_news = omega (arith, u.few, taken.many, (IsRow_1-of class of.real).few_fill)
 
     serves : (slot_at table i).title.len - 8 ≡ usable_of size
     serves = ap (λ z. z - 8) (length_of i (first_in i rest) ∙ sym (sizes_fit.class size class of))
@@ -324,13 +324,13 @@ module _ (p : Player) (thread reg q size class : ℕ) (none : HasNone (register_
         stays_after (λ t among. subst (λ ts. Contains ts t) (sym taken.maps) among)
         (λ e. absurd (some_none (sym (kind_of i (first_in i rest)).1 ∙ e)))
         base.heap (with_acts q (act ∷ []) base.told) lists cached told_on refl refl
-        (let a = taken.turn in let b = (IsRow-of class of.real).few_fill in omega arith)
+        (let a = taken.turn in let b = (IsRow_1-of class of.real).few_fill in omega arith)
         shaped
         (counted_changed partitions threads thread q class p final (map (numbered_at table) rest) can.within.0 of.real
         (record { many = λ k fit. (h.tallied k fit).many; bytes = λ k fit. (h.tallied k fit).bytes }) lists_then retallied)
         lists_then
 
-    -- the same if the slot's word and its content are set one after the other
+    -- the allocation is also played if the slot's word and its content are set one after the other
     pub fill_goes : (r : Player) (answer : Answer) → (r ≡ issued thread reg i (cached_less q 1 (slot_at filled.table i).title.len (listed at rest filled))) × (answer ≡ made_at filled i)
         → PlaysAfter region partitions threads ls p thread (ops.Alloc reg q size) r answer
     fill_goes r answer (is, says) =

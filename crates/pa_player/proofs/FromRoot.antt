@@ -64,7 +64,7 @@ pub record IsTaken (class want : ℕ) (r : Root) (f : Filled) : Type 0 where
   pub stays : (name : SlotName) → IsOut r name → IsOut before name
   pub filled : IsFilled class want before f
 
-pub fill_takes : (class want : ℕ) (pool next : PoolState) (r : Root) (f : Filled) (asked : Option ℕ) → IsSound r → IsBornBelow pool.entries r → class < 59 → Fills class want pool next r f asked
+pub fill_takes : (class want : ℕ) (pool next : PoolState) (r : Root) (f : Filled) (asked : Option ℕ) → IsSound r → IsBornBelow pool.entries r → class < 170 → Fills class want pool next r f asked
     → (f.titles ≡ [] → ⊥) → IsTaken class want r f
 fill_takes class want pool next r f None sound born real (some, same, is) none = record {
   before = r;
@@ -177,7 +177,7 @@ module _ (region partitions threads : ℕ) (ls : List Line) (p : Player) (thread
 
   taken : IsTaken class (fill_of class) (root_of p q) (record { root = after; titles = placed.titles.items })
   taken = fill_takes class (fill_of class) p.heap.pool plan (root_of p q) (record { root = after; titles = placed.titles.items }) placed.pool (root_sound region partitions threads ls p h q)
-      (h.bounded.born q) of.real did (λ none. not_cons (sym got ∙ none))
+      (h.bounded.born q) (omega (arith, of.real)) did (λ none. not_cons (sym got ∙ none))
     where
       not_cons : first ∷ others ≡ [] → ⊥
       not_cons e = cc

@@ -9,7 +9,7 @@ use Rattle.pa_slot.specs.Count.{number_of, stepped}
 use Rattle.pa_slot.specs.Run.{Mark}
 use Rattle.pa_buckets.specs.Table.{slot_of}
 use Rattle.pa_buckets.specs.Classes.{IsClassOf}
-use Rattle.pa_buckets.proofs.Facts.{IsRow-of}
+use Rattle.pa_buckets.proofs.Facts.{IsRow_1-of}
 use Rattle.pa_trace.specs.declared.script.Op.TheVariants as ops
 use Rattle.pa_trace.specs.declared.script.Line.{Line}
 use Rattle.pa_trace.specs.declared.script.Line.TheVariants.{Do}
@@ -227,7 +227,7 @@ module _ (p : Player) (thread reg q size class i : ℕ) (rest : List ℕ) (none 
           turn =
               subst (λ n. LeadsTo threads ls h.ps thread (ops.Alloc reg q size) (answers.Made seen n) (after_made (shown p) thread reg seen)) (sym usable_is)
               (made_goes_on threads ls h.ps (shown p) thread reg q size seen (can_play region partitions threads ls thread (ops.Alloc reg q size) p can) can.within.1.0
-              (none_holds p.table (register_at p thread reg) none) (omega (arith, of.fits, (IsRow-of class of.real).greatest_slot))
+              (none_holds p.table (register_at p thread reg) none) (omega (arith, of.fits, (IsRow_1-of class of.real).greatest_slot))
               (sym (at_name (λ z. z.word.0) p.table i h.slots.apart low)) free.held free.refs (at_name (λ z. z.title.len - 8) p.table i h.slots.apart low ∙ usable_is));
           like = record {
             regs = shows.regs;

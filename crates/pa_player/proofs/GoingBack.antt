@@ -11,7 +11,7 @@ use Rattle.pa_slot.specs.Count.{held_of, refs_of}
 use Rattle.pa_slot.specs.Run.{IsReturning}
 use Rattle.pa_layout.specs.Pages.{super_page_at, supers_for}
 use Rattle.pa_buckets.specs.Table.{slot_of}
-use Rattle.pa_buckets.proofs.Facts.{IsRow-of}
+use Rattle.pa_buckets.proofs.Facts.{IsRow_1-of}
 use Rattle.pa_trace.specs.declared.script.Op.{Op}
 use Rattle.pa_trace.specs.declared.script.Line.{Line}
 use Rattle.pa_record.specs.declared.entry.Answer.TheVariants as answers
@@ -134,7 +134,7 @@ module _ (region partitions threads : ℕ) (ls : List Line) (p : Player) (h : Is
     gives =
         let q = (slot_at p.table i).partition in
         let xs = list_at p thread q class in
-        let kept = (IsRow-of class let_out.0).few_kept in
+        let kept = (IsRow_1-of class let_out.0).few_kept in
         let shorter = h.shaped.short thread q class below low let_out.0 in
         let room : q < length p.cached.of = omega (arith, low, h.shaped.four, h.shaped.cached) in
         let more = tally_more q 1 (slot_at table i).title.len q p.cached.of room in

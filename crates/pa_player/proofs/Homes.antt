@@ -93,7 +93,7 @@ home_found slots home s i low f h = let o = h.only (key_of s) i f in (o.0, key_n
 pub home_none : (slots : List Slot) (home : ℕ → Option ℕ) (s : SlotName) → home (key_of s) ≡ None → IsHomed slots home → NoneNamed slots s
 home_none slots home s none h i l e = absurd (none_some i (sym (h.leads i l) ∙ ap (λ n. home (key_of n)) e ∙ none))
 
--- the same slots, and a map with the same entries
+-- if a map leads names to their slots, a map with equal entries leads them to equal slots
 pub homed_same : {S : Type 0} (slots more : List Slot) (m n : HashMap ℕ ℕ S) → more ≡ slots → n.entries ≡ m.entries → IsHomed slots (get nat_eq m)
     → IsHomed more (get nat_eq n)
 homed_same slots more m n e f h =

@@ -65,3 +65,4 @@ mod Weighing
 mod Leaving
 mod Refilled
 pub mod Trace
+pub mod Sparse

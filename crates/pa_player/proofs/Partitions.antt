@@ -6,6 +6,7 @@ use Rattle.pa_player.specs.Asks.{CanPurge, CanPurgeOne}
 use Rattle.pa_player.specs.Changes.{given_from, purged_with, purged_from, list_in}
 use Rattle.pa_player.specs.Playing.{caches, list_place}
 use Rattle.pa_player.proofs.Purging.{listed_places}
+use Rattle.pa_player.proofs.Sparse.{all_slots}
 use Rattle.pa_player.proofs.Others.{keeps_purged, places_same, purge_kept}
 
 purged_suc : (thread q n : ℕ) (p : Player) → purged_from thread q (suc n) p ≡ purged_from thread (q + 1) n (purged_with q (given_from thread q 0 59 p))
@@ -57,7 +58,8 @@ all_more thread n p s r slots more h among e is =
     let kept = keeps_purged thread n s can.among in
     let left : p.partitions - n ≡ suc (p.partitions - (n + 1)) = omega arith in
     let here = lists_here thread n p s slots h among in
-    let count : slots + (listed_slots (caches p thread n) 0 59 + all_listed (caches p thread) (n + 1) (p.partitions - (n + 1))) ≡ all_listed (caches p thread) 0 p.partitions =
+    let whole = all_slots p thread n in
+    let count : slots + (listed_slots (caches p thread n) 0 170 + all_listed (caches p thread) (n + 1) (p.partitions - (n + 1))) ≡ all_listed (caches p thread) 0 p.partitions =
     sym (ap (λ k. slots + all_listed (caches p thread) n k) left) ∙ h.count in
     let next : IsPurgedTo thread (n + 1) p t (slots + more) = record {
       many = kept.many ∙ h.many;
@@ -67,7 +69,7 @@ all_more thread n p s r slots more h among e is =
           ap (λ m. list_in t (list_place m thread k class)) (sym h.many)
           ∙ kept.lists thread k class (λ same. absurd (omega (arith, same, least))) (omega (arith, inside, h.many)) short
           ∙ ap (λ m. list_in s (list_place m thread k class)) h.many ∙ h.lists k class (omega arith) inside short;
-      count = omega (arith, count, here.0, e);
+      count = omega (arith, count, whole, here.0, e);
       few = omega (arith, h.few, here.0, here.1, e);
     } in
     subst (λ z. IsPurgedTo thread (n + 1) p z (slots + more)) (sym is) next

@@ -5,7 +5,7 @@ use Rattle.std.proofs.lemmas.Bool.{cases_eq, cases_lt, lt-ltb, le-ltb}
 use Rattle.std.proofs.lemmas.List.{append-nil, length-map}
 use Rattle.std.proofs.lemmas.List.Elements.{Contains-append_cases}
 use Rattle.pa_slot.specs.Run.{Mark}
-use Rattle.pa_buckets.proofs.Facts.{IsRow-of}
+use Rattle.pa_buckets.proofs.Facts.{IsRow_1-of}
 use Rattle.pa_trace.specs.declared.script.Op.TheVariants as ops
 use Rattle.pa_trace.specs.declared.script.Line.{Line}
 use Rattle.pa_trace.specs.declared.script.Line.TheVariants.{Do}
@@ -42,6 +42,7 @@ use Rattle.pa_player.specs.Tallies.{tally_at}
 use Rattle.pa_player.specs.Playing.{shown, journals, caches, root_of, numbered_at, list_at, IsLetOut, AreShaped, IsPlaying}
 use Rattle.pa_player.specs.Changes.{given_from, purged_with, purged_from}
 use Rattle.pa_player.specs.Plays.{CanGoOn, Plays, PlaysAfter}
+use Rattle.pa_player.proofs.Sparse.{all_acts, all_in_lists}
 use Rattle.pa_player.proofs.OneList.{caches_here, caches_none, with_cache_here, with_cache_other}
 use Rattle.pa_player.proofs.Slots.{keeps_all}
 use Rattle.pa_player.proofs.Alone.{so_far}
@@ -222,10 +223,12 @@ module _ (region partitions threads : ℕ) (ls : List Line) (p : Player) (thread
   done : IsDone region partitions n (played_at ls thread ops.Purge (answers.Purged slots)) p.told.pools [] (journals p) acts (caches p thread) (λ q c. [])
       × ((q : ℕ) → q < partitions → root_at p.told.pools (grown (journals p) n acts) q ≡ purged (all_returned (names (all_of (caches p thread q) 0 59)) (root_at p.told.pools (journals p) q)))
   done =
-      purge_is_done region partitions n ls h.ps (played_at ls thread ops.Purge (answers.Purged slots)) p.told.pools (journals p) (caches p) (so_far region partitions threads ls p h) refl refl refl
+      let (made, roots) =
+      purge_is_done region partitions n ls h.ps (played_at ls thread ops.Purge (answers.Purged slots)) p.told.pools (journals p) (caches p) (so_far region partitions threads ls p h) refl refl refl in
+      (made, λ q low. roots q low ∙ ap (λ xs. purged (all_returned (names xs) (root_at p.told.pools (journals p) q))) (all_in_lists p thread q))
 
   acts_in : (k : ℕ) → k < partitions → acts k ≡ purge_acts (caches p thread k) 0 59
-  acts_in k low = rw (lt-ltb k partitions low) refl
+  acts_in k low = rw (lt-ltb k partitions low) (all_acts p thread k)
 
   acts_out : (k : ℕ) → partitions ≤ k → acts k ≡ []
   acts_out k past = rw (le-ltb k partitions past) refl
@@ -250,14 +253,15 @@ module _ (region partitions threads : ℕ) (ls : List Line) (p : Player) (thread
       let e : length (caches p thread k c) ≡ length (list_at p thread k c) =
       ap length (caches_here p thread k c (subst (λ z. k < z) (sym h.shaped.many) low) real) ∙ length-map (list_at p thread k c) (numbered_at p.table) in
       let b = h.shaped.short thread k c can.within.0 low real in
-      let d = (IsRow-of c real).few_kept in
+      let d = (IsRow_1-of c real).few_kept in
       omega arith
 
   root_purged : (k : ℕ) → k < partitions → IsPurgedRoot (root_of p k) (root_of r k)
   root_purged k low =
       let left = journal_leaves p.told.pools (journals p k) (h.placed.journals k) in
-      let out = lists_are_out region partitions n k thread ls h.ps p.told.pools (journals p) (caches p) (so_far region partitions threads ls p h) in
+      let whole = lists_are_out region partitions n k thread ls h.ps p.told.pools (journals p) (caches p) (so_far region partitions threads ls p h) in
       let xs = all_of (caches p thread k) 0 59 in
+      let out = subst (λ zs. AreOut (root_at p.told.pools (journals p) k) zs) (all_in_lists p thread k) whole in
       subst (λ z. IsPurgedRoot (root_of p k) z) (sym (a.here k (omega arith) (omega arith)))
       (purged_root (root_of p k) xs (subst IsSound (sym (h.roots k)) left.sound) (subst IsSettled (sym (h.roots k)) left.settled) (subst (λ z. AreOut z xs) (sym (h.roots k)) out)
       (let b = all_few (caches p thread k) 0 59 (omega arith) (short_list k low) in omega arith))

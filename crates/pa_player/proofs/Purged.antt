@@ -9,12 +9,14 @@ use Rattle.pa_trace.specs.declared.script.Line.{Line}
 use Rattle.pa_lists.proofs.Members.{not_in_none}
 use Rattle.pa_rules.specs.Caches.{Caches, listed_slots}
 use Rattle.pa_rules.specs.Report.{listed_bytes, cached_slots, cached_bytes}
+use Rattle.pa_heap_effects.specs.Deeds.{root_at}
 use Rattle.pa_heap_effects.specs.Ops.{AreOut, all_of}
 use Rattle.pa_heap_effects.proofs.Listed.{lists_are_out}
 use Rattle.pa_player.specs.Player.{Player}
 use Rattle.pa_player.specs.Playing.{journals, caches, root_of, list_at, numbered_at, IsPlaying}
 use Rattle.pa_player.specs.Changes.{bytes_at}
 use Rattle.pa_player.specs.Asks.{CanGive, CanPurgeOne, places_from}
+use Rattle.pa_player.proofs.Sparse.{all_slots, all_bytes, all_in_lists}
 use Rattle.pa_player.proofs.OneList.{caches_here}
 use Rattle.pa_player.proofs.Alone.{so_far}
 use Rattle.pa_player.proofs.Bounds.{list_short, listed_few, place_among}
@@ -24,18 +26,18 @@ use Rattle.pa_player.proofs.GoingBack.{bytes_of_one, root_sound, listed_len}
 use Rattle.pa_lists.proofs.Elements.{all_from_members}
 
 -- the lists of one thread among all
-listed_of_all : (all : Caches) (q threads t : ℕ) → t < threads → listed_slots (all t q) 0 59 ≤ cached_slots all q threads
+listed_of_all : (all : Caches) (q threads t : ℕ) → t < threads → listed_slots (all t q) 0 170 ≤ cached_slots all q threads
 listed_of_all all q zero t below = absurd (omega (arith, below))
 listed_of_all all q (suc n) t below = elim (cases_eq n t) [
-  | inl e ↦ let same : listed_slots (all n q) 0 59 ≡ listed_slots (all t q) 0 59 = ap (λ u. listed_slots (all u q) 0 59) e in omega arith
+  | inl e ↦ let same : listed_slots (all n q) 0 170 ≡ listed_slots (all t q) 0 170 = ap (λ u. listed_slots (all u q) 0 170) e in omega arith
   | inr other ↦ let ih = listed_of_all all q n t (omega arith) in omega arith
 ]
 
-bytes_of_all : (all : Caches) (q threads t : ℕ) → t < threads → listed_bytes (λ class. length (all t q class)) 0 59 ≤ cached_bytes all q threads
+bytes_of_all : (all : Caches) (q threads t : ℕ) → t < threads → listed_bytes (λ class. length (all t q class)) 0 170 ≤ cached_bytes all q threads
 bytes_of_all all q zero t below = absurd (omega (arith, below))
 bytes_of_all all q (suc n) t below = elim (cases_eq n t) [
   | inl e ↦
-      let f : ℕ → ℕ = λ u. listed_bytes (λ class. length (all u q class)) 0 59 in
+      let f : ℕ → ℕ = λ u. listed_bytes (λ class. length (all u q class)) 0 170 in
       let same : f n ≡ f t = ap f e in
       omega arith
   | inr other ↦ let ih = bytes_of_all all q n t (omega arith) in omega arith
@@ -59,7 +61,7 @@ module _ (region partitions threads : ℕ) (ls : List Line) (p : Player) (h : Is
       ∙ ap (λ zs. caches p t q class ++ zs) rest
 
   places_bytes : (class n : ℕ) → class + n ≤ 59 → bytes_at p.table (places_from t q class n p) ≡ listed_bytes (λ c. length (caches p t q c)) class n
-  unfolding places_from
+  unfolding places_from listed_bytes
   places_bytes class zero within = refl
   places_bytes class (suc n) within =
       let real : class < 59 = omega (arith, within) in
@@ -81,8 +83,11 @@ module _ (region partitions threads : ℕ) (ls : List Line) (p : Player) (h : Is
       let many = listed_places p t q 0 59 (omega (arith, low, h.shaped.many)) (omega arith) in
       let few = listed_few (caches p t q) 0 59 (λ c. list_short region partitions threads ls p h t q c below low) in
       let bytes = places_bytes 0 59 (omega arith) in
-      let out = lists_are_out region partitions (length ls + 2) q t ls h.ps p.told.pools (journals p) (caches p) (so_far region partitions threads ls p h) in
+      let whole = lists_are_out region partitions (length ls + 2) q t ls h.ps p.told.pools (journals p) (caches p) (so_far region partitions threads ls p h) in
+      let out = subst (λ zs. AreOut (root_at p.told.pools (journals p) q) zs) (all_in_lists p t q) whole in
       let tallied = h.tallied q low in
+      let all = all_slots p t q in
+      let all_in = all_bytes p t q in
       record {
         root = omega (arith, low, h.shaped.roots);
         journal = omega (arith, low, h.shaped.journals);
@@ -92,8 +97,8 @@ module _ (region partitions threads : ℕ) (ls : List Line) (p : Player) (h : Is
         out = subst (AreOut (root_of p q)) (sym (places_are 0 59 (omega arith))) (subst (λ r. AreOut r (all_of (caches p t q) 0 59)) (sym (h.roots q)) out);
         turn = omega (arith, h.bounded.turns q, short, many, few);
         few = omega (arith, h.bounded.journals q, short, many, few);
-        slots = omega (arith, many, listed_of_all (caches p) q threads t below, tallied.many);
-        bytes = omega (arith, bytes, bytes_of_all (caches p) q threads t below, tallied.bytes);
+        slots = omega (arith, many, all, listed_of_all (caches p) q threads t below, tallied.many);
+        bytes = omega (arith, bytes, all_in, bytes_of_all (caches p) q threads t below, tallied.bytes);
       }
 
   pub can_purge : length ls ≤ 65535 → threads ≤ 16 → CanPurgeOne t q p

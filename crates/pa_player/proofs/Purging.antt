@@ -41,7 +41,7 @@ can_listed q at xs ys p h = record {
 
 -- as many slots as the lists have
 pub listed_places : (p : Player) (thread q class n : ℕ) → q < p.partitions → class + n ≤ 59 → listed_slots (caches p thread q) class n ≡ length (places_from thread q class n p)
-unfolding places_from
+unfolding places_from listed_slots
 listed_places p thread q class zero among fits = refl
 listed_places p thread q class (suc n) among fits =
     let xs = list_in p (list_place p.partitions thread q class) in
@@ -97,6 +97,7 @@ class_ready thread q n p s slots h lt =
 
 pub purge_more : (thread q n : ℕ) (p s r : Player) (slots : ℕ) → IsGivenTo thread q n p s slots → n < 59 → q < p.partitions
     → r ≡ given q (list_place s.partitions thread q n) 0 s → IsGivenTo thread q (n + 1) p r (slots + length (list_in s (list_place s.partitions thread q n)))
+unfolding listed_slots
 purge_more thread q n p s r slots h lt among is =
     let at = list_place s.partitions thread q n in
     let xs = list_in s at in
@@ -131,6 +132,7 @@ purge_more thread q n p s r slots h lt among is =
 -- few slots go back
 pub class_few : (thread q n : ℕ) (p s : Player) (slots : ℕ) → IsGivenTo thread q n p s slots → n < 59 → q < p.partitions
     → slots + length (list_in s (list_place s.partitions thread q n)) < 2 ^ 28
+unfolding listed_slots
 class_few thread q n p s slots h lt among =
     let here : caches p thread q n ≡ map (numbered_at p.table) (list_in p (list_place p.partitions thread q n)) = list_by_place p thread q n among lt in
     let size : length (caches p thread q n) ≡ length (list_in s (list_place s.partitions thread q n)) =
@@ -143,6 +145,7 @@ class_few thread q n p s slots h lt among =
 -- once all 59 classes went back, the player is the one after a whole give, and as many slots went back as the lists had
 pub purge_end : (thread q n : ℕ) (p s : Player) (slots : ℕ) → IsGivenTo thread q n p s slots → n ≡ 59
     → (s ≡ given_from thread q 0 59 p) × (slots ≡ listed_slots (caches p thread q) 0 59)
+unfolding listed_slots
 purge_end thread q n p s slots h e =
     let none : 59 - n ≡ 0 = omega arith in (
       sym (given_none thread q n s) ∙ sym (ap (λ k. given_from thread q n k s) none) ∙ h.rest,

@@ -91,7 +91,7 @@ module _ (p : Player) (thread reg q size class : ℕ) (none : HasNone (register_
   pub taken : IsFillOf class (fill_of class) (root_of p q) f.after titles
   taken =
       fill_of_root class (fill_of class) p.heap.pool f.plan (root_of p q) f.after titles asked
-      (subst IsSound (sym (h.roots q)) (journal_leaves p.told.pools (journals p q) (h.placed.journals q)).sound) (h.bounded.born q) of.real f.did
+      (subst IsSound (sym (h.roots q)) (journal_leaves p.told.pools (journals p q) (h.placed.journals q)).sound) (h.bounded.born q) (omega (arith, of.real)) f.did
 
   puts : ArePut q at class titles base f.put f.slots
   puts = subst (λ z. ArePut q at class titles z f.put f.slots) (asked_told q 1 titles asked (placed_in q f.after f.plan p)) f.puts

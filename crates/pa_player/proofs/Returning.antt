@@ -9,7 +9,7 @@ use Rattle.pa_slot.specs.Count.{number_of, held_of, refs_of}
 use Rattle.pa_slot.specs.Run.{Mark, IsReturning}
 use Rattle.pa_buckets.specs.Table.{slot_of}
 use Rattle.pa_buckets.specs.Bands.{limit_of}
-use Rattle.pa_buckets.proofs.Facts.{IsRow-of}
+use Rattle.pa_buckets.proofs.Facts.{IsRow_1-of}
 use Rattle.pa_trace.specs.declared.script.Op.{Op}
 use Rattle.pa_trace.specs.declared.script.Line.{Line}
 use Rattle.pa_trace.specs.declared.script.Line.TheVariants.{Do}
@@ -307,7 +307,7 @@ module _ (region partitions threads : ℕ) (ls : List Line) (p : Player) (thread
       few_gone =
           let a = length-map back (numbered_at table) in
           let b = h.shaped.short thread home class below low of_class.0 in
-          let c = (IsRow-of class of_class.0).few_kept in
+          let c = (IsRow_1-of class of_class.0).few_kept in
           omega (arith, a, b, c, parts)
 
       maps_then : (k : ℕ) → (root_of final k).maps ≡ (root_of p k).maps

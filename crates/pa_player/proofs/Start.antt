@@ -15,6 +15,7 @@ use Rattle.pa_record.specs.Sound.{IsBornBelow}
 use Rattle.pa_lists.proofs.Members.{not_in_none}
 use Rattle.pa_rules.specs.Caches.{Caches, no_caches}
 use Rattle.pa_rules.specs.Report.{cached_slots, cached_bytes, phases_of}
+use Rattle.pa_rules.proofs.Sums.{slots_none, bytes_none}
 use Rattle.pa_legal.specs.Numbers.{moves_of}
 use Rattle.pa_legal.specs.Tallies.{IsLeft}
 use Rattle.pa_heap_effects.specs.Deeds.{IsPlacedTo}
@@ -43,11 +44,11 @@ empty_if false xs e = refl
 -- lists without slots have none
 none_cached : (q n : ℕ) → cached_slots no_caches q n ≡ 0
 none_cached q zero = refl
-none_cached q (suc n) = omega (arith, none_cached q n)
+none_cached q (suc n) = let here = slots_none (no_caches n q) 0 170 (λ c low high. refl) in omega (arith, here, none_cached q n)
 
 none_bytes : (q n : ℕ) → cached_bytes no_caches q n ≡ 0
 none_bytes q zero = refl
-none_bytes q (suc n) = omega (arith, none_bytes q n)
+none_bytes q (suc n) = let here = bytes_none (no_caches n q) 0 170 (λ c low high. refl) in omega (arith, here, none_bytes q n)
 
 none_left : (into out : Step → ℕ → Bool) (home size : SlotName → ℕ) (q : ℕ) (t : Tally) → t ≡ no_tally → IsLeft into out home size q [] t
 none_left into out home size q t none = record {

@@ -6,7 +6,7 @@ use Rattle.pa_slot.specs.Run.{IsReturning}
 use Rattle.pa_slot.specs.declared.word.Step.TheVariants as steps
 use Rattle.pa_layout.specs.Limits.{most_supers}
 use Rattle.pa_layout.specs.Pages.{super_page_at, supers_for}
-use Rattle.pa_buckets.specs.Limits.{class_count}
+use Rattle.pa_buckets.specs.Limits.{sparse_count}
 use Rattle.pa_buckets.specs.Bands.{limit_of}
 use Rattle.pa_record.specs.declared.taken.Taken.{Taken}
 use Rattle.pa_record.specs.Pool.{IsOneTake}
@@ -89,8 +89,8 @@ pub record CanPurgeOne (thread q : ℕ) (p : Player) : Type 0 where
   pub threads : thread < most_threads
   pub four : p.partitions ≤ most_partitions
   pub among : q < p.partitions
-  pub lists : (class : ℕ) → class < class_count → list_place p.partitions thread q class < length p.caches
-  pub gives : CanGive q (places_from thread q 0 class_count p) p
+  pub lists : (class : ℕ) → class < sparse_count → list_place p.partitions thread q class < length p.caches
+  pub gives : CanGive q (places_from thread q 0 sparse_count p) p
 
 -- ---- each op
 

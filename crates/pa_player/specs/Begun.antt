@@ -1,6 +1,6 @@
 -- A player before the first line.
 use Rattle.std.specs.Prelude.{◌≡◌, ℕ, ◌*◌, ◌<◌, List, [], length, slice_index_or}
-use Rattle.pa_buckets.specs.Limits.{class_count}
+use Rattle.pa_buckets.specs.Limits.{sparse_count}
 use Rattle.pa_record.specs.Pool.{new_pool}
 use Rattle.pa_record.specs.Root.{Root, new_root}
 use Rattle.pa_trace.specs.Limits.{register_count, cell_count}
@@ -44,7 +44,7 @@ pub record IsBegun (region partitions threads : ℕ) (p : Player) : Type 0 where
   pub registers : AreClear threads p.registers
   pub cells : length p.cells ≡ cell_count
   pub cell : (k : ℕ) → cell_at p k ≡ Empty
-  pub caches : AreEmpty (threads * partitions * class_count) p.caches
+  pub caches : AreEmpty (threads * partitions * sparse_count) p.caches
   pub live : IsNone p.live.of
   pub quarantined : IsNone p.quarantined.of
   pub cached : IsNone p.cached.of

@@ -8,7 +8,7 @@ use Rattle.pa_slot.specs.Count.{number_of, stepped, refs_of, held_of}
 use Rattle.pa_slot.specs.Run.{IsReturning}
 use Rattle.pa_slot.specs.Titles.{poison}
 use Rattle.pa_layout.specs.Pages.{super_page_at, supers_for}
-use Rattle.pa_buckets.specs.Limits.{class_count}
+use Rattle.pa_buckets.specs.Limits.{sparse_count}
 use Rattle.pa_buckets.specs.Bands.{limit_of, fill_of}
 use Rattle.pa_record.specs.declared.entry.Answer.{Answer}
 use Rattle.pa_record.specs.declared.entry.Answer.TheVariants as answers
@@ -192,7 +192,7 @@ purged_with q p = acted q (Purge ∷ []) (with_root q (purged (root_of p q)) p)
 -- a purge of `n` partitions from q on: the thread's lists go back whole, and then the root is purged
 unfoldable pub purged_from : ℕ → ℕ → ℕ → Player → Player
 purged_from thread q zero p = p
-purged_from thread q (suc n) p = purged_from thread (q + 1) n (purged_with q (given_from thread q 0 class_count p))
+purged_from thread q (suc n) p = purged_from thread (q + 1) n (purged_with q (given_from thread q 0 sparse_count p))
 
 -- The slots that left a root are appended to a list, in their order: `xs` are their numbers.
 abbrev pub ArePut : ℕ → ℕ → ℕ → List Title → Player → Player → List Numbered → Type 0

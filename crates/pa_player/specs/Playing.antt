@@ -4,7 +4,7 @@ use Rattle.std.specs.Prelude.{slice_index_or, Option, Some, None, All, Contains}
 use Rattle.pa_slot.specs.declared.word.SlotName.{SlotName}
 use Rattle.pa_slot.specs.Count.{number_of, held_of, refs_of}
 use Rattle.pa_slot.specs.Run.{same_slot, Slots}
-use Rattle.pa_buckets.specs.Limits.{class_count}
+use Rattle.pa_buckets.specs.Limits.{sparse_count}
 use Rattle.pa_buckets.specs.Table.{slot_of}
 use Rattle.pa_buckets.specs.Bands.{limit_of}
 use Rattle.pa_trace.specs.declared.script.Line.{Line}
@@ -104,7 +104,7 @@ numbered_at slots i = record { slot = named_at slots i; number = number_of (slot
 
 -- the index of a thread's list, by its partition and class
 abbrev pub list_place : ℕ → ℕ → ℕ → ℕ → ℕ
-list_place partitions t q class = (t * partitions + q) * class_count + class
+list_place partitions t q class = (t * partitions + q) * sparse_count + class
 
 -- the indices of the slots in a thread's list, by its partition and class
 abbrev pub list_at : Player → ℕ → ℕ → ℕ → List ℕ
@@ -112,7 +112,7 @@ list_at p t q class = slice_index_or p.caches (list_place p.partitions t q class
 
 -- the lists of the threads, as slots with their numbers, which are empty for partitions and classes that the player doesn't have
 abbrev pub caches : Player → Caches
-caches p t q class = if nat_lt q p.partitions && nat_lt class class_count then map (numbered_at p.table) (list_at p t q class) else []
+caches p t q class = if nat_lt q p.partitions && nat_lt class sparse_count then map (numbered_at p.table) (list_at p t q class) else []
 
 -- the root of partition q, and a new one past the last
 abbrev pub root_of : Player → ℕ → Root
@@ -122,7 +122,7 @@ root_of p q = slice_index_or p.heap.roots q new_root
 
 -- A slot of the table is one that a journal let out, of its partition, with its class or as a direct map, and of its length.
 abbrev pub IsLetOut : Journals → Slot → Option ℕ → Type 0
-IsLetOut roots x (Some class) = (class < class_count) × IsOfClass roots (name_of x.title) x.partition class × (x.title.len ≡ slot_of class)
+IsLetOut roots x (Some class) = (class < sparse_count) × IsOfClass roots (name_of x.title) x.partition class × (x.title.len ≡ slot_of class)
 IsLetOut roots x None = (e : RootEntry) × (asked : ℕ) × Contains (roots x.partition) e × (e.act ≡ Map asked (name_of x.title) x.title.len)
 
 -- A direct map that is in use is mapped.
@@ -157,13 +157,13 @@ pub record AreShaped (partitions threads : ℕ) (p : Player) : Type 0 where
   pub histories : length p.told.histories ≡ cell_count
   pub journals : length p.told.journals ≡ partitions
   pub roots : length p.heap.roots ≡ partitions
-  pub lists : length p.caches ≡ threads * partitions * class_count
+  pub lists : length p.caches ≡ threads * partitions * sparse_count
   pub held : (t r : ℕ) → IsIn (length p.table) (register_at p t r)
   pub celled : (k : ℕ) → IsIn (length p.table) (cell_at p k)
   pub handles : (k : ℕ) → handle_in (cell_at p k) ≡ cell_at p k
-  pub listed : (t q class i : ℕ) → t < threads → q < partitions → class < class_count → Contains (list_at p t q class) i
+  pub listed : (t q class i : ℕ) → t < threads → q < partitions → class < sparse_count → Contains (list_at p t q class) i
       → (i < length p.table) × ((slot_at p.table i).partition ≡ q) × ((slot_at p.table i).class ≡ Some class)
-  pub short : (t q class : ℕ) → t < threads → q < partitions → class < class_count → length (list_at p t q class) ≤ limit_of class
+  pub short : (t q class : ℕ) → t < threads → q < partitions → class < sparse_count → length (list_at p t q class) ≤ limit_of class
   pub live : length p.live.of ≡ most_partitions
   pub quarantined : length p.quarantined.of ≡ most_partitions
   pub cached : length p.cached.of ≡ most_partitions

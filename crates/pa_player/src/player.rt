@@ -16,7 +16,7 @@ use crate::registers::Registers;
 use crate::table::Table;
 use crate::tallies::Tallies;
 use crate::told::Told;
-use pa_buckets::{CLASSES, Class};
+use pa_buckets::{Class, SPARSE_CLASSES};
 use pa_record::Answer;
 use pa_rules::Register;
 use pa_slot::{OutOfMemory, Title};
@@ -58,7 +58,7 @@ impl<O: Output> Player<Told<O>> {
             table: Table::new(alloc),
             registers: Registers::new(alloc, threads)?,
             cells: [Register::Empty; CELLS as usize],
-            caches: Caches::new(alloc, threads * partitions * CLASSES)?,
+            caches: Caches::new(alloc, threads * partitions * SPARSE_CLASSES)?,
             live: Tallies::new(),
             quarantined: Tallies::new(),
             cached: Tallies::new(),
@@ -185,6 +185,6 @@ impl<O: Output> Player<Told<O>> {
         requires partition { partition < self.now.partitions }
         ensures { result ≡ list_place self.now.partitions thread partition class }
     {
-        ((thread * self.partitions + partition) * CLASSES + class.number()) as usize
+        ((thread * self.partitions + partition) * SPARSE_CLASSES + class.number()) as usize
     }
 }

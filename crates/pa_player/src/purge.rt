@@ -1,5 +1,5 @@
 ghost use Rattle.std.specs.Prelude.{◌≡◌, ◌<◌, IfOk, OnOk, OnErr};
-ghost use Rattle.pa_buckets.specs.Limits.{class_count};
+ghost use Rattle.pa_buckets.specs.Limits.{sparse_count};
 ghost use Rattle.pa_trace.specs.declared.script.Op.TheVariants as ops;
 ghost use Rattle.pa_trace.specs.declared.script.Line.TheVariants.{Do};
 ghost use Rattle.pa_rules.specs.Caches.{listed_slots};
@@ -12,7 +12,7 @@ ghost use Rattle.pa_player.specs.Told.{told_before};
 use crate::output::Output;
 use crate::player::Player;
 use crate::told::Told;
-use pa_buckets::{CLASSES, Class};
+use pa_buckets::{Class, SPARSE_CLASSES};
 use pa_record::{Act, Answer};
 use pa_slot::OutOfMemory;
 
@@ -34,8 +34,8 @@ impl<O: Output> Player<Told<O>> {
     // given back.
     fn purge_one(&mut self, thread: u32, partition: u32) -> Result<u32, OutOfMemory>
         requires { CanPurgeOne thread partition self.old }
-        ensures slots { IfOk result (λ n. n ≡ listed_slots (caches self.old thread partition) 0 class_count) }
-        ensures purged { OnOk result (self.new ≡ purged_with partition (given_from thread partition 0 class_count self.old)) }
+        ensures slots { IfOk result (λ n. n ≡ listed_slots (caches self.old thread partition) 0 sparse_count) }
+        ensures purged { OnOk result (self.new ≡ purged_with partition (given_from thread partition 0 sparse_count self.old)) }
         ensures same { OnErr result (told_before self.new.told ≡ told_before self.old.told) }
     {
         let slots = self.give_all(thread, partition)?;
@@ -47,12 +47,12 @@ impl<O: Output> Player<Told<O>> {
     // Gives back all that the thread's lists of one partition have. Returns how many slots.
     fn give_all(&mut self, thread: u32, partition: u32) -> Result<u32, OutOfMemory>
         requires { CanPurgeOne thread partition self.old }
-        ensures slots { IfOk result (λ n. n ≡ listed_slots (caches self.old thread partition) 0 class_count) }
-        ensures given { OnOk result (self.new ≡ given_from thread partition 0 class_count self.old) }
+        ensures slots { IfOk result (λ n. n ≡ listed_slots (caches self.old thread partition) 0 sparse_count) }
+        ensures given { OnOk result (self.new ≡ given_from thread partition 0 sparse_count self.old) }
         ensures same { OnErr result (told_before self.new.told ≡ told_before self.old.told) }
     {
         let mut slots = 0;
-        for number in 0..CLASSES {
+        for number in 0..SPARSE_CLASSES {
             let class = Class::of(number).unwrap();
             let at = self.list_of(thread, partition, class);
             slots += self.caches.places(at).len() as u32;

@@ -30,7 +30,7 @@ pub record HasRest (s : PoolState) (n : ℕ) (v : View) : Type 0 where
   pub here : (k : ℕ) → (IsEntryOut s k → ⊥) → 0 < lease_of v k
   pub out : (k : ℕ) → IsEntryOut s k → lease_of v k ≡ 0
 
-pub next_pool : (supers : ℕ) (es : List PoolEntry) (e : PoolEntry) (v : View) → supers ≤ 16 → IsPool supers es → PoolActFits es e.partition e.act (pool_after es supers) →
+pub next_pool : (supers : ℕ) (es : List PoolEntry) (e : PoolEntry) (v : View) → supers ≤ 64 → IsPool supers es → PoolActFits es e.partition e.act (pool_after es supers) →
     map (λ (m : Made). m.numbers) (list_of 4 v) ≡ map pool_numbers (es ++ e ∷ []) → HostsKeeper 4 v → HasRest (pool_next e.act (pool_after es supers)) (length es + 1) v → HasNoMore v →
     IsPoolSound supers (es ++ e ∷ []) v
 next_pool supers es e v few fits next list hosts rest more =

@@ -94,7 +94,7 @@ no_title_kept v w k none t =
     let n = none t in
     omega arith
 
--- so what is handed over with a run, and what stays
+-- a filter that passes no stake leaves none with number k
 none_staked : (k : ℕ) (ss : List Stake) → sum_by (λ (s : Stake). one (eqb s.number k)) (filter (λ (s : Stake). false) ss) ≡ 0
 none_staked k [] = refl
 none_staked k (s ∷ ss) = none_staked k ss

@@ -1,7 +1,7 @@
 -- The pool, which is kept behind a lock: what contracts see of it, and what its type keeps.
 use Rattle.std.specs.Prelude.{◌≡◌, ℕ, ◌+◌, ◌*◌, ◌<◌, ◌≤◌, List, [], length, map, Contains}
 use Rattle.pa_slot.specs.declared.title.Title.{Title}
-use Rattle.pa_layout.specs.Limits.{most_supers}
+use Rattle.pa_layout.specs.Limits.{region_supers}
 use Rattle.pa_record.specs.declared.taken.Taken.{Taken}
 use Rattle.pa_record.specs.declared.pool.PoolEntry.{PoolEntry}
 use Rattle.pa_record.specs.Pool.{PoolState, new_pool, pool_replayed, IsPool}
@@ -50,7 +50,7 @@ pub record HasNoMore (v : View) : Type 0 where
 -- numbers. The seat has that keeper, no stake, and only clean Owns. Each byte of a super page that isn't taken is raw there, with a
 -- floor of at most the number of entries. It has each lease but those of the entries with a run that is taken, and nothing more.
 pub record IsPoolSound (supers : ℕ) (entries : List PoolEntry) (v : View) : Type 0 where
-  pub few : supers ≤ most_supers
+  pub few : supers ≤ region_supers
   pub pool : IsPool supers entries
   pub list : map (λ (m : Made). m.numbers) (list_of 4 v) ≡ map pool_numbers entries
   pub hosts : HostsKeeper 4 v
@@ -66,7 +66,7 @@ IsPoolKept p = IsPoolSound p.supers p.entries p.view
 -- A view of which a pool can be made. It has the super pages as raw with the floor 0, keeper 4 with an empty list, and every lease.
 -- It has no stake, and nothing more.
 pub record CanOpen (supers : ℕ) (v : View) : Type 0 where
-  pub few : supers ≤ most_supers
+  pub few : supers ≤ region_supers
   pub raw : (b : ℕ) → b < 2097152 * supers → 0 < low_of v b 0
   pub keeper : 0 < keeper_of v 4
   pub list : list_of 4 v ≡ []

@@ -54,7 +54,7 @@ impl<N: Name> Model for Pool<N> {
 }
 
 impl<N: Name> Pool<N> {
-    /// The pool of the region's super pages, at most 16, and none is taken. The note has them as raw, the pool's keeper,
+    /// The pool of the region's super pages, at most 64, and none is taken. The note has them as raw, the pool's keeper,
     /// and every lease.
     pub fn open(alloc: Global, note: Note, supers: u32) -> Result<Pool<N>, OutOfMemory>
         requires region { note.region ≡ N.region }

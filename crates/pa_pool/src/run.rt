@@ -1,5 +1,5 @@
 ghost use Rattle.std.specs.Prelude.{◌≡◌, ◌+◌, ◌≤◌};
-ghost use Rattle.pa_layout.specs.Limits.{most_supers};
+ghost use Rattle.pa_layout.specs.Limits.{region_supers};
 ghost use Rattle.pa_region.specs.Hands.{CanHand, IsParted, left_after, given_after};
 ghost use Rattle.pa_pool.specs.Calls.{run_parcel};
 
@@ -10,7 +10,7 @@ use pa_region::{Mark, Note, Region, Seat};
 /// Hands over `count` super pages from `first` on as raw bytes, with a lease, and nothing else.
 pub fn hand_run(region: &Region, seat: &mut Seat, first: u32, count: u32, lease: u32) -> Note
     requires region { seat.old.region ≡ region.now }
-    requires few { first + count ≤ most_supers }
+    requires few { first + count ≤ region_supers }
     requires able { CanHand (run_parcel first count lease) seat.old.view }
     ensures regions { (seat.new.region ≡ seat.old.region) × (result.region ≡ seat.old.region) }
     ensures left { seat.new.view ≡ left_after (run_parcel first count lease) seat.old.view }

@@ -26,7 +26,7 @@ use Rattle.pa_record.proofs.Titles.{new_sound, new_born, rise_parts, made_born, 
 abbrev HasAsked : List ℕ → Root → Type 0
 HasAsked xs r = (at : SuperPage) → Contains r.supers at → Contains xs at.born
 
-fill_asked : (pools : List PoolEntry) (class n : ℕ) (asked : Option ℕ) (r : Root) (xs : List ℕ) → IsSound r → IsBornBelow n r → AsksFrom n asked → class < 59 → HasAsked xs r →
+fill_asked : (pools : List PoolEntry) (class n : ℕ) (asked : Option ℕ) (r : Root) (xs : List ℕ) → IsSound r → IsBornBelow n r → AsksFrom n asked → class < 170 → HasAsked xs r →
     HasAsked (xs ++ cons_option asked []) (takes class (fill_of class) (opened_by pools asked r)).root
 fill_asked pools class n None r xs sound old asks real h at member =
     Contains-append_left xs [] at.born (h at (subst (λ ys. Contains ys at) (takes_filled class (fill_of class) r sound real).supers member))

@@ -33,7 +33,7 @@ pub record IsLike (t s : Span) : Type 0 where
   pub born : t.born ≡ s.born
   pub class : t.class ≡ s.class
 
--- the same, and its state and turn are those of s
+-- t is s with other numbers, in the state and with the turn of s
 pub record IsFrom (t s : Span) : Type 0 where
   pub like : IsLike t s
   pub state : t.state ≡ s.state

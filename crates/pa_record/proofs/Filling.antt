@@ -61,7 +61,7 @@ listed_is class ss s e = elim (or_else_cases (latest (is_of class state.Active) 
   ]
 ]
 
-pub some_slots : (c : ℕ) → c < 59 → 0 < slots_of c
+pub some_slots : (c : ℕ) → c < 170 → 0 < slots_of c
 some_slots c real = let b = IsRow-of c real in let p = b.some_slots in omega arith
 
 pub usable_less : (s : Span) → IsSoundSpan s → ((s.state ≡ state.Active) ⊎ ((s.state ≡ state.Empty) ⊎ (s.state ≡ state.Decommitted))) → s.allocated < slots_of s.class
@@ -77,7 +77,7 @@ usable_less s good (inr (inr gone)) =
     omega arith
 
 -- a root with a new span
-new_counted : (class : ℕ) (at : SuperPage) (page : ℕ) → class < 59 → IsCounted (new_span class at page)
+new_counted : (class : ℕ) (at : SuperPage) (page : ℕ) → class < 170 → IsCounted (new_span class at page)
 new_counted class at page real = record {
   class = real;
   listed = refl;
@@ -89,7 +89,7 @@ new_counted class at page real = record {
   most = omega arith;
 }
 
-some_pages : (c : ℕ) → c < 59 → 1 ≤ pages_of c
+some_pages : (c : ℕ) → c < 170 → 1 ≤ pages_of c
 some_pages c real = let b = IsRow-of c real in b.some_pages
 
 -- a span of the current super page lies before the new one
@@ -111,7 +111,7 @@ not_there r class at u sound now among = elim (cases_Bool (same_place u (new_spa
 same_at : (r : Root) (at other : SuperPage) → current r ≡ Some at → current r ≡ Some other → at ≡ other
 same_at r at other now then = of_some at other (sym now ∙ then)
 
-pub with_span_sound : (r : Root) (class : ℕ) (at : SuperPage) → IsSound r → class < 59 → current r ≡ Some at → r.page + pages_of class ≤ 127 →
+pub with_span_sound : (r : Root) (class : ℕ) (at : SuperPage) → IsSound r → class < 170 → current r ≡ Some at → r.page + pages_of class ≤ 127 →
     IsSound (with_span (new_span class at r.page) r)
 with_span_sound r class at sound real now room =
     let s = new_span class at r.page in
@@ -170,7 +170,7 @@ listed_ready class r s sound e =
     let u = listed_is class r.spans s e in
     subst (λ c. IsGiven c r (take_from_span s r)) u.of_class (span_given r s sound u.among (usable_less s (sound.spans s u.among) u.left))
 
-new_ready : (class : ℕ) (r : Root) (at : SuperPage) → IsSound r → class < 59 → current r ≡ Some at → r.page + pages_of class ≤ 127 →
+new_ready : (class : ℕ) (r : Root) (at : SuperPage) → IsSound r → class < 170 → current r ≡ Some at → r.page + pages_of class ≤ 127 →
     IsGiven class r (take_from_span (new_span class at r.page) (with_span (new_span class at r.page) r))
 new_ready class r at sound real now room =
     let s = new_span class at r.page in
@@ -201,7 +201,7 @@ new_ready class r at sound real now room =
       keeps = λ t made. g.keeps t (made.0, Contains-append_left r.spans (s ∷ []) made.0 made.1, made.2, made.3, made.4);
     }
 
-take_at_page : (class : ℕ) (r : Root) (o : Option SuperPage) → IsSound r → class < 59 → current r ≡ o →
+take_at_page : (class : ℕ) (r : Root) (o : Option SuperPage) → IsSound r → class < 170 → current r ≡ o →
     ((at_page class r o ≡ None)) ⊎ ((is_some (at_page class r o) ≡ true) × IsGiven class r (taken_from (at_page class r o) r))
 take_at_page class r None sound real now = inl refl
 take_at_page class r (Some at) sound real now = elim (cases_Bool (leb (r.page + pages_of class) 127)) [
@@ -209,12 +209,12 @@ take_at_page class r (Some at) sound real now = elim (cases_Bool (leb (r.page + 
   | inr full ↦ inl (rw full refl)
 ]
 
-take_by : (class : ℕ) (r : Root) (o : Option Span) → IsSound r → class < 59 → listed class r.spans ≡ o →
+take_by : (class : ℕ) (r : Root) (o : Option Span) → IsSound r → class < 170 → listed class r.spans ≡ o →
     ((found_or_new class r o ≡ None)) ⊎ ((is_some (found_or_new class r o) ≡ true) × IsGiven class r (taken_from (found_or_new class r o) r))
 take_by class r None sound real e = take_at_page class r (current r) sound real refl
 take_by class r (Some s) sound real e = inr (refl, listed_ready class r s sound e)
 
-pub take_cases : (class : ℕ) (r : Root) → IsSound r → class < 59 →
+pub take_cases : (class : ℕ) (r : Root) → IsSound r → class < 170 →
     (span_for class r ≡ None) ⊎ ((is_some (span_for class r) ≡ true) × IsGiven class r (one_take class r))
 take_cases class r sound real = take_by class r (listed class r.spans) sound real refl
 
@@ -283,7 +283,7 @@ more_filled class want r t g rest f = record {
   keeps = λ u made. f.keeps u (g.keeps u made);
 }
 
-pub takes_filled : (class want : ℕ) (r : Root) → IsSound r → class < 59 → IsFilled class want r (takes class want r)
+pub takes_filled : (class want : ℕ) (r : Root) → IsSound r → class < 170 → IsFilled class want r (takes class want r)
 takes_filled class zero r sound real = nothing_filled class zero r sound
 takes_filled class (suc want) r sound real = elim (take_cases class r sound real) [
   | inl none ↦
@@ -298,7 +298,7 @@ takes_filled class (suc want) r sound real = elim (take_cases class r sound real
 ]
 
 -- a fill gives a slot exactly when its first take finds a span
-pub takes_some : (class want : ℕ) (r : Root) → IsSound r → class < 59 → IsSome (span_for class r) → 1 ≤ length (takes class (suc want) r).titles
+pub takes_some : (class want : ℕ) (r : Root) → IsSound r → class < 170 → IsSome (span_for class r) → 1 ≤ length (takes class (suc want) r).titles
 takes_some class want r sound real some = elim (take_cases class r sound real) [
   | inl none ↦ absurd (true≢false (sym some ∙ ap is_some none))
   | inr given ↦

@@ -129,7 +129,7 @@ out_is_out = record {
 }
 
 -- a new super page has room for a span of any class
-new_page_found : (class : ℕ) (r : Root) (at : SuperPage) (o : Option Span) → class < 59 → current r ≡ Some at → r.page ≡ 1 → IsSome (found_or_new class r o)
+new_page_found : (class : ℕ) (r : Root) (at : SuperPage) (o : Option Span) → class < 170 → current r ≡ Some at → r.page ≡ 1 → IsSome (found_or_new class r o)
 new_page_found class r at (Some s) real now page = refl
 new_page_found class r at None real now page =
     let b = IsRow-of class real in

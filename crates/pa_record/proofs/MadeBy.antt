@@ -1,5 +1,5 @@
 -- The titles that a journal makes lie apart: the slots that were cut, and its direct maps.
-use Rattle.std.proofs.Common.{◌≡◌, ℕ, List, [], ◌∷◌, ◌++◌, refl, sym, ◌∙◌, subst, ap, ◌⊎◌, inl, inr, arith}
+use Rattle.std.proofs.Common.{◌≡◌, ℕ, List, [], ◌∷◌, refl, sym, ◌∙◌, subst, ap, ◌⊎◌, inl, inr, arith}
 use Rattle.std.specs.Prelude.{Contains}
 use Rattle.std.proofs.lemmas.List.Elements.{Contains-append_cases, Contains-append_left, Contains-append_right}
 use Rattle.pa_slot.specs.declared.title.Title.{Title}
@@ -67,7 +67,7 @@ taken_from pools (e ∷ es) n r t sound few old fits rise among =
       ]
     ]
 
--- so a journal makes what it takes or maps
+-- a title that a journal takes is made by it
 pub taken_made : (pools : List PoolEntry) (journal : List RootEntry) (t : Title) → IsJournal pools journal → Contains (titles_taken pools journal new_root) t → IsMadeBy pools journal t
 taken_made pools journal t h among = taken_from pools journal 0 new_root t new_sound (omega arith) new_born h.replays h.rise among
 

@@ -76,7 +76,7 @@ pub root_cut : (p j : ℕ) (a : RootEntry) (x : List ℕ) → root_text p j a ++
     ≡ codes "r " ++ (decimal p ++ (codes " " ++ (decimal j ++ (codes " " ++ (decimal a.line ++ (codes " " ++ (root_act_text a.act ++ 10 ∷ x)))))))
 root_cut p j a x = cut6 (field_text (codes "r ") p) (field_text (codes " ") j) (field_text (codes " ") a.line) (codes " ") (root_act_text a.act) (10 ∷ []) x
 
--- the same place on both sides
+-- two texts that start with the root line of one place have the same entry there and the same rest
 pub split_root : (p j : ℕ) (a b : RootEntry) (x y : List ℕ) → RootInBits a → RootInBits b → root_text p j a ++ x ≡ root_text p j b ++ y → (a ≡ b) × (x ≡ y)
 split_root p j a b x y ha hb e =
     let cut = append_cancel_left (codes "r ") _ _ (sym (root_cut p j a x) ∙ e ∙ root_cut p j b y) in
@@ -129,7 +129,7 @@ pub cell_cut : (k j : ℕ) (a : CellEntry) (x : List ℕ) → cell_text k j a ++
     ≡ codes "c " ++ (decimal k ++ (codes " " ++ (decimal j ++ (codes " " ++ (decimal a.line ++ (codes " " ++ (held_text a.gave ++ (codes " " ++ (held_text a.found ++ 10 ∷ x)))))))))
 cell_cut k j a x = cut8 (field_text (codes "c ") k) (field_text (codes " ") j) (field_text (codes " ") a.line) (codes " ") (held_text a.gave) (codes " ") (held_text a.found) (10 ∷ []) x
 
--- the same place on both sides
+-- two texts that start with the line of one exchange have the same entry there and the same rest
 pub split_cell : (k j : ℕ) (a b : CellEntry) (x y : List ℕ) → CellInBits a → CellInBits b → cell_text k j a ++ x ≡ cell_text k j b ++ y → (a ≡ b) × (x ≡ y)
 split_cell k j a b x y ha hb e =
     let cut = append_cancel_left (codes "c ") _ _ (sym (cell_cut k j a x) ∙ e ∙ cell_cut k j b y) in

@@ -41,7 +41,7 @@ opened_taken pools j first r run h = record {
 }
 
 -- a fill, if it asked and if it didn't
-filled_taken : (pools : List PoolEntry) (class n : ℕ) (asked : Option ℕ) (r : Root) → IsSound r → IsBornBelow n r → AsksFrom n asked → class < 59 → Asked pools class asked r →
+filled_taken : (pools : List PoolEntry) (class n : ℕ) (asked : Option ℕ) (r : Root) → IsSound r → IsBornBelow n r → AsksFrom n asked → class < 170 → Asked pools class asked r →
     IsTakenBy pools r → IsTakenBy pools (takes class (fill_of class) (opened_by pools asked r)).root
 filled_taken pools class n None r sound old asks real fits h =
     let f = takes_filled class (fill_of class) r sound real in

@@ -58,7 +58,7 @@ slots_apart r s u n m sound first second below below' born = elim (cases_Bool (s
       ]
 ]
 
--- so one start has one slot
+-- two slots of a root that start at the same byte of one super page are one slot
 pub one_slot : (r : Root) (s u : Span) (n m : ℕ) → IsSound r → Contains r.spans s → Contains r.spans u → n < slots_of s.class → m < slots_of u.class → s.born ≡ u.born →
     (title_at s n).start ≡ (title_at u m).start → AreOne s u n m
 one_slot r s u n m sound first second below below' born start = elim (slots_apart r s u n m sound first second below below' born) [

@@ -13,8 +13,8 @@ use Rattle.pa_lists.proofs.Pairs.{pairs_none, pairs_cons, pairs_tail}
 use Rattle.pa_lists.proofs.Different.{numbers_length, numbers_in, numbers_once, length_less}
 use Rattle.pa_lists.specs.Numbers.{numbers}
 
--- a span of at most 917504 bytes has at most 225 pages after one slot more
-pub pages_most : (committed bytes : ℕ) → committed ≤ 224 → bytes ≤ 917504 → max (committed + 1) ((bytes + 4095) / 4096) ≤ 225
+-- a span of at most 983040 bytes has at most 241 pages after one slot more
+pub pages_most : (committed bytes : ℕ) → committed ≤ 240 → bytes ≤ 983040 → max (committed + 1) ((bytes + 4095) / 4096) ≤ 241
 pages_most committed bytes low less = omega arith
 
 -- as many pages as one slot more needs
@@ -39,10 +39,10 @@ fits_within size slots system provisioned fit below =
     omega arith
 
 -- the numbers of a class
-pub size_some : (c : ℕ) → c < 59 → 0 < slot_of c
+pub size_some : (c : ℕ) → c < 170 → 0 < slot_of c
 size_some c real = let b = IsRow-of c real in let p = b.least_slot in omega arith
 
-size_fits : (c : ℕ) → c < 59 → slots_of c * slot_of c ≤ 4096 * system_of c
+size_fits : (c : ℕ) → c < 170 → slots_of c * slot_of c ≤ 4096 * system_of c
 size_fits c real = let b = IsRow-of c real in let p = b.filled in omega arith
 
 -- if not all slots are provisioned, one more is after it

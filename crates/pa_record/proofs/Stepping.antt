@@ -18,11 +18,11 @@ use Rattle.pa_record.proofs.Filling.{takes_filled, opened_sound, opened_born}
 use Rattle.pa_record.proofs.Returning.{all_returned_is, times_is}
 use Rattle.pa_record.proofs.Mapping.{unmapped_sound, unmapped_born, mapped_sound, mapped_born, born_more, born_same}
 
-few_fill : (c : ℕ) → c < 59 → fill_of c ≤ 8
+few_fill : (c : ℕ) → c < 170 → fill_of c ≤ 8
 few_fill c real = let b = IsRow-of c real in b.few_fill
 
 filled_next : (n class : ℕ) (slots : List Numbered) (pools : List PoolEntry) (asked : Option ℕ) (r : Root) → IsSound r → IsSettled r → IsBornBelow n r →
-    AsksFrom n asked → class < 59 → IsNext n (Fill class asked slots) r (takes class (fill_of class) (opened_by pools asked r)).root
+    AsksFrom n asked → class < 170 → IsNext n (Fill class asked slots) r (takes class (fill_of class) (opened_by pools asked r)).root
 filled_next n class slots pools None r sound few old asks real =
     let f = takes_filled class (fill_of class) r sound real in
     record {

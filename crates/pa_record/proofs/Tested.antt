@@ -221,7 +221,7 @@ unmap_of pools asked slot r (Some t) e h =
 -- an entry fits
 abbrev pub fits : List PoolEntry → RootAct → Root → Bool
 fits pools (Fill class asked slots) r =
-    ltb class 59 && (asks pools class asked r && same_names (map name_of (takes class (fill_of class) (opened_by pools asked r)).titles) (names slots))
+    ltb class 170 && (asks pools class asked r && same_names (map name_of (takes class (fill_of class) (opened_by pools asked r)).titles) (names slots))
 fits pools (Map asked slot len) r = is_map pools asked slot len
 fits pools (Full class asked) r = is_full pools class asked r
 fits pools (Give slots) r = list_all (is_out r) (names slots) && all_other (names slots)
@@ -231,7 +231,7 @@ fits pools Purge r = true
 fits-true : (pools : List PoolEntry) (act : RootAct) (r : Root) → fits pools act r ≡ true → RootActFits pools act r
 fits-true pools (Fill class asked slots) r h =
     let slots_same = same_names (map name_of (takes class (fill_of class) (opened_by pools asked r)).titles) (names slots) in
-    let (real, rest) = and_parts (ltb class 59) (asks pools class asked r && slots_same) h in
+    let (real, rest) = and_parts (ltb class 170) (asks pools class asked r && slots_same) h in
     let (p, q) = and_parts (asks pools class asked r) slots_same rest in
     (ltb-true _ _ real, asks-true pools class asked r p, same_names-true _ _ q)
 fits-true pools (Map asked slot len) r h = is_map-true pools asked slot len h

@@ -215,7 +215,7 @@ known_none_more pools n act r after ts next asks known =
     subst (λ xs. IsKnown pools (least_after n (asked_by act)) after xs) (sym (append-nil ts))
     (known_after pools n (least_after n (asked_by act)) r after ts (least_more n (asked_by act) asks) next.keeps next.supers known)
 
-pub fill_made : (pools : List PoolEntry) (n class : ℕ) (asked : Option ℕ) (r : Root) → IsSound r → IsBornBelow n r → AsksFrom n asked → class < 59 →
+pub fill_made : (pools : List PoolEntry) (n class : ℕ) (asked : Option ℕ) (r : Root) → IsSound r → IsBornBelow n r → AsksFrom n asked → class < 170 →
     (t : Title) → Contains (takes class (fill_of class) (opened_by pools asked r)).titles t → IsMade (takes class (fill_of class) (opened_by pools asked r)).root t
 fill_made pools n class None r sound old asks real t among = (takes_filled class (fill_of class) r sound real).made t among
 fill_made pools n class (Some j) r sound old asks real t among =

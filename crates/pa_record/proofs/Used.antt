@@ -56,7 +56,7 @@ span_used r s sound among less h =
     subst (λ xs. IsUsed (front_taken xs (with_free s) r).root) (sym front.free)
     (entered_used r s t (state_in_use t) sound (front_from s front.rest).like (in_use_is_used t).0 h)
 
-new_used : (class : ℕ) (r : Root) (at : SuperPage) → IsSound r → class < 59 → current r ≡ Some at → r.page + pages_of class ≤ 127 → IsUsed r →
+new_used : (class : ℕ) (r : Root) (at : SuperPage) → IsSound r → class < 170 → current r ≡ Some at → r.page + pages_of class ≤ 127 → IsUsed r →
     IsUsed (take_from_span (new_span class at r.page) (with_span (new_span class at r.page) r)).root
 new_used class r at sound real now room h =
     let s = new_span class at r.page in
@@ -66,20 +66,20 @@ new_used class r at sound real now room h =
       | inr e ↦ absurd (both_ways _ far (subst (λ z. same_place z s ≡ true) e (place_self s)))
     ])
 
-page_used : (class : ℕ) (r : Root) (o : Option SuperPage) → IsSound r → class < 59 → current r ≡ o → IsUsed r → IsUsed (taken_from (at_page class r o) r).root
+page_used : (class : ℕ) (r : Root) (o : Option SuperPage) → IsSound r → class < 170 → current r ≡ o → IsUsed r → IsUsed (taken_from (at_page class r o) r).root
 page_used class r None sound real now h = h
 page_used class r (Some at) sound real now h = elim (cases_Bool (leb (r.page + pages_of class) 127)) [
   | inl room ↦ rw room (new_used class r at sound real now (leb-true _ _ room) h)
   | inr full ↦ rw full h
 ]
 
-take_by : (class : ℕ) (r : Root) (o : Option Span) → IsSound r → class < 59 → listed class r.spans ≡ o → IsUsed r → IsUsed (taken_from (found_or_new class r o) r).root
+take_by : (class : ℕ) (r : Root) (o : Option Span) → IsSound r → class < 170 → listed class r.spans ≡ o → IsUsed r → IsUsed (taken_from (found_or_new class r o) r).root
 take_by class r None sound real e h = page_used class r (current r) sound real refl h
 take_by class r (Some s) sound real e h =
     let u = listed_is class r.spans s e in
     span_used r s sound u.among (usable_less s (sound.spans s u.among) u.left) (all_but r s h)
 
-takes_used : (class want : ℕ) (r : Root) → IsSound r → class < 59 → IsUsed r → IsUsed (takes class want r).root
+takes_used : (class want : ℕ) (r : Root) → IsSound r → class < 170 → IsUsed r → IsUsed (takes class want r).root
 takes_used class zero r sound real h = h
 takes_used class (suc want) r sound real h =
     let t = one_take class r in

@@ -1,6 +1,6 @@
 -- What a root has is its own: each of its super pages and direct maps is the run that its entry of the pool took,
 -- and a slot lies in the super page of the entry that it names.
-use Rattle.std.specs.Prelude.{◌≡◌, ℕ, ◌+◌, ◌≤◌, List, Contains}
+use Rattle.std.specs.Prelude.{◌≡◌, ℕ, List, Contains}
 use Rattle.pa_slot.specs.declared.title.Title.{Title}
 use Rattle.pa_layout.specs.Pages.{page_place, supers_for}
 use Rattle.pa_record.specs.declared.taken.SuperPage.{SuperPage}

@@ -11,7 +11,7 @@ use crate::{CellEntry, Entry, History, Journal, Numbered, PoolEntry, ReportLine,
 use pa_buckets::Class;
 use pa_slot::SlotName;
 
-/// Each number of a run has the bits of its type, each class is one of the 59, and no batch has more than 16 slots.
+/// Each number of a run has the bits of its type, each class is one of the 170, and no batch has more than 16 slots.
 pub fn run_fits(run: &Run)
     ensures { RunInBits run.now }
 {
@@ -51,7 +51,7 @@ fn journal_fits(entries: &[RootEntry])
     }
 }
 
-/// Each number of an entry of a journal has the bits of its type, its class is one of the 59, and its batch has at most 16
+/// Each number of an entry of a journal has the bits of its type, its class is one of the 170, and its batch has at most 16
 /// slots.
 pub fn root_fits(entry: &LentEntry<'_>)
     ensures { RootInBits entry.now }

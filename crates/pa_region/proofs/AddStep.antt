@@ -73,8 +73,8 @@ to_as k (Added word bytes) small = elim (eqb_tells word k) [
 to_as k (Entered keeper made) small = omega arith
 to_as k (Uncut t) small = omega arith
 
--- the steps that were made are at most 65,536, so no sum of a kind passes 2^41
-few_bytes : (words : List ℕ) (views : List View) (q : ℕ) → IsKept words views → logged_in views (owes_as q) ≤ 2199023255552
+-- the steps that were made are at most 65,536, so no sum of a kind passes 2^43
+few_bytes : (words : List ℕ) (views : List View) (q : ℕ) → IsKept words views → logged_in views (owes_as q) ≤ 8796093022208
 few_bytes words views q r = let b = r.totals.bounded q in let a = r.holders.affords in omega arith
 
 -- what the least stake's logs added is what its own log did
@@ -114,7 +114,7 @@ add_logs k bytes words views i v kept at_i can r q =
 
 -- the sum after an addition is small
 add_fits : (k bytes : ℕ) (words : List ℕ) (views : List View) (i : ℕ) (v : View) → IsKept words views → get_elem? views i ≡ some v → CanAdd k bytes v →
-    logged_in views (added_to k) + bytes ≤ 2199023255552
+    logged_in views (added_to k) + bytes ≤ 8796093022208
 add_fits k bytes words views i v kept at_i can =
     let stake = can.1 in
     let w = after_add k bytes v in

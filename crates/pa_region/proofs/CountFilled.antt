@@ -123,7 +123,7 @@ module _ (t : Title) (found value left : ℕ) (a : OwnState) (m : Stamped) (step
         beyond = λ place above. own_content Write t found value place m steps is;
       })
 
-  -- and without an Own
+  -- if no Own of the title is left after a counted step, each of its poisonings has a free after it, and with Refs its content is poison
   left_after_count : (step : Step) (r : ℕ) → m.entry ≡ Counted t step found value → IsReady step r t a steps total → Changes total (lost_by step t a) (gained_by step t left) later →
       later (OwnOf t) ≡ 0 → IsLeft (Logged m ∷ steps) t (later (RefOf t))
   left_after_count Issue r is ready changes none = let o = changes (OwnOf t) in let one_own = own_self t Clean in absurd (omega arith)

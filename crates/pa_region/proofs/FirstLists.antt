@@ -57,7 +57,7 @@ keepers_empty : (from count : ℕ) → Each (λ (q : Keeper). q.entries ≡ []) 
 keepers_empty from zero = tt
 keepers_empty from (suc count) = (refl, keepers_empty (suc from) count)
 
--- and so are the stakes' logs
+-- the stake's log has entered nothing in the list of keeper k
 abbrev HasEntered : ℕ → Stake → Type 0
 HasEntered k s = made_with s.number [] ≡ entered_in k s.log
 

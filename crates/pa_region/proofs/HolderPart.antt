@@ -21,7 +21,7 @@ use Rattle.pa_region.specs.Rule.{Holders}
 use Rattle.pa_region.proofs.Pieces.{lost_by, gained_by}
 use Rattle.pa_machine.proofs.Counting.{returned_free}
 
--- and as no handle
+-- what a step gives back of a title is neither an Own nor a Ref of it
 returned_none : (left : ℕ) (t : Title) →
     (held_in (returned_at left t) (OwnOf t) ≡ 0) × (held_in (returned_at left t) (RefOf t) ≡ 0)
 returned_none left t = elim (returned_cases left t) [

@@ -102,7 +102,7 @@ words_stay Reset t word v e = rw e refl
 words_stay Free t word v e = rw e refl
 words_stay Write t word v e = refl
 
--- and beside it
+-- a counted step leaves each word outside its title as it was
 words_beside : (step : Step) (t : Title) (word : ℕ) (v : View) (q : ℕ) → (q < t.start / 8) ⊎ (count_place t < q) →
     slice_index (moved step t word v).words q ≡ slice_index v.words q
 words_beside Issue t word v q out = refl

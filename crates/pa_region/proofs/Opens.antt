@@ -63,7 +63,7 @@ blank_long zero = refl
 blank_long (suc n) = ap suc (blank_long n)
 
 -- the rule holds at the start, if the words are 0
-pub opens : (words budget : ℕ) → words ≤ 4194304 → budget ≤ 65536 → IsKept (replicate (words + 16) 0) (first_view words budget ∷ [])
+pub opens : (words budget : ℕ) → words ≤ 16777216 → budget ≤ 65536 → IsKept (replicate (words + 16) 0) (first_view words budget ∷ [])
 opens words budget enough few = record {
   history = λ t. [];
   list = λ k. [];
@@ -176,7 +176,7 @@ opens words budget enough few = record {
     only (suc i) v at_i = absurd (some-ne-none v (sym at_i))
 
 -- the first view is sound, and its seat has every stake
-pub first_sound : (region : TableId) (words budget : ℕ) → byte_word_count region ≡ words → words ≤ 4194304 → IsSeatSound region (first_view words budget)
+pub first_sound : (region : TableId) (words budget : ℕ) → byte_word_count region ≡ words → words ≤ 16777216 → IsSeatSound region (first_view words budget)
 first_sound region words budget e small = record {
   small = rw e small;
   well = λ t has. absurd (omega arith);
@@ -185,12 +185,12 @@ first_sound region words budget e small = record {
 }
 
 -- a new region keeps the rule, with the words as the code makes them
-pub opens_with : (supers budget : ℕ) (words : List ℕ) → supers ≤ 16 → budget ≤ 65536 → words ≡ replicate (supers * 262144 + 16) 0 →
+pub opens_with : (supers budget : ℕ) (words : List ℕ) → supers ≤ 64 → budget ≤ 65536 → words ≡ replicate (supers * 262144 + 16) 0 →
     IsKept words (first_view (supers * 262144) budget ∷ [])
 opens_with supers budget words few enough z = rw z (opens (supers * 262144) budget (omega arith) enough)
 
 -- what the first seat's type keeps
-pub first_keeps : (supers budget : ℕ) (words : List ℕ) (table region : TableId) (me : Me (Unit {0}) View) → supers ≤ 16 → budget ≤ 65536 →
+pub first_keeps : (supers budget : ℕ) (words : List ℕ) (table region : TableId) (me : Me (Unit {0}) View) → supers ≤ 64 → budget ≤ 65536 →
     words ≡ replicate (supers * 262144 + 16) 0 → table.words ≡ length words → region ≡ table → me ≡ (first_view (supers * 262144) budget, []) →
     (me.1 ≡ []) × IsSeatSound region me.0 × AreStakes (replicate 16 true) me.0 × IsAware me.0
 first_keeps supers budget words table region me few enough z long same is_first =

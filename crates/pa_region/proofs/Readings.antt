@@ -132,7 +132,7 @@ pub freeing_same : (logs_by after_by : ℕ → (Entry → ℕ) → ℕ) (poisone
 freeing_same logs_by after_by poisoned later history t r k same grows (inl f) = inl (f.0, f.1, same f.0 ∙ f.2)
 freeing_same logs_by after_by poisoned later history t r k same grows (inr f) = inr (f.0, grows f.1)
 
--- so what was right stays right
+-- reads right after looks stay right if the numbers of such reads and of counted steps stay, and no poisoned Own is lost
 pub right_same : (history : Title → List Done) (pairs after : (Entry → Entry → ℕ) → ℕ) (pairs_by after_by : ℕ → (Entry → Entry → ℕ) → ℕ)
     (logs_by logs_after : ℕ → (Entry → ℕ) → ℕ) (poisoned later : Title → ℕ → ℕ) → AreRight history pairs pairs_by logs_by poisoned →
     (after gave_no_poison ≡ pairs gave_no_poison) → ((own : Bool) (t : Title) (found value : ℕ) → after (quiet_read own t found value) ≡ pairs (quiet_read own t found value)) →

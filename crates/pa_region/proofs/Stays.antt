@@ -45,7 +45,7 @@ low_held v b n =
     (λ r. one_and (leb r.start b && ltb b (r.start + r.len)) (leb r.floor n)) in
     omega arith
 
--- and of all
+-- in all views together, no more raw ranges have a byte with a floor of at most n than have the byte
 pub low_raw : (words : List ℕ) (views : List View) (b n : ℕ) → low_in views b n ≤ total_of (shown words views) (RawByte b)
 low_raw words views b n =
     let s = total_sum words views (RawByte b) in

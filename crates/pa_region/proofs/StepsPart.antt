@@ -69,7 +69,7 @@ steady_handed steps v handed none = record {
   near = λ t did some_own. let z = none t in absurd (omega arith);
 }
 
--- the same Owns and Refs, but that an Own may be in another state with as many poisoned words
+-- the Owns and Refs are those of before, but an Own may be in another state with as many poisoned words
 pub record IsEased (total later : Thing → ℕ) : Type 0 where
   pub owned : (t : Title) (state : OwnState) → 0 < later (OwnAs t state) → (was : OwnState) × (progress was ≡ progress state) × (0 < total (OwnAs t was))
   pub own : (t : Title) → later (OwnOf t) ≡ total (OwnOf t)

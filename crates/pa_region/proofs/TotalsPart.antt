@@ -35,11 +35,11 @@ bytes_stay words p x below = record {
   same = λ k. rw (length-set words p x) (get_or-set_other words p (total_place words k) x 0 (λ e. omega arith));
 }
 
--- a log gets an entry that adds nothing to a totals word, and that owes only as a counted step of at most 33,554,432 bytes
+-- a log gets an entry that adds nothing to a totals word, and that owes only as a counted step of at most 134,217,728 bytes
 pub totals_other : (words after : List ℕ) (views : List View) (i : ℕ) (v w : View) (e : Entry) → get_elem? views i ≡ some v → w.stakes ≡ noted e v.stakes → HasStake v →
     Totals words (logged_in views) (logged_by views) → TotalsStay words after →
     ((weight : Entry → ℕ) → logged_in (set views i w) weight ≡ logged_in views weight + weight e) →
-    ((k : ℕ) → added_to k e ≡ 0) → ((q : ℕ) → added_as q e ≡ 0) → ((q : ℕ) → owes_as q e ≤ 33554432 * counted e) →
+    ((k : ℕ) → added_to k e ≡ 0) → ((q : ℕ) → added_as q e ≡ 0) → ((q : ℕ) → owes_as q e ≤ 134217728 * counted e) →
     Totals after (logged_in (set views i w)) (logged_by (set views i w))
 totals_other words after views i v w e at_i stakes has t stay more to kind owes = record {
   wide = let l = stay.long in let w = t.wide in omega arith;
@@ -88,12 +88,12 @@ totals_same words before after logs logs_by t = record {
 }
 
 -- a counted step on a title of the region owes at most the region's bytes
-owes_at_most : (b : Bool) (n : ℕ) → n ≤ 33554432 → (if b then n else 0) ≤ 33554432
+owes_at_most : (b : Bool) (n : ℕ) → n ≤ 134217728 → (if b then n else 0) ≤ 134217728
 owes_at_most true n h = h
 owes_at_most false n h = omega arith
 
-pub owes_few : (words : List ℕ) (t : Title) (step : Step) (found value : ℕ) → IsWellFormed (length (byte_words words)) t → length words ≤ 4194320 → (q : ℕ) →
-    owes_as q (Counted t step found value) ≤ 33554432 * counted (Counted t step found value)
+pub owes_few : (words : List ℕ) (t : Title) (step : Step) (found value : ℕ) → IsWellFormed (length (byte_words words)) t → length words ≤ 16777232 → (q : ℕ) →
+    owes_as q (Counted t step found value) ≤ 134217728 * counted (Counted t step found value)
 owes_few words t step found value well small q =
     let l = bytes_length words in
     let a = well.inside in

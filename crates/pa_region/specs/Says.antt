@@ -97,10 +97,10 @@ ReadKeeps =
     (slice_set views i (after_read t place (content_at (byte_words words) t place) v)) ×
     IsKept words (slice_set views i (after_read t place (content_at (byte_words words) t place) v))
 
--- the rule holds for a new region's words, which are 0 and at most 4,194,304 beside the totals words, and the first seat's view
+-- the rule holds for a new region's words, which are 0 and at most 16,777,216 beside the totals words, and the first seat's view
 abbrev pub StartKeeps : Type 0
 StartKeeps =
-    (words budget : ℕ) → words ≤ 4194304 → budget ≤ 65536 → IsKept (replicate (words + 16) 0) (first_view words budget ∷ [])
+    (words budget : ℕ) → words ≤ 16777216 → budget ≤ 65536 → IsKept (replicate (words + 16) 0) (first_view words budget ∷ [])
 
 -- under the rule the core that is shown is good
 abbrev pub ShowsGood : Type 0

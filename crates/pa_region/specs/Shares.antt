@@ -22,7 +22,7 @@ pub record Share : Type 0 where
 abbrev pub byte_word_count : TableId → ℕ
 byte_word_count region = region.words - 16
 
--- What a seat's type keeps. The region has at most 16 super pages. Each title and each raw byte that the view holds lies in it. The
+-- What a seat's type keeps. The region has at most 64 super pages. Each title and each raw byte that the view holds lies in it. The
 -- view's list of words is as long as the region's.
 pub record IsSeatSound (region : TableId) (v : View) : Type 0 where
   pub small : byte_word_count region ≤ most_words

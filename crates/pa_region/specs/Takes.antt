@@ -15,7 +15,7 @@ use Rattle.pa_region.specs.Aware.{IsAware}
 abbrev pub log_of : ℕ → View → List Entry
 log_of r v = log_among r v.stakes
 
--- a list is one of two, and at least as long as each
+-- whole is the longer one of the lists a and b
 pub record IsLongest (whole a b : List Made) : Type 0 where
   pub either : (whole ≡ a) ⊎ (whole ≡ b)
   pub first : length a ≤ length whole

@@ -38,14 +38,14 @@ abbrev pub total_place : List ℕ → ℕ → ℕ
 total_place words k = (length words - 16) + k
 
 -- The sixth part of the rule. There are 16 totals words. Each is the sum of the additions to it in all logs. What the logs of one
--- stake number owe to the words of a kind is never below what they added. The region is so small that no sum passes 2^25 bytes for
+-- stake number owe to the words of a kind is never below what they added. The region is so small that no sum passes 2^27 bytes for
 -- each counted step.
 pub record Totals (words : List ℕ) (logs : (Entry → ℕ) → ℕ) (logs_by : ℕ → (Entry → ℕ) → ℕ) : Type 0 where
   pub wide : 16 ≤ length words
-  pub small : length words ≤ 4194320
+  pub small : length words ≤ 16777232
   pub sums : (k : ℕ) → k < 16 → slice_index words (total_place words k) ≡ logs (added_to k)
   pub covered : (r q : ℕ) → logs_by r (added_as q) ≤ logs_by r (owes_as q)
-  pub bounded : (q : ℕ) → logs (owes_as q) ≤ 33554432 * logs counted
+  pub bounded : (q : ℕ) → logs (owes_as q) ≤ 134217728 * logs counted
 
 -- the view after an addition to totals word number k: it is in the log of the least stake
 abbrev pub after_add : ℕ → ℕ → View → View

@@ -1,7 +1,7 @@
 ghost use Rattle.std.specs.Prelude.{◌≡◌, ℕ, ◌-◌, ◌*◌, ◌<◌, ◌≤◌, [], length, IfOk};
 ghost use Rattle.atomic_table.specs.Seated.{TableId};
 ghost use Rattle.pa_slot.specs.Titles.{IsWellFormed, count_place, content_count, content_place};
-ghost use Rattle.pa_layout.specs.Limits.{most_supers, most_words};
+ghost use Rattle.pa_layout.specs.Limits.{region_supers, most_words};
 ghost use Rattle.pa_slot.specs.Holdings.{RawByte};
 ghost use Rattle.pa_region.specs.Views.{held_of_view, logged_of, HasTitle, HasStake, HasEveryStake, least_stake};
 ghost use Rattle.pa_region.specs.Moves.{CanCount};
@@ -65,7 +65,7 @@ impl Seat {
         least(&self.stakes)
     }
 
-    /// A title that the seat holds free, or has a handle of, is in the seat's region, which has at most 16 super pages. The
+    /// A title that the seat holds free, or has a handle of, is in the seat's region, which has at most 64 super pages. The
     /// seat's list of words is as long. It costs nothing: it hands on what the seat's type keeps.
     pub fn placed(&self, title: Title)
         requires { HasTitle self.now.view title }
@@ -97,7 +97,7 @@ impl Region {
     /// as raw, and has the right to make `budget` counted steps, every stake, every keeper with an empty list, and
     /// every lease.
     pub fn new(alloc: Global, supers: u32, budget: u32) -> Result<(Region, Seat), OutOfMemory>
-        requires supers { (1 ≤ supers) × (supers ≤ most_supers) }
+        requires supers { (1 ≤ supers) × (supers ≤ region_supers) }
         requires budget { budget ≤ 65536 }
         ensures words { IfOk result (λ r. byte_word_count r.0 ≡ 262144 * supers) }
         ensures region { IfOk result (λ r. r.1.region ≡ r.0) }

@@ -1,5 +1,5 @@
 -- The lines of a script's text are played, each as soon as it is read.
-use Rattle.std.proofs.Common.{◌≡◌, ℕ, ◌+◌, ◌≤◌, List, [], ◌∷◌, ◌++◌, length, Option, refl, ap, sym, subst, ◌∙◌, arith}
+use Rattle.std.proofs.Common.{◌≡◌, ℕ, ◌+◌, ◌≤◌, List, [], ◌∷◌, ◌++◌, length, Option, refl, sym, subst, ◌∙◌, arith}
 use Rattle.std.specs.List.{AllByRecursion}
 use Rattle.std.proofs.lemmas.List.{length_push}
 use Rattle.pa_trace.specs.declared.line.Head.{Head}
@@ -40,7 +40,7 @@ module _ (bytes : List ℕ) (u : Unread) (p : Player) where
           let one = last_of (IsScriptLineWithin v.head.partitions v.head.threads) so_far.lines l next.lines in
           subst (λ (h : Head). IsScriptLineWithin h.partitions h.threads l) (line.head ∙ sym so_far.played.head) one
 
-      -- and then one line more was played
+      -- after a script line was read and the player played it, the script is played up to that line
       pub input_more : (q : Player) (verdict : Option Verdict) → PlaysScriptLine p l verdict q → IsInputPlayedTo bytes v q
       input_more q verdict step =
           let n : ℕ = length so_far.lines + 2 in

@@ -80,8 +80,8 @@ replayed_supers : (es : List PoolEntry) (s : PoolState) → (pool_replayed es s)
 replayed_supers [] s = refl
 replayed_supers (e ∷ es) s = replayed_supers es (pool_next e.act s) ∙ next_supers e.act s
 
--- a region has 16 super pages at most
-pub run_low : (count first : ℕ) (pool : PoolValue) → IsPoolKept pool → IsLowest (pool_after pool.entries pool.supers) count (Some first) → first + count ≤ 16
+-- a region has 64 super pages at most
+pub run_low : (count first : ℕ) (pool : PoolValue) → IsPoolKept pool → IsLowest (pool_after pool.entries pool.supers) count (Some first) → first + count ≤ 64
 run_low count first pool kept lowest =
     let supers = replayed_supers pool.entries (new_pool pool.supers) in
     let few = kept.few in

@@ -58,7 +58,7 @@ module _ (t : Title) (w : View) (has : HasOnly (t ∷ []) w) where
       )
 
   pub title_back : (n number : ℕ) (v mid after root shown u c : View) → IsShown root shown v mid → CanLend v → IsAware shown → IsAware w → IsAware u → u ≡ united shown w →
-      length shown.words ≡ length w.words → IsWellFormed n t → n ≤ 4194304 → number ≡ seen_of u t → IsUncutWith (least_stake mid.stakes) t mid after u c →
+      length shown.words ≡ length w.words → IsWellFormed n t → n ≤ 16777216 → number ≡ seen_of u t → IsUncutWith (least_stake mid.stakes) t mid after u c →
       IsTitleBack (least_stake v.stakes) t number v after root c w
   title_back n number v mid after root shown u c view can aware note_aware both is long well small numbered uncut =
       let (again, least) = shown_lends v mid root shown view can in

@@ -1,5 +1,5 @@
 -- The entry of a root that was made for a call, whether or not the pool was asked first.
-use Rattle.std.proofs.Common.{◌≡◌, ℕ, List, Option, Some, None}
+use Rattle.std.proofs.Common.{ℕ, Option, Some, None}
 use Rattle.pa_record.specs.declared.root.RootAct.{RootAct}
 use Rattle.pa_record.specs.Numbers.{root_numbers}
 use Rattle.pa_region.specs.declared.view.Made.{Made}

@@ -24,7 +24,7 @@ use Rattle.pa_root.proofs.Parcels.{KeepsBut, keeps_but}
 use Rattle.pa_root.proofs.Taken as taken
 
 -- a root that is ready has a span for the class
-by_asked : (o : Option ℕ) (class : ℕ) (s : RootState) (u : View) → class < 59 → Asked (pools_seen u) class o s.root → IsSome (span_for class (ready_root o s u))
+by_asked : (o : Option ℕ) (class : ℕ) (s : RootState) (u : View) → class < 170 → Asked (pools_seen u) class o s.root → IsSome (span_for class (ready_root o s u))
 by_asked None class s u real asks = asks
 by_asked (Some j) class s u real asks = fill_keeps.finds_new class (super_of (act_at (pools_seen u) j)) j s.root real
 

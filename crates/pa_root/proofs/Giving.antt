@@ -72,7 +72,7 @@ module _ (p : ℕ) (s : RootState) (w : View) (titles : List Title) (can : CanCo
       let e : u ≡ t = title_is u t (same ∙ name) (len ∙ sym size) in
       subst (λ x. IsMade s.root x) e (subst (λ r. IsMade r u) (sym can.sound.journal.replayed) made)
 
-  -- and isn't with the root
+  -- a title that comes back isn't free with the root
   not_here : (t : Title) → Contains titles t → 0 < free_of s.view t → ⊥
   not_here t among free =
       let there = (can.has.frees t).1 among in

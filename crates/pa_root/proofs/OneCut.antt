@@ -113,7 +113,7 @@ take_makes r s sound among left =
 
 -- ---- and from the one that is found, or is new
 
--- the same spans, and perhaps one that has no slots yet
+-- all spans are kept, each new one has made no slot, and super pages and turn are those of before
 pub record IsGrown (r after : Root) : Type 0 where
   pub keeps : (s : Span) → Contains r.spans s → Contains after.spans s
   pub only : (s : Span) → Contains after.spans s → Contains r.spans s ⊎ (s.made ≡ 0)
@@ -164,7 +164,7 @@ made_grown r after t g (s, among, n, below, e) = elim (g.only s among) [
   | inr none ↦ absurd (omega arith)
 ]
 
-pub one_makes : (class : ℕ) (r : Root) (f : Found) → IsSound r → class < 59 → span_for class r ≡ Some f → MakesMore r (one_take class r).root (titles_new_in f.span)
+pub one_makes : (class : ℕ) (r : Root) (f : Found) → IsSound r → class < 170 → span_for class r ≡ Some f → MakesMore r (one_take class r).root (titles_new_in f.span)
 one_makes class r f sound real is =
     let h = found_ready class r f sound real is in
     let g = found_grown class r f is in

@@ -35,7 +35,7 @@ use Rattle.pa_root.proofs.Rewording.{cuts_rewritten, free_rewritten, can_rewritt
 -- A span was found there for a take of the class from the root z: the seat had the view v, and has w, which shows the root with the span.
 pub record HasFound (class : ℕ) (v : View) (l : ShelfParts) (z : Root) (w : View) (m : ShelfParts) (at : ℕ) : Type 0 where
   pub can : CanTakeOne class v l z
-  pub real : class < 59
+  pub real : class < 170
   pub wrote : Rewritten v w
   pub found : Found
   pub is : span_for class z ≡ Some found
@@ -47,7 +47,7 @@ by_start : (o : Option Found) (at : ℕ) (z : Root) (w : View) (m : ShelfParts) 
 by_start None at z w m e shown = absurd (not_some at (sym e))
 by_start (Some f) at z w m e shown = (f, refl, shown, sym (of_some at f.span.place e))
 
-pub found_by : (class : ℕ) (v : View) (l : ShelfParts) (z : Root) (w : View) (m : ShelfParts) (at : ℕ) → CanTakeOne class v l z → class < 59 → Rewritten v w →
+pub found_by : (class : ℕ) (v : View) (l : ShelfParts) (z : Root) (w : View) (m : ShelfParts) (at : ℕ) → CanTakeOne class v l z → class < 170 → Rewritten v w →
     Some at ≡ found_start (span_for class z) → ShowsRoot w m (found_root (span_for class z) z) → HasFound class v l z w m at
 found_by class v l z w m at can real wrote e shown =
     let (f, is, there, here) = by_start (span_for class z) at z w m e shown in

@@ -52,7 +52,7 @@ module _ (p line count asked first : ℕ) (s : RootState) (r : ℕ) (v a w note 
 
 -- a root that opens one is ready for a fill
 module _ (p line asked first class : ℕ) (s : RootState) (r : ℕ) (v a w note : View) (has : HasPages p line 1 asked first s r v a w note)
-    (real : class < 59) (none : IsNone (span_for class s.root)) where
+    (real : class < 170) (none : IsNone (span_for class s.root)) where
   pub page_ready : IsReadyFor p class (Some asked) s (united w note)
   page_ready =
       let u = united w note in

@@ -65,7 +65,7 @@ out_was_made r name sound (s, among, n, out) =
 
 -- ---- how it becomes ready
 
-as_it_is : (p class : ℕ) (s : RootState) → IsRootSound p s → IsAware s.view → class < 59 → IsSome (span_for class s.root) → IsReadyFor p class None s s.view
+as_it_is : (p class : ℕ) (s : RootState) → IsRootSound p s → IsAware s.view → class < 170 → IsSome (span_for class s.root) → IsReadyFor p class None s s.view
 as_it_is p class s sound aware real some = record {
   sound = sound;
   aware = aware;
@@ -100,7 +100,7 @@ named_seen p s has =
 pub super_is : (pools : List PoolEntry) (j number : ℕ) → FoundRun pools j 1 number → super_of (act_at pools j) ≡ number
 super_is pools j number found = ap super_of found
 
-with_page : (p class number entry : ℕ) (s : RootState) (w : View) → CanTakePage p number entry s w → class < 59 → IsNone (span_for class s.root) →
+with_page : (p class number entry : ℕ) (s : RootState) (w : View) → CanTakePage p number entry s w → class < 170 → IsNone (span_for class s.root) →
     FoundRun (pools_seen (united s.view w)) entry 1 number → length (list_of 4 s.view) ≤ entry → IsReadyFor p class (Some entry) s (united s.view w)
 with_page p class number entry s w can real none found later =
     let (slots, hosts) = opening_keeps p number entry s w can in

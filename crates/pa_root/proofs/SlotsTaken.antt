@@ -92,7 +92,7 @@ some_span None e = absurd (cc)
 some_span (Some f) e = (f, refl)
 
 -- what one take makes
-one_more : (class : ℕ) (z : Root) → IsSound z → class < 59 → MakesMore z (one_take class z).root (cut_for (span_for class z))
+one_more : (class : ℕ) (z : Root) → IsSound z → class < 170 → MakesMore z (one_take class z).root (cut_for (span_for class z))
 one_more class z sound real = elim (take_cases class z sound real) [
   | inl none ↦
       subst (λ o. MakesMore z (taken_from o z).root (cut_for o)) (sym none) (none_more z)
@@ -101,14 +101,14 @@ one_more class z sound real = elim (take_cases class z sound real) [
       subst (λ o. MakesMore z (one_take class z).root (cut_for o)) (sym is) (one_makes class z f sound real is)
 ]
 
-one_sound : (class : ℕ) (z : Root) → IsSound z → class < 59 → IsSound (one_take class z).root × ((one_take class z).root.supers ≡ z.supers)
+one_sound : (class : ℕ) (z : Root) → IsSound z → class < 170 → IsSound (one_take class z).root × ((one_take class z).root.supers ≡ z.supers)
 one_sound class z sound real = elim (take_cases class z sound real) [
   | inl none ↦ subst (λ o. IsSound (taken_from o z).root × ((taken_from o z).root.supers ≡ z.supers)) (sym none) (sound, refl)
   | inr (some, given) ↦ (given.sound, given.supers)
 ]
 
 -- a take takes one turn at most
-pub one_turn : (class : ℕ) (v w : View) (l m : ShelfParts) (z : Root) (title : Option Title) → IsSound z → class < 59 → ShowsRoot v l z →
+pub one_turn : (class : ℕ) (v w : View) (l m : ShelfParts) (z : Root) (title : Option Title) → IsSound z → class < 170 → ShowsRoot v l z →
     IsOneTaken class z v w m title → m.lists.turn ≤ l.lists.turn + 1
 one_turn class v w l m z title sound real shown one = elim (take_cases class z sound real) [
   | inl none ↦
@@ -121,7 +121,7 @@ one_turn class v w l m z title sound real shown one = elim (take_cases class z s
       omega arith
 ]
 
-module _ (class want left : ℕ) (v w : View) (l0 l : ShelfParts) (r : Root) (titles : List Title) (can : CanTakeSlots v l0 r) (real : class < 59)
+module _ (class want left : ℕ) (v w : View) (l0 l : ShelfParts) (r : Root) (titles : List Title) (can : CanTakeSlots v l0 r) (real : class < 170)
     (u : IsUnderWay class want left v w l r titles) where
   abbrev after : Root
   after = (one_take class u.now).root
@@ -211,7 +211,7 @@ all_taken class want v w l r titles u =
     }
 
 -- one more was taken
-pub one_on : (class want left next : ℕ) (v w : View) (l0 l : ShelfParts) (r : Root) (titles items : List Title) → CanTakeSlots v l0 r → class < 59 →
+pub one_on : (class want left next : ℕ) (v w : View) (l0 l : ShelfParts) (r : Root) (titles items : List Title) → CanTakeSlots v l0 r → class < 170 →
     left ≡ suc next → (u : IsUnderWay class want left v w l r titles) → (x : View) (m : ShelfParts) (title : Title) →
     IsOneTaken class u.now w x m (Some title) → items ≡ titles ++ title ∷ [] → IsUnderWay class want next v x m r items
 one_on class want left next v w l0 l r titles items can real is_left u x m title one items_are = elim (take_cases class u.now u.sound real) [

@@ -111,7 +111,7 @@ module _ (a h : View) (t : Title) (lends : CanLend a) (host : CanHost h) (free :
         words = λ q knows. left_known h g q long knows;
       }
 
-  -- and the lender's log says so
+  -- the title was uncut in the host's view with the lender's stake, and that stake's log says so
   uncut_with_now : IsAware (united (left_after (stake_parcel r) a) (given_after (stake_parcel r) e)) →
       IsUncutWith r t a (united (left_after (stake_parcel r) a) (given_after (stake_parcel r) e)) h (left_after (stake_parcel r) e)
   uncut_with_now aware_f =

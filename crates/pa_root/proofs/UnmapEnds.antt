@@ -105,7 +105,7 @@ module _ (p r number : ℕ) (s : RootState) (t : Title) (v v1 c w : View) (b : I
   pub hosts : HostsKeeper p y
   hosts = hosts_left p first s1 w c t cut
 
-  -- and given to the pool
+  -- the note with the super pages brings back to the pool what its entry number t.born took
   comes : ComesBack p t.born first count v1 g
   comes = record {
     seen = seen_stays p t.born first count b.back.shown v1 (b.back.lists 4) taken.1;
@@ -120,7 +120,7 @@ module _ (p r number : ℕ) (s : RootState) (t : Title) (v v1 c w : View) (b : I
   pub same_slot : slot ≡ at_number_seen w t
   same_slot = ap (λ (n : ℕ). let z : Numbered = record { slot = name_of t; number = n } in z) b.back.numbered
 
-  -- the same, of the views of the seats as they come
+  -- a view that is equal to the note's brings back to the pool what entry number t.born took
   pub comes_as : (n : View) → n ≡ g → ComesBack p t.born first count v1 n
   comes_as n gives = subst (λ z. ComesBack p t.born first count v1 z) (sym gives) comes
 

@@ -1,6 +1,6 @@
 //! Asking the pool for super pages, for a root.
 ghost use Rattle.std.specs.Prelude.{◌≡◌, ℕ, ◌+◌, ◌≤◌, [], IfOk, IfSome, OnErr, option_map};
-ghost use Rattle.pa_layout.specs.Limits.{most_supers};
+ghost use Rattle.pa_layout.specs.Limits.{most_supers, region_supers};
 ghost use Rattle.pa_region.specs.Views.{least_stake};
 ghost use Rattle.pa_region.specs.Lists.{list_of};
 ghost use Rattle.pa_region.specs.Lending.{CanLend, Lends};
@@ -48,7 +48,7 @@ impl<N: Name> Asking<'_, N> {
             (option_map (λ n. n.0) a.1) a.0 self.old.seat.now.view self.new.seat.now.view root.new.view) }
         ensures note { IfOk result (λ a. IfSome a.1 (λ n.
             (n.1.region ≡ N.region) × IsRunNote n.0 count a.0 self.new.seat.now.view n.1.view)) }
-        ensures low { IfOk result (λ a. IfSome a.1 (λ n. n.0 + count ≤ most_supers)) }
+        ensures low { IfOk result (λ a. IfSome a.1 (λ n. n.0 + count ≤ region_supers)) }
     {
         let mut locked = pool.lock(rt);
         let pool = &mut *locked;

@@ -1,7 +1,7 @@
 //! Super pages for a root, or the entry of its journal that there are none.
 ghost use Rattle.std.specs.Prelude.{◌≡◌, ℕ, ◌+◌, ◌<◌, ◌≤◌, [], length, Some, IfOk, IfErr, OnOk};
 ghost use Rattle.std.specs.Vec.{vec_capacity};
-ghost use Rattle.pa_layout.specs.Limits.{most_supers};
+ghost use Rattle.pa_layout.specs.Limits.{most_supers, region_supers};
 ghost use Rattle.pa_region.specs.Views.{least_stake};
 ghost use Rattle.pa_region.specs.Lists.{list_of};
 ghost use Rattle.pa_region.specs.Lending.{CanLend, HostsKeeper, Lends};
@@ -44,7 +44,7 @@ impl<const P: u32> Ledger<P> {
         ensures asked { IfOk result (λ a. IsAskedFor (least_stake asking.old.seat.now.view.stakes) asking.old.line P count
             (Some a.1) a.0 asking.old.seat.now.view asking.new.seat.now.view self.new.seat.view) }
         ensures note { IfOk result (λ a. (a.2.region ≡ N.region) × IsRunNote a.1 count a.0 asking.new.seat.now.view a.2.view) }
-        ensures low { IfOk result (λ a. a.1 + count ≤ most_supers) }
+        ensures low { IfOk result (λ a. a.1 + count ≤ region_supers) }
         ensures own { OnOk result ((r : ℕ) → Lends r [] self.old.seat.view self.new.seat.view) }
         ensures lists { OnOk result ((k : ℕ) → list_of k self.new.seat.view ≡ list_of k self.old.seat.view) }
         ensures journal { OnOk result (self.new.journal ≡ self.old.journal) }

@@ -56,6 +56,6 @@ batches_name (suc n) (x ∷ xs) a among = elim (in_cases (Give (take 16 (x ∷ x
   | inr rest ↦ batches_name n (drop 16 (x ∷ xs)) a rest
 ]
 
--- so do those of all that goes back
+-- each act by which a list of slots goes back names a slot
 pub gives_names : (xs : List Numbered) (a : RootAct) → Contains (gives xs) a → NamesSlots a
 gives_names xs a among = batches_name (length xs) xs a among

@@ -46,12 +46,12 @@ mark_counted test (Some m) x xs e = rw e (sum_by-cons (λ y. cond (test y) 1 0) 
 -- or came back as it left or was returned
 abbrev Flows : SlotName → ℕ → List RootAct → Option Mark → Cache → Cache → Type 0
 Flows s p acts mark cache after =
-    listed_times s (after p) 0 59 + marked (is_issue_of s) mark + back_in s acts ≡ listed_times s (cache p) 0 59 + left_in s acts + marked (is_return_of s) mark
+    listed_times s (after p) 0 170 + marked (is_issue_of s) mark + back_in s acts ≡ listed_times s (cache p) 0 170 + left_in s acts + marked (is_return_of s) mark
 
 -- a row without entries, steps that issue or return, and changes
 quiet : (s : SlotName) (p : ℕ) (acts : List RootAct) (mark : Option Mark) (cache after : Cache) → SameLists after cache →
     left_in s acts + marked (is_return_of s) mark ≡ back_in s acts + marked (is_issue_of s) mark → Flows s p acts mark cache after
-quiet s p acts mark cache after becomes even = let same = listed_agree s (after p) (cache p) 0 59 (λ c low. becomes p c) in omega arith
+quiet s p acts mark cache after becomes even = let same = listed_agree s (after p) (cache p) 0 170 (λ c low. becomes p c) in omega arith
 
 none_left : (s : SlotName) (acts : List RootAct) → acts ≡ [] → (left_in s acts ≡ 0) × (back_in s acts ≡ 0)
 none_left s acts e = (ap (left_in s) e, ap (back_in s) e)
@@ -97,13 +97,13 @@ made_keeps s p roots x seen cache after own known (inl (q, class, xs, rest, asks
           let turned : FirstKeeps s roots x.line p class (cache p class) xs = subst (λ z. FirstKeeps s roots x.line z class (cache z class) xs) same f in
           let left = turned.flow in
           let back = turned.back in
-          let change = listed_changed s cache after p class rest asks.3.real (λ c. becomes p c ∙ ap (λ z. with_list cache z class rest p c) same) in
+          let change = listed_changed s cache after p class rest (omega (arith, asks.3.real)) (λ c. becomes p c ∙ ap (λ z. with_list cache z class rest p c) same) in
           omega arith
       | inr other ↦
           let none = none_left s (acts_of roots x.line p) (f.others p (λ e. other (sym e))) in
           let (left, back) = none in
           let away = not_of roots s seen.slot p q own other (class_leaves roots seen.slot q class (at head (first_in head rest))) in
-          let same = listed_agree s (after p) (cache p) 0 59 (λ c low. becomes p c ∙ list_of_another cache q class rest p c (λ e. other (sym e))) in
+          let same = listed_agree s (after p) (cache p) 0 170 (λ c low. becomes p c ∙ list_of_another cache q class rest p c (λ e. other (sym e))) in
           omega arith
     ]
 made_keeps s p roots x seen cache after own known (inr (q, size, asked, len, asks, only, becomes)) =
@@ -127,7 +127,7 @@ made_keeps s p roots x seen cache after own known (inr (q, size, asked, len, ask
 
 -- a fill of a journal is of a real class
 fill_real : (pools : List PoolEntry) (es : List RootEntry) (r : Root) (e : RootEntry) (class : ℕ) (asked : Option ℕ) (slots : List Numbered) → RootReplays pools es r →
-    Contains es e → e.act ≡ Fill class asked slots → class < 59
+    Contains es e → e.act ≡ Fill class asked slots → class < 170
 fill_real pools [] r e class asked slots fits among act = absurd (not_in_none e among)
 fill_real pools (f ∷ es) r e class asked slots fits among act = elim (in_cases f e es among) [
   | inl same ↦
@@ -136,7 +136,7 @@ fill_real pools (f ∷ es) r e class asked slots fits among act = elim (in_cases
   | inr rest ↦ fill_real pools es (root_next pools f.act r) e class asked slots fits.1 rest act
 ]
 
-pub class_real : (pools : List PoolEntry) (roots : Journals) (t : SlotName) (q class : ℕ) → IsJournal pools (roots q) → IsOfClass roots t q class → class < 59
+pub class_real : (pools : List PoolEntry) (roots : Journals) (t : SlotName) (q class : ℕ) → IsJournal pools (roots q) → IsOfClass roots t q class → class < 170
 class_real pools roots t q class j (e, asked, slots, among, act, member) = fill_real pools (roots q) new_root e class asked slots j.replays among act
 
 -- a slot that a step returned, if its mark is one return and no issue
@@ -157,7 +157,7 @@ return_keeps s p pools roots x slot mark cache after journals own i o (inl (q, c
       | inr other ↦
           let (left, back) = none_left s (acts_of roots x.line p) (only.1 p (λ e. other (sym e))) in
           let away = not_of roots s slot.slot p q own other (class_leaves roots slot.slot q class of) in
-          let same = listed_agree s (after p) (cache p) 0 59 (λ c low. becomes p c ∙ list_of_another cache q class (kept class list) p c (λ e. other (sym e))) in
+          let same = listed_agree s (after p) (cache p) 0 170 (λ c low. becomes p c ∙ list_of_another cache q class (kept class list) p c (λ e. other (sym e))) in
           omega arith
     ]
 return_keeps s p pools roots x slot mark cache after journals own i o (inr (q, asked, number, direct, only, becomes)) =
@@ -244,9 +244,9 @@ full_keeps s p roots x cache after (inr (q, size, asked, asks, only, becomes)) =
 purged_keeps : (partitions : ℕ) (s : SlotName) (p : ℕ) (roots : Journals) (x : Played) (slots : ℕ) (cache after : Cache) → p < partitions → PurgedRow partitions roots x slots cache after →
     Flows s p (acts_of roots x.line p) None cache after
 purged_keeps partitions s p roots x slots cache after below (acts, counted, empty) =
-    let left : left_in s (acts_of roots x.line p) ≡ 0 = ap (left_in s) (acts p below) ∙ left_purge s (cache p) 0 59 in
-    let back : back_in s (acts_of roots x.line p) ≡ listed_times s (cache p) 0 59 = ap (back_in s) (acts p below) ∙ back_purge s (cache p) 0 59 in
-    let none = listed_none s (after p) 0 59 (empty p) in
+    let left : left_in s (acts_of roots x.line p) ≡ 0 = ap (left_in s) (acts p below) ∙ left_purge s (cache p) 0 170 in
+    let back : back_in s (acts_of roots x.line p) ≡ listed_times s (cache p) 0 170 = ap (back_in s) (acts p below) ∙ back_purge s (cache p) 0 170 in
+    let none = listed_none s (after p) 0 170 (empty p) in
     omega arith
 
 -- a row without entries, with a look or no mark
@@ -298,7 +298,7 @@ all_keep partitions threads p pools roots s (x ∷ xs) all after journals own be
 pub no_cached : (s : SlotName) (p threads : ℕ) → cached_times s no_caches p threads ≡ 0
 no_cached s p zero = refl
 no_cached s p (suc t) =
-    let here = listed_none s (no_caches t p) 0 59 (λ c. refl) in
+    let here = listed_none s (no_caches t p) 0 170 (λ c. refl) in
     let ih = no_cached s p t in
     omega arith
 

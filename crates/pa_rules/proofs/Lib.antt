@@ -26,3 +26,4 @@ pub mod Batches
 pub mod ReportLines
 pub mod Lined
 pub mod Paths
+pub mod Sums

@@ -30,14 +30,14 @@ use Rattle.pa_rules.proofs.Following.{titles_follow}
 
 -- the length that an entry gives its titles
 abbrev pub HasLen : RootAct → Title → Type 0
-HasLen (Fill class asked slots) t = (class < 59) × (t.len ≡ slot_of class)
+HasLen (Fill class asked slots) t = (class < 170) × (t.len ≡ slot_of class)
 HasLen (Map asked slot len) t = t.len ≡ len
 HasLen (Full class asked) t = Unit {0}
 HasLen (Give slots) t = Unit {0}
 HasLen (Unmap asked slot) t = Unit {0}
 HasLen Purge t = Unit {0}
 
-pub fill_len : (pools : List PoolEntry) (n class : ℕ) (asked : Option ℕ) (r : Root) → IsSound r → IsBornBelow n r → AsksFrom n asked → class < 59 →
+pub fill_len : (pools : List PoolEntry) (n class : ℕ) (asked : Option ℕ) (r : Root) → IsSound r → IsBornBelow n r → AsksFrom n asked → class < 170 →
     (t : Title) → Contains (takes class (fill_of class) (opened_by pools asked r)).titles t → t.len ≡ slot_of class
 fill_len pools n class None r sound old asks real t among = (takes_filled class (fill_of class) r sound real).len t among
 fill_len pools n class (Some j) r sound old asks real t among =

@@ -1,5 +1,5 @@
 -- The records beside their ops are the trace's op lines and the run's records, if those are due.
-use Rattle.std.proofs.Common.{◌≡◌, ℕ, ◌+◌, List, [], ◌∷◌, map, refl, sym, ◌∙◌, ap, drop, get_or}
+use Rattle.std.proofs.Common.{◌≡◌, ℕ, List, [], ◌∷◌, map, refl, sym, ◌∙◌, ap, drop, get_or}
 use Rattle.std.specs.Prelude.{zip}
 use Rattle.pa_record.specs.declared.entry.Entry.{Entry}
 use Rattle.pa_rules.specs.declared.played.Played.{Played}

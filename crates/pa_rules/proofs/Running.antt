@@ -46,7 +46,7 @@ first_line ms s u m n p q f g =
     let b = g.least m f.among f.slot f.found (made_some m.step p f.step) in
     omega arith
 
--- so they are one, and a run is determined
+-- if no two marks have the same line, two first marks at a slot's word are one mark, and runs from one word end in one word
 pub one_mark : (ms : List Mark) (s : SlotName) (u : ℕ) (m n : Mark) (p q : Step) → AllPairs OtherLine ms → IsFirstAt ms s u m p → IsFirstAt ms s u n q → m ≡ n
 one_mark ms s u m n p q h f g = one_by (λ (z : Mark). z.line) ms m n h f.among g.among (first_line ms s u m n p q f g)
 
@@ -233,7 +233,7 @@ run_rises ms s u (v ∷ vs) x (m, p, first, can, is, rest) among = elim (in_case
       omega arith
 ]
 
--- and are determined by their numbers
+-- two words of a run with the same number are the same word
 pub same_word : (ms : List Mark) (s : SlotName) (u : ℕ) (vs : List ℕ) (x y : ℕ) → IsRunFrom ms s u vs → Contains (u ∷ vs) x → Contains (u ∷ vs) y → number_of x ≡ number_of y → x ≡ y
 same_word ms s u [] x y run first second e = sym (in_one u x first) ∙ in_one u y second
 same_word ms s u (v ∷ vs) x y (m, p, at, can, is, rest) first second e =
@@ -332,7 +332,7 @@ module _ (up down : Step → ℕ → Bool) (level : ℕ → ℕ) (even : Balance
       ]) in
       omega arith
 
-  -- so the level of its last word is determined by how many there are of both
+  -- along a slot's run, the raising steps plus the level of 0 are as many as the lowering steps plus the level of the last word
   pub run_levels : (ms : List Mark) (s : SlotName) (vs : List ℕ) → AllPairs OtherLine ms → IsRunFrom ms s 0 vs → IsOneRun ms s (0 ∷ vs) →
       count_by (steps_so up s) ms + level 0 ≡ count_by (steps_so down s) ms + level (last_word 0 vs)
   run_levels ms s vs h run one =

@@ -75,6 +75,7 @@ total_times (n ∷ ns) ss h inside =
 
 pub total_listed : (lists : ℕ → List Numbered) (from k : ℕ) (ss : List SlotName) → AllPairs ◌≢◌ ss → ((c : ℕ) (m : Numbered) → c < from + k → Contains (lists c) m → Contains ss m.slot)
     → total (λ s. listed_times s lists from k) ss ≡ listed_slots lists from k
+unfolding listed_times listed_slots
 total_listed lists from zero ss h inside = total_none ss
 total_listed lists from (suc k) ss h inside =
     let a = total_add (λ s. stands s (lists from)) (λ s. listed_times s lists (from + 1) k) ss in
@@ -86,12 +87,12 @@ total_listed lists from (suc k) ss h inside =
     omega arith
 
 pub total_cached : (all : Caches) (p threads : ℕ) (ss : List SlotName) → AllPairs ◌≢◌ ss
-    → ((t c : ℕ) (m : Numbered) → t < threads → c < 59 → Contains (all t p c) m → Contains ss m.slot)
+    → ((t c : ℕ) (m : Numbered) → t < threads → c < 170 → Contains (all t p c) m → Contains ss m.slot)
     → total (λ s. cached_times s all p threads) ss ≡ cached_slots all p threads
 total_cached all p zero ss h inside = total_none ss
 total_cached all p (suc t) ss h inside =
-    let a = total_add (λ s. listed_times s (all t p) 0 59) (λ s. cached_times s all p t) ss in
-    let b = total_listed (all t p) 0 59 ss h (λ c m below. inside t c m (omega arith) (omega arith)) in
+    let a = total_add (λ s. listed_times s (all t p) 0 170) (λ s. cached_times s all p t) ss in
+    let b = total_listed (all t p) 0 170 ss h (λ c m below. inside t c m (omega arith) (omega arith)) in
     let ih = total_cached all p t ss h (λ u c m below. inside u c m (omega arith)) in
     omega arith
 
@@ -105,6 +106,7 @@ some_times s (t ∷ ss) among =
     ]
 
 pub some_listed : (s : SlotName) (lists : ℕ → List Numbered) (c from k : ℕ) → from ≤ c → c < from + k → 1 ≤ stands s (lists c) → 1 ≤ listed_times s lists from k
+unfolding listed_times
 some_listed s lists c from zero low high some = absurd (omega arith)
 some_listed s lists c from (suc k) low high some = elim (cases_eq from c) [
   | inl e ↦ let same : stands s (lists from) ≡ stands s (lists c) = ap (λ z. stands s (lists z)) e in omega arith
@@ -112,12 +114,12 @@ some_listed s lists c from (suc k) low high some = elim (cases_eq from c) [
 ]
 
 -- a slot that is in a list is cached
-pub some_cached : (all : Caches) (p threads t c : ℕ) (m : Numbered) → t < threads → c < 59 → Contains (all t p c) m → 1 ≤ cached_times m.slot all p threads
+pub some_cached : (all : Caches) (p threads t c : ℕ) (m : Numbered) → t < threads → c < 170 → Contains (all t p c) m → 1 ≤ cached_times m.slot all p threads
 some_cached all p zero t c m below real among = absurd (omega arith)
 some_cached all p (suc u) t c m below real among = elim (cases_eq u t) [
   | inl e ↦
-      let here = some_listed m.slot (all t p) c 0 59 (omega arith) (omega arith) (some_times m.slot (names (all t p c)) (map_in (λ (n : Numbered). n.slot) (all t p c) m among)) in
-      let same : listed_times m.slot (all u p) 0 59 ≡ listed_times m.slot (all t p) 0 59 = ap (λ z. listed_times m.slot (all z p) 0 59) e in
+      let here = some_listed m.slot (all t p) c 0 170 (omega arith) (omega arith) (some_times m.slot (names (all t p c)) (map_in (λ (n : Numbered). n.slot) (all t p c) m among)) in
+      let same : listed_times m.slot (all u p) 0 170 ≡ listed_times m.slot (all t p) 0 170 = ap (λ z. listed_times m.slot (all z p) 0 170) e in
       omega arith
   | inr other ↦ let ih = some_cached all p u t c m (omega arith) real among in omega arith
 ]

@@ -11,13 +11,13 @@ use Rattle.pa_record.specs.Worked.{purge_pool, purge_journal, slots, fill}
 use Rattle.pa_record.specs.Root.{new_root, root_replayed}
 use Rattle.pa_record.specs.Laws.{names_out, slots_made}
 use Rattle.pa_rules.specs.Roots.{Journals, journal_at}
-use Rattle.pa_rules.specs.Caches.{Cache, with_list, acts_of, purge_acts, MadeRow, DoneRow, no_caches}
+use Rattle.pa_rules.specs.Caches.{Cache, with_list, acts_of, purge_acts, listed_slots, MadeRow, DoneRow, no_caches}
 use Rattle.pa_rules.specs.Worked.{first_slot, of_first_thread, PurgeIsCached, IsCountedAs, PurgeIsCounted}
 
 -- a request of 8 bytes is of class 0
 pub class_0 : IsClassOf 16 0
 unfolding rows row_of slot_of
-class_0 = record { real = lit< tt; fits = omega arith; least = λ d below. absurd (omega arith) }
+class_0 = record { from = omega arith; real = lit< tt; fits = omega arith; least = λ d from below. absurd (omega arith) }
 
 abbrev roots : Journals
 roots = journal_at (purge_journal ∷ [])
@@ -54,10 +54,10 @@ made_first : MadeRow roots (of_first_thread 2 (ops.Alloc 0 0 8) (answers.Made (f
 made_first = inl (0, 0, filled, rest, (0, 8, refl, class_0), (Some 0, (refl, no_other 2)), refl, λ p c. refl)
 
 freed : DoneRow roots (of_first_thread 3 (ops.Free 0) (answers.Done (first_slot 16777217))) (Some steps.Free) (first_slot 16777217) after_made after_free
-unfolding limit_of
+unfolding rows row_of limit_of
 freed = inl ((refl, refl), inl (0, 0, (fill 2 0 (Some 0) filled, Some 0, filled, (0, lit< tt, refl), refl, (0, lit< tt, refl)), (refl, no_other 3), λ p c. refl))
 
-purged_acts : (p : ℕ) → p < 1 → acts_of roots 4 p ≡ purge_acts (after_free p) 0 59
+purged_acts : (p : ℕ) → p < 1 → acts_of roots 4 p ≡ purge_acts (after_free p) 0 170
 purged_acts zero below = refl
 purged_acts (suc p) below = absurd (omega arith)
 
@@ -65,6 +65,7 @@ made_again : MadeRow roots (of_first_thread 5 (ops.Alloc 1 0 8) (answers.Made (f
 made_again = inl (0, 0, first 2 ∷ rest, rest, (1, 8, refl, class_0), (None, (refl, no_other 5)), refl, λ p c. refl)
 
 pub purge_is_cached : PurgeIsCached
+unfolding listed_slots
 purge_is_cached = (
   _,
   (after_made, made_first, (after_free, freed, (after_purge, (purged_acts, refl, λ p c. refl), (after_again, made_again, refl)))),

@@ -127,7 +127,7 @@ purge_acts lists class zero = Purge ∷ []
 purge_acts lists class (suc n) = gives (lists class) ++ purge_acts lists (class + 1) n
 
 -- how many slots the lists of `n` classes have, from one class on
-abbrev pub listed_slots : (ℕ → List Numbered) → ℕ → ℕ → ℕ
+unfoldable pub listed_slots : (ℕ → List Numbered) → ℕ → ℕ → ℕ
 listed_slots lists class zero = 0
 listed_slots lists class (suc n) = length (lists class) + listed_slots lists (class + 1) n
 

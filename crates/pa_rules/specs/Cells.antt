@@ -1,5 +1,5 @@
 -- The cells that the threads share, and what was exchanged with them.
-use Rattle.std.specs.Prelude.{◌≡◌, ℕ, ◌<◌, ◌⊎◌, List, [], ◌∷◌, Some, Contains, slice_get, slice_index_or}
+use Rattle.std.specs.Prelude.{◌≡◌, ℕ, List, [], ◌∷◌, Some, Contains, slice_get, slice_index_or}
 use Rattle.pa_trace.specs.declared.script.Op.TheVariants.{Swap}
 use Rattle.pa_record.specs.declared.entry.Answer.TheVariants.{Swapped}
 use Rattle.pa_record.specs.declared.history.CellEntry.{CellEntry}

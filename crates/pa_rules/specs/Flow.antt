@@ -63,7 +63,7 @@ abbrev pub returns_of : SlotName → List Mark → ℕ
 returns_of s ms = count_by (is_return_of s) ms
 
 -- how often slot s is in a thread's lists of one partition, of `n` classes from one on
-abbrev pub listed_times : SlotName → (ℕ → List Numbered) → ℕ → ℕ → ℕ
+unfoldable pub listed_times : SlotName → (ℕ → List Numbered) → ℕ → ℕ → ℕ
 listed_times s lists class zero = 0
 listed_times s lists class (suc n) = times s (names (lists class)) + listed_times s lists (class + 1) n
 

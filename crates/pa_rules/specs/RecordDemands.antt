@@ -1,5 +1,5 @@
 -- What the clauses of the records require of each place. A place of which a clause requires nothing meets it.
-use Rattle.std.specs.Prelude.{◌≡◌, ℕ, zero, suc, ◌<◌, ◌≤◌, ◌⊎◌, List, [], ◌∷◌, map, take, Option, Some, None, Contains, slice_get}
+use Rattle.std.specs.Prelude.{◌≡◌, ℕ, zero, suc, ◌<◌, ◌≤◌, ◌⊎◌, List, ◌∷◌, map, take, Some, Contains, slice_get}
 use Rattle.pa_slot.specs.declared.word.Step.{Step}
 use Rattle.pa_slot.specs.Count.{CanStep, number_of}
 use Rattle.pa_slot.specs.Run.{Mark, IsFirstAt, IsRunFrom}

@@ -51,7 +51,7 @@ IsTally P roots ps p tally =
     × (tally.bytes ≡ sum sizes)
 
 -- how many bytes the slots of `n` classes from one on have, by how many slots each class has
-abbrev pub listed_bytes : (ℕ → ℕ) → ℕ → ℕ → ℕ
+unfoldable pub listed_bytes : (ℕ → ℕ) → ℕ → ℕ → ℕ
 listed_bytes counts class zero = 0
 listed_bytes counts class (suc n) = slot_of class * counts class + listed_bytes counts (class + 1) n
 

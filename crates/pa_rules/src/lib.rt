@@ -1,5 +1,5 @@
 //! What a legal run is: the definitions that need the ops of a trace and the answers of a run at once. The players,
-//! the checker and the top call cite them. The only code here is what an op does by its register alone, for workers and checker.
+//! the checker and the top call cite them. The only code here is what an op does by its register alone, for players, workers and checker.
 #![tactic(auto)]
 
 mod laws;

@@ -1,5 +1,5 @@
 -- What is spelled as an item is read as that item.
-use Rattle.std.proofs.Common.{◌≡◌, ℕ, ◌<◌, List, [], ◌∷◌, ◌++◌, codes, Option, Some, None, refl, sym, ap, ◌∙◌, arith}
+use Rattle.std.proofs.Common.{◌≡◌, ℕ, ◌<◌, List, ◌∷◌, ◌++◌, codes, Option, Some, None, refl, sym, ap, ◌∙◌, arith}
 use Rattle.std.specs.Fmt.{decimal}
 use Rattle.pa_text.specs.Reading.{IsStop}
 use Rattle.pa_record.specs.declared.pool.PoolEntry.{PoolEntry}

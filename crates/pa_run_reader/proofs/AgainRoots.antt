@@ -68,7 +68,7 @@ unfolding fill_in
 fill_again c p s rest fits some' =
     let slots : List ℕ = slots_text s ++ 10 ∷ rest in
     rw (
-      below_again 59 c (codes " " ++ (number_or (codes "-") p ++ slots)) fits.0 (omega arith) refl,
+      below_again 170 c (codes " " ++ (number_or (codes "-") p ++ slots)) fits.0 (omega arith) refl,
       behind_again (codes " ") (number_or (codes "-") p ++ slots),
       number_or_again 45 [] 4294967296 p slots (λ a b. omega (arith, a, b)) fits.1 (omega arith) (slots_stop s rest),
       batch_again s rest some' fits.2 fits.3,
@@ -90,7 +90,7 @@ full_again : (c : Option ℕ) (p : ℕ) (rest : List ℕ) → RootActInBits (act
 unfolding full_in
 full_again c p rest fits =
     rw (
-      number_or_again 100 (codes "irect") 59 c (codes " " ++ (decimal p ++ 10 ∷ rest)) (λ a b. omega (arith, a, b)) fits.0 (omega arith) refl,
+      number_or_again 100 (codes "irect") 170 c (codes " " ++ (decimal p ++ 10 ∷ rest)) (λ a b. omega (arith, a, b)) fits.0 (omega arith) refl,
       field_again (codes " ") 4294967296 p (10 ∷ rest) fits.1 (omega arith) refl,
     ) refl
 

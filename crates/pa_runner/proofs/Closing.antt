@@ -239,7 +239,7 @@ module _ (t : Trace) (workers : List WorkerValue) (seat : View) (report : List R
     pub has_lists : HasLinkedLists t run_told left.region
     has_lists = record { all = lists_at t went.course (phases_in t.lines); are = lists_lead; linked = lists_linked }
 
-    listed_free : SlotsStaySeen → (k p class : ℕ) (m : Numbered) → k < t.threads → p < t.partitions → class < 59 →
+    listed_free : SlotsStaySeen → (k p class : ℕ) (m : Numbered) → k < t.threads → p < t.partitions → class < 170 →
         Contains (lists_at t went.course (phases_in t.lines) k p class) m → 0 < free_of closed.last (title_of (sizes_in t run_told) m.slot)
     listed_free stay k p class m few real low among =
         let n = phases_in t.lines in

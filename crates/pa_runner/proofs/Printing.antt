@@ -76,7 +76,7 @@ module _ (partitions : ℕ) (roots : Journals) (x : Played) (p : ℕ) (a : RootA
   by_done (Some step) seen cache after (inr (other, acts, becomes)) = absurd (not_none (acts p))
 
   by_purged : (slots : ℕ) (cache after : Cache) → p < partitions → PurgedRow partitions roots x slots cache after → NamesSlots a
-  by_purged slots cache after below (acts, counted, empty) = in_purge (cache p) 0 59 a (subst (λ acts. Contains acts a) (acts p below) among)
+  by_purged slots cache after below (acts, counted, empty) = in_purge (cache p) 0 170 a (subst (λ acts. Contains acts a) (acts p below) among)
 
   by_row : (answer : Answer) (cache after : Cache) → p < partitions → CacheRow partitions roots x answer cache after → NamesSlots a
   by_row (answers.Made seen usable) cache after below row = by_made seen cache after row

@@ -49,12 +49,12 @@ module _ (threads : ℕ) (workers others : ℕ → WorkerValue) (same : HaveTheS
   cached_same p tally cached = record {
     slots =
         cached.slots
-        ∙ sym (sum_same (λ k. listed_slots (listed_in (workers k).stock p) 0 59) (λ k. listed_slots (listed_in (others k).stock p) 0 59) threads
-        (λ k low. ap (λ lists. listed_slots (lists p) 0 59) (same.lists k low)));
+        ∙ sym (sum_same (λ k. listed_slots (listed_in (workers k).stock p) 0 170) (λ k. listed_slots (listed_in (others k).stock p) 0 170) threads
+        (λ k low. ap (λ lists. listed_slots (lists p) 0 170) (same.lists k low)));
     bytes =
         cached.bytes
-        ∙ sym (sum_same (λ k. listed_bytes (λ class. length (listed_in (workers k).stock p class)) 0 59) (λ k. listed_bytes (λ class. length (listed_in (others k).stock p class)) 0 59) threads
-        (λ k low. ap (λ lists. listed_bytes (λ class. length (lists p class)) 0 59) (same.lists k low)));
+        ∙ sym (sum_same (λ k. listed_bytes (λ class. length (listed_in (workers k).stock p class)) 0 170) (λ k. listed_bytes (λ class. length (listed_in (others k).stock p class)) 0 170) threads
+        (λ k low. ap (λ lists. listed_bytes (λ class. length (lists p class)) 0 170) (same.lists k low)));
   }
 
   line_same : (phase : ℕ) (seat : View) (l : ReportLine) → IsLineFor phase threads workers seat l → IsLineFor phase threads others seat l

@@ -83,32 +83,33 @@ together a b = record { slots = a.slots + b.slots; bytes = a.bytes + b.bytes }
 -- The tally is what the lists of the first i workers have. It is small, since no list is long.
 pub record IsCaching (p i : ℕ) (ws : List WorkerValue) (t : Tally) : Type 0 where
   pub by : IsCachedBy p i (worker_in ws) t
-  pub few : t.slots ≤ 3776 * i
-  pub small : t.bytes ≤ 3464495104 * i
+  pub few : t.slots ≤ 10880 * i
+  pub small : t.bytes ≤ 10695475200 * i
 
-short_list : (s : StockValue) (p class : ℕ) → IsStock s → class < 59 → length (listed_in s p class) ≤ 64
+short_list : (s : StockValue) (p class : ℕ) → IsStock s → class < 170 → length (listed_in s p class) ≤ 64
 short_list s p class stock low =
     let a = stock.lists.few p class in
     let b = (IsRow-of class low).few_kept in
     let c = length_numbered s.view (titles_in s.caches p class) in
     omega arith
 
-listed_few : (lists : ℕ → List Numbered) (class n : ℕ) → class + n ≤ 59 → ((k : ℕ) → k < 59 → length (lists k) ≤ 64) →
-    (listed_slots lists class n ≤ 64 * n) × (listed_bytes (λ k. length (lists k)) class n ≤ 58720256 * n)
+listed_few : (lists : ℕ → List Numbered) (class n : ℕ) → class + n ≤ 170 → ((k : ℕ) → k < 170 → length (lists k) ≤ 64) →
+    (listed_slots lists class n ≤ 64 * n) × (listed_bytes (λ k. length (lists k)) class n ≤ 62914560 * n)
+unfolding listed_slots listed_bytes
 listed_few lists class zero low short = (omega arith, omega arith)
 listed_few lists class (suc n) low short =
     let again = listed_few lists (class + 1) n (omega arith) short in
     let one = short class (omega arith) in
-    let weight = mul-le (slot_of class) (length (lists class)) 917504 64 (IsRow-of class (omega arith)).greatest_slot one in
+    let weight = mul-le (slot_of class) (length (lists class)) 983040 64 (IsRow-of class (omega arith)).greatest_slot one in
     let a = again.0 in
     let b = again.1 in
     (omega arith, omega arith)
 
-module _ (p i : ℕ) (ws : List WorkerValue) (t more : Tally) (stock : IsStock (worker_in ws i).stock) (slots : more.slots ≡ listed_slots (listed_in (worker_in ws i).stock p) 0 59)
-    (bytes : more.bytes ≡ listed_bytes (λ class. length (listed_in (worker_in ws i).stock p class)) 0 59) (caching : IsCaching p i ws t) where
+module _ (p i : ℕ) (ws : List WorkerValue) (t more : Tally) (stock : IsStock (worker_in ws i).stock) (slots : more.slots ≡ listed_slots (listed_in (worker_in ws i).stock p) 0 170)
+    (bytes : more.bytes ≡ listed_bytes (λ class. length (listed_in (worker_in ws i).stock p class)) 0 170) (caching : IsCaching p i ws t) where
   pub cache_fits : i < 16 → (t.slots + more.slots < 2 ^ 64) × (t.bytes + more.bytes < 2 ^ 64)
   cache_fits low =
-      let l = listed_few (listed_in (worker_in ws i).stock p) 0 59 (omega arith) (λ k small. short_list (worker_in ws i).stock p k stock small) in
+      let l = listed_few (listed_in (worker_in ws i).stock p) 0 170 (omega arith) (λ k small. short_list (worker_in ws i).stock p k stock small) in
       let a = l.0 in
       let b = l.1 in
       let u = caching.few in
@@ -117,9 +118,9 @@ module _ (p i : ℕ) (ws : List WorkerValue) (t more : Tally) (stock : IsStock (
 
   pub cache_more : IsCaching p (i + 1) ws (together t more)
   cache_more =
-      let l = listed_few (listed_in (worker_in ws i).stock p) 0 59 (omega arith) (λ k small. short_list (worker_in ws i).stock p k stock small) in
-      let a = sum_more (λ k. listed_slots (listed_in (worker_in ws k).stock p) 0 59) i in
-      let b = sum_more (λ k. listed_bytes (λ class. length (listed_in (worker_in ws k).stock p class)) 0 59) i in
+      let l = listed_few (listed_in (worker_in ws i).stock p) 0 170 (omega arith) (λ k small. short_list (worker_in ws i).stock p k stock small) in
+      let a = sum_more (λ k. listed_slots (listed_in (worker_in ws k).stock p) 0 170) i in
+      let b = sum_more (λ k. listed_bytes (λ class. length (listed_in (worker_in ws k).stock p class)) 0 170) i in
       let c = l.0 in
       let d = l.1 in
       let g = caching.by.slots in

@@ -181,7 +181,7 @@ pages_had v l r at sound k inside =
           none_behind v l r s t sound k among there (omega arith) (omega arith);
     }
   where
-    page_less : (page n class : ℕ) → class < 59 → n ≡ pages_of class → page + n ≤ 127 → page < 127
+    page_less : (page n class : ℕ) → class < 170 → n ≡ pages_of class → page + n ≤ 127 → page < 127
     page_less page n class real is last = let some = (IsRow-of class real).some_pages in omega arith
 
 -- the sums are the numbers of the root's census

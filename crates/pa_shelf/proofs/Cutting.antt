@@ -56,7 +56,7 @@ more_cut v l x y t r s b all y_is =
     ∙ (ap (λ n. n - x.made) (more_is x s u.is)
     ∙ (ap (λ n. more_slots s - n) (made_is v l x t r s b) ∙ sym (ap (λ xs. count_cut xs s) u.none)))
 
--- so these are they
+-- the new slots from `first` on, `count` of them
 abbrev pub new_of : Title → ℕ → NewSlots
 new_of first count = record { first = first; count = count }
 

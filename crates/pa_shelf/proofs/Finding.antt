@@ -23,7 +23,7 @@ use Rattle.pa_shelf.specs.Shelves.{ShelfParts, RecordsRoot, IsBackAt}
 use Rattle.pa_shelf.proofs.Oldest.{state_at}
 
 -- a class with several slots has spans of at most four pages
-few_pages : (c : ℕ) → c < 59 → (pages_of c ≤ 4) ⊎ (slots_of c ≡ 1)
+few_pages : (c : ℕ) → c < 170 → (pages_of c ≤ 4) ⊎ (slots_of c ≡ 1)
 few_pages c real =
     let f = FollowsRule-of c real in
     elim (cases_lt 16384 (slot_of c)) [

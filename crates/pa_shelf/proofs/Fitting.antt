@@ -8,11 +8,11 @@ use Rattle.pa_record.proofs.SpanSteps.{pages_most}
 pub record AreSmall (class committed provisioned : ℕ) : Type 0 where
   pub some : 0 < slot_of class
   pub few : slots_of class ≤ 1024
-  pub product : slot_of class * (provisioned + 1) ≤ 917504
+  pub product : slot_of class * (provisioned + 1) ≤ 983040
   pub before : slot_of class * provisioned ≤ slot_of class * slots_of class
-  pub pages : max (committed + 1) ((slot_of class * (provisioned + 1) + 4095) / 4096) ≤ 225
+  pub pages : max (committed + 1) ((slot_of class * (provisioned + 1) + 4095) / 4096) ≤ 241
 
-pub are_small : (class committed provisioned : ℕ) → class < 59 → committed ≤ 224 → provisioned < slots_of class → AreSmall class committed provisioned
+pub are_small : (class committed provisioned : ℕ) → class < 170 → committed ≤ 240 → provisioned < slots_of class → AreSmall class committed provisioned
 are_small class committed provisioned real low below =
     let row = IsRow-of class real in
     let least = row.least_slot in let inside = row.inside in let pages = row.few_pages in

@@ -43,7 +43,7 @@ page_numbers number page least most = (omega arith, omega arith, omega arith, om
 same_numbers : (a b p q : ℕ) → 1 ≤ p → p ≤ 126 → 1 ≤ q → q ≤ 127 → 2097152 * a + 16384 * p ≡ 2097152 * b + 16384 * q → a ≡ b
 same_numbers a b p q least most first last e = omega arith
 
-pub is_fresh : (v : View) (l : ShelfParts) (r : Root) (class : ℕ) (a : SuperPage) → IsSound r → ShowsRoot v l r → current r ≡ Some a → class < 59 →
+pub is_fresh : (v : View) (l : ShelfParts) (r : Root) (class : ℕ) (a : SuperPage) → IsSound r → ShowsRoot v l r → current r ≡ Some a → class < 170 →
     r.page + pages_of class ≤ 127 → IsFresh v l r class (page_place a.number r.page)
 is_fresh v l r class a sound shown now real room =
     let k = shown.kept in

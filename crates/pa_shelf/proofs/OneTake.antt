@@ -21,7 +21,7 @@ pub record HasSlot (f : Found) : Type 0 where
   pub among : Contains f.root.spans f.span
   pub less : f.span.allocated < slots_of f.span.class
 
-in_new : (class : ℕ) (r : Root) (o : Option SuperPage) (f : Found) → IsSound r → class < 59 → current r ≡ o → at_page class r o ≡ Some f → HasSlot f
+in_new : (class : ℕ) (r : Root) (o : Option SuperPage) (f : Found) → IsSound r → class < 170 → current r ≡ o → at_page class r o ≡ Some f → HasSlot f
 in_new class r None f sound real now e = absurd (not_some f e)
 in_new class r (Some a) f sound real now e = elim (cases_Bool (nat_le (r.page + pages_of class) 127)) [
   | inl fits ↦
@@ -39,14 +39,14 @@ in_new class r (Some a) f sound real now e = elim (cases_Bool (nat_le (r.page + 
       absurd (not_some f (sym (ap (λ (b : Bool). if b then Some g else None) full) ∙ e))
 ]
 
-in_found : (class : ℕ) (r : Root) (o : Option Span) (f : Found) → IsSound r → class < 59 → listed class r.spans ≡ o → found_or_new class r o ≡ Some f → HasSlot f
+in_found : (class : ℕ) (r : Root) (o : Option Span) (f : Found) → IsSound r → class < 170 → listed class r.spans ≡ o → found_or_new class r o ≡ Some f → HasSlot f
 in_found class r None f sound real is e = in_new class r (current r) f sound real refl e
 in_found class r (Some s) f sound real is e =
     let u = listed_is class r.spans s is in
     let g : Found = record { span = s; root = r } in
     subst HasSlot (of_some g f e) (record { sound = sound; among = u.among; less = usable_less s (sound.spans s u.among) u.left })
 
-pub found_ready : (class : ℕ) (r : Root) (f : Found) → IsSound r → class < 59 → span_for class r ≡ Some f → HasSlot f
+pub found_ready : (class : ℕ) (r : Root) (f : Found) → IsSound r → class < 170 → span_for class r ≡ Some f → HasSlot f
 found_ready class r f sound real is = in_found class r (listed class r.spans) f sound real refl is
 
 -- a slot is taken from the span that was found, at its start

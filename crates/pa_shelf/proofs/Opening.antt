@@ -6,7 +6,7 @@ use Rattle.std.proofs.lemmas.List.Elements.{Contains-push_cases, Contains-push}
 use Rattle.pa_lists.proofs.Elements.{in_front, in_one}
 use Rattle.pa_lists.proofs.Members.{first_in}
 use Rattle.pa_lists.proofs.Pairs.{pairs_push}
-use Rattle.pa_layout.specs.Limits.{most_supers}
+use Rattle.pa_layout.specs.Limits.{region_supers}
 use Rattle.pa_layout.specs.Pages.{super_page_at, page_at, page_place}
 use Rattle.pa_record.specs.declared.taken.SuperPage.{SuperPage}
 use Rattle.pa_record.specs.Root.{Root, opened}
@@ -108,7 +108,7 @@ payload_cases supers at u payload =
     ]
 
 -- what the records keep then
-pub opened_kept : (v w : View) (l : ShelfParts) (r : Root) (at : SuperPage) → RecordsRoot v l r → at.number < most_supers → IsNewNumber at.number l.supers →
+pub opened_kept : (v w : View) (l : ShelfParts) (r : Root) (at : SuperPage) → RecordsRoot v l r → at.number < region_supers → IsNewNumber at.number l.supers →
     Rerecorded (at ∷ []) v w → HasRawRecords v at.number → AreBlankBelow w.words at.number 127 →
     RecordsRoot w (with_super at l) (opened at.number at.born r)
 opened_kept v w l r at k low new wrote raw blank =
@@ -172,7 +172,7 @@ opened_kept v w l r at k low new wrote raw blank =
     }
 
 -- the root is shown with the super page
-pub opened_shown : (v w : View) (l : ShelfParts) (r : Root) (at : SuperPage) → IsAware v → IsSound r → ShowsRoot v l r → at.number < most_supers →
+pub opened_shown : (v w : View) (l : ShelfParts) (r : Root) (at : SuperPage) → IsAware v → IsSound r → ShowsRoot v l r → at.number < region_supers →
     IsNewNumber at.number l.supers →
     Rerecorded (at ∷ []) v w → HasRawRecords v at.number → AreBlankBelow w.words at.number 127 →
     ShowsRoot w (with_super at l) (opened at.number at.born r)

@@ -85,7 +85,7 @@ record_more x y s at here u y_is =
     ∙ ap (λ n. record (record_with (provisioned_more s) 0 0) { head = n }) (sym (head_is s (more_slots s - s.provisioned) some))))
 
 -- a slot that is pushed, and one that is in a list, don't start in one word
-pub start_whole : (v : View) (l : ShelfParts) (r : Root) (s : Span) (n : ℕ) → ShowsRoot v l r → Contains r.spans s → s.class < 59 →
+pub start_whole : (v : View) (l : ShelfParts) (r : Root) (s : Span) (n : ℕ) → ShowsRoot v l r → Contains r.spans s → s.class < 170 →
     (title_at s n).start % 8 ≡ 0
 start_whole v l r s n shown among real =
     let first = (shown.kept.stored.had s among).payload.aligned in
@@ -97,7 +97,7 @@ same_start : (a b : ℕ) → a % 8 ≡ 0 → b % 8 ≡ 0 → a / 8 ≡ b / 8 →
 same_start a b p q e = omega arith
 
 pub never_listed : (v : View) (l : ShelfParts) (r : Root) (s z : Span) (n m : ℕ) → IsAware v → ShowsRoot v l r →
-    s.class < 59 → z.class < 59 → Contains r.spans s → Contains r.spans z →
+    s.class < 170 → z.class < 170 → Contains r.spans s → Contains r.spans z →
     0 < free_of v (title_at s n) → 0 < free_of v (title_at z m) → (title_at s n).start / 8 ≡ (title_at z m).start / 8 → title_at s n ≡ title_at z m
 never_listed v l r s z n m aware shown real real' among member free free' e =
     let a = start_whole v l r s n shown among real in
@@ -121,7 +121,7 @@ pushed_in s from count t inside =
     let (low, high) = numbers_in from count n among in
     (n, low, high, is)
 
-pub push_keeps : (v w : View) (l : ShelfParts) (r : Root) (s : Span) (from count : ℕ) → ShowsRoot v l r → s.class < 59 → IsPushed v w l s from count →
+pub push_keeps : (v w : View) (l : ShelfParts) (r : Root) (s : Span) (from count : ℕ) → ShowsRoot v l r → s.class < 170 → IsPushed v w l s from count →
     KeepsRecords l.supers v w
 push_keeps v w l r s from count shown real p = record {
   words = λ u q payload low high. p.beside q (λ t inside same.
@@ -134,7 +134,7 @@ push_keeps v w l r s from count shown real p = record {
 }
 
 pub push_chains : (v w : View) (l : ShelfParts) (r : Root) (s : Span) (from count : ℕ) → ShowsRoot v l r → Contains r.spans s →
-    ((z : Span) → Contains r.spans z → z.class < 59) → ((z : Span) → Contains r.spans z → (m : ℕ) → Contains z.free m → m < z.provisioned) →
+    ((z : Span) → Contains r.spans z → z.class < 170) → ((z : Span) → Contains r.spans z → (m : ℕ) → Contains z.free m → m < z.provisioned) →
     ((z : Span) → Contains r.spans z → (n m : ℕ) → n < slots_of s.class → Contains z.free m → title_at s n ≡ title_at z m → (s ≡ z) × (n ≡ m)) →
     IsPushed v w l s from count → KeepsChains v w r.spans
 push_chains v w l r s from count shown among real listed one p z member y inside =
@@ -184,7 +184,7 @@ ready_more v w l x y t r s b all aware y_is relinked beside chain =
       held = λ n low high. b.held u.none n low (omega arith);
       beside = subst (λ ts. SameBeside ts v.words w.words) pushed beside;
     } in
-    let real : (z : Span) → Contains r.spans z → z.class < 59 = λ z member. (take.sound.spans z member).counted.class in
+    let real : (z : Span) → Contains r.spans z → z.class < 170 = λ z member. (take.sound.spans z member).counted.class in
     let keeps = push_keeps v w l r s s.provisioned count shown c.class p in
     let chains = push_chains v w l r s s.provisioned count shown take.among real (λ z member. (take.sound.spans z member).counted.numbers)
     (λ z member n m below numbered same.
@@ -215,7 +215,7 @@ ready_more v w l x y t r s b all aware y_is relinked beside chain =
 
 -- the numbers of the record fit
 pub record HasRoomFor (x : SpanRecord) (t : Title) : Type 0 where
-  pub committed : x.committed ≤ 224
+  pub committed : x.committed ≤ 240
   pub more : x.provisioned < slots_of x.class
   pub inside : t.start + slot_of x.class * slots_of x.class < 2097152 * 2048
 

@@ -82,7 +82,7 @@ by_head spans has r class h a list sound st some (inr (member, most)) =
     no_state state.Decommitted t list is = ap (λ b. same_state b state.None) is
     no_state state.Full t none is = absurd none
 
-pub top_is : (v : View) (l : ShelfParts) (r : Root) (class : ℕ) (a : State) → class < 59 → HasList a → IsSound r → RecordsRoot v l r →
+pub top_is : (v : View) (l : ShelfParts) (r : Root) (class : ℕ) (a : State) → class < 170 → HasList a → IsSound r → RecordsRoot v l r →
     top_of l.lists class a ≡ start_of (latest (is_of class a) r.spans)
 top_is v l r class a real list sound k =
     by_head (spans_in v.words) (HasSpanAt v l.supers) r class (list_head l.lists class a) a list sound k.stored k.stand.some
@@ -93,7 +93,7 @@ first_start None p = refl
 first_start (Some s) p = refl
 
 -- the three heads, one after the other
-pub listed_is : (v : View) (l : ShelfParts) (r : Root) (class : ℕ) (a b c : Option ℕ) → class < 59 → IsSound r → RecordsRoot v l r →
+pub listed_is : (v : View) (l : ShelfParts) (r : Root) (class : ℕ) (a b c : Option ℕ) → class < 170 → IsSound r → RecordsRoot v l r →
     a ≡ top_of l.lists class state.Active → b ≡ top_of l.lists class state.Empty → c ≡ top_of l.lists class state.Decommitted →
     first_some a (first_some b c) ≡ start_of (listed class r.spans)
 listed_is v l r class a b c real sound k first second third =

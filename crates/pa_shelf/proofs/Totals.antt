@@ -125,7 +125,7 @@ past_span v number page a b c had some last used long first second =
     omega arith)
 
 -- the bytes of one span's slots
-pub bytes_low : (size kept : ℕ) → size ≤ 917504 → kept ≤ 1024 → size * kept ≤ 939524096
+pub bytes_low : (size kept : ℕ) → size ≤ 983040 → kept ≤ 1024 → size * kept ≤ 1006632960
 bytes_low size kept small few = let most = mul-le-mul_right kept small in omega arith
 
 pub one_low : (a : State) (x : SpanRecord) → one_if a x ≤ 1
@@ -179,7 +179,7 @@ span_pages v number page n y had first last is used long =
     omega arith
 
 pub step_span : (v : View) (number page n : ℕ) (y : SpanRecord) (a b c : Sums) → HasPagesOf v number → 1 ≤ page → page ≤ 126 →
-    y ≡ spans_in v.words (page_place number page) → IsInUse (spans_in v.words (page_place number page)) → y.class < 59 → n ≡ pages_of y.class →
+    y ≡ spans_in v.words (page_place number page) → IsInUse (spans_in v.words (page_place number page)) → y.class < 170 → n ≡ pages_of y.class →
     AreAdded (λ f. sum_of_pages f v.words number (page - 1)) a b → AreAdded (λ f. f y) b c → IsPast v number page n y a c
 step_span v number page n y a b c had first last is used real long before more =
     let x = spans_in v.words (page_place number page) in

@@ -16,7 +16,7 @@ use Rattle.pa_shelf.specs.declared.counts.Sums.{Sums}
 
 -- a record's numbers are those of a span
 abbrev pub IsSmall : SpanRecord → Type 0
-IsSmall x = (x.allocated ≤ x.made) × (x.made ≤ 1024) × (x.committed ≤ 224)
+IsSmall x = (x.allocated ≤ x.made) × (x.made ≤ 1024) × (x.committed ≤ 240)
 
 -- The payload pages of a super page have records. After a page that is in use, up to the end of its span, no page is in use.
 pub record HasPagesOf (v : View) (number : ℕ) : Type 0 where
@@ -76,7 +76,7 @@ pub record AreAdded (total : (SpanRecord → ℕ) → ℕ) (before after : Sums)
 -- sums over n records are no greater
 pub record AreSumsOf (n : ℕ) (sums : Sums) : Type 0 where
   pub slots : sums.slots ≤ 2 ^ 32 * n
-  pub bytes : sums.bytes ≤ 2 ^ 52 * n
+  pub bytes : sums.bytes ≤ 2 ^ 48 * n
   pub pages : sums.pages ≤ 2 ^ 16 * n
   pub full : sums.full ≤ n
   pub active : sums.active ≤ n

@@ -1,6 +1,6 @@
 //! What a root has, by its records.
 ghost use Rattle.std.specs.Prelude.{◌≡◌, ℕ, ◌+◌, ◌<◌, ◌≤◌, length, All, Contains};
-ghost use Rattle.pa_layout.specs.Limits.{most_supers};
+ghost use Rattle.pa_layout.specs.Limits.{region_supers};
 ghost use Rattle.pa_record.specs.declared.taken.SuperPage.{SuperPage as Super};
 ghost use Rattle.pa_record.specs.Root.{Root};
 ghost use Rattle.pa_record.specs.Sound.{IsSound};
@@ -76,12 +76,12 @@ fn none_counted() -> Sums
 // The spans of these super pages are counted, page by page.
 fn sums_of(region: &Region, own: &mut Seat, supers: &[SuperPage]) -> Sums
     requires region { own.old.region ≡ region.now }
-    requires few { length supers.now ≤ most_supers }
-    requires numbers { All (λ (at : Super). at.number < most_supers) supers.now }
+    requires few { length supers.now ≤ region_supers }
+    requires numbers { All (λ (at : Super). at.number < region_supers) supers.now }
     requires pages { (at : Super) → Contains supers.now at → HasPagesOf own.old.view at.number }
     ensures seat { own.new ≡ own.old }
     ensures added { AreAdded (λ f. sum_of_supers f own.old.view.words supers.now) no_sums result }
-    ensures below { AreSumsOf 2016 result }
+    ensures below { AreSumsOf 8064 result }
 {
     let mut sums = none_counted();
     for at in supers {
@@ -93,9 +93,9 @@ fn sums_of(region: &Region, own: &mut Seat, supers: &[SuperPage]) -> Sums
 // With the spans of a super page. After a span's record that of the page after it is next.
 fn with_super_page(region: &Region, own: &mut Seat, number: u32, sums: Sums) -> Sums
     requires region { own.old.region ≡ region.now }
-    requires number { number < most_supers }
+    requires number { number < region_supers }
     requires pages { HasPagesOf own.old.view number }
-    requires below { (n : ℕ) × (n ≤ 1890) × AreSumsOf n sums }
+    requires below { (n : ℕ) × (n ≤ 7938) × AreSumsOf n sums }
     ensures seat { own.new ≡ own.old }
     ensures added { AreAdded (λ f. sum_of_pages f own.old.view.words number 126) sums result }
     ensures below { (n : ℕ) → AreSumsOf n sums → AreSumsOf (n + 126) result }
@@ -118,7 +118,7 @@ fn with_super_page(region: &Region, own: &mut Seat, number: u32, sums: Sums) -> 
 // With one span.
 fn with_span(sums: Sums, span: &Span) -> Sums
     requires small { IsSmall span.now }
-    requires below { (n : ℕ) × (n ≤ 2016) × AreSumsOf n sums }
+    requires below { (n : ℕ) × (n ≤ 8064) × AreSumsOf n sums }
     ensures added { AreAdded (λ f. f span.now) sums result }
     ensures below { (n : ℕ) → AreSumsOf n sums → AreSumsOf (n + 1) result }
 {

@@ -1,6 +1,6 @@
 //! Direct maps.
 ghost use Rattle.std.specs.Prelude.{◌≡◌, ◌<◌, ◌++◌, ◌∷◌, [], ◌==◌, ◌&&◌, length, position};
-ghost use Rattle.pa_layout.specs.Limits.{most_supers};
+ghost use Rattle.pa_layout.specs.Limits.{region_supers};
 ghost use Rattle.pa_record.specs.Root.{Root, mapped, unmapped, without_map};
 ghost use Rattle.pa_region.specs.declared.view.View.{View};
 ghost use Rattle.pa_shelf.specs.Shelves.{ShowsRoot};
@@ -11,7 +11,7 @@ use pa_slot::{SlotName, Title};
 impl Shelf {
     /// A direct map joins, after the others. It allocates nothing.
     pub fn map(&mut self, title: Title)
-        requires few { length self.old.maps < most_supers }
+        requires few { length self.old.maps < region_supers }
         ensures parts { self.new ≡ record self.old { maps = self.old.maps ++ title ∷ [] } }
         ensures shown { (v : View) (r : Root) → ShowsRoot v self.old r → ShowsRoot v self.new (mapped title r) }
     {

@@ -1,6 +1,6 @@
 //! Super pages that join.
 ghost use Rattle.std.specs.Prelude.{◌≡◌, ◌<◌, ◌≤◌, [], ◌∷◌, length};
-ghost use Rattle.pa_layout.specs.Limits.{most_supers};
+ghost use Rattle.pa_layout.specs.Limits.{region_supers};
 ghost use Rattle.pa_record.specs.Root.{Root, opened};
 ghost use Rattle.pa_record.specs.Sound.{IsSound};
 ghost use Rattle.pa_records.specs.Words.{unused_span};
@@ -22,10 +22,10 @@ impl Shelf {
     /// are left in the old one stay unused. It allocates nothing.
     pub fn open(&mut self, region: &Region, own: &mut Seat, number: u32, born: u32)
         requires region { own.old.region ≡ region.now }
-        requires number { number < most_supers }
+        requires number { number < region_supers }
         requires raw { HasRawRecords own.old.view number }
         requires new { IsNewNumber number self.old.supers }
-        requires few { length self.old.supers < most_supers }
+        requires few { length self.old.supers < region_supers }
         ensures region { own.new.region ≡ own.old.region }
         ensures view { Rerecorded (record { number = number; born = born } ∷ []) own.old.view own.new.view }
         ensures shown { (r : Root) → IsSound r → ShowsRoot own.old.view self.old r →
@@ -42,7 +42,7 @@ impl Shelf {
 // Writes the record of no span for each payload page of the super page.
 fn clear(region: &Region, own: &mut Seat, at: SuperPage)
     requires region { own.old.region ≡ region.now }
-    requires number { at.number < most_supers }
+    requires number { at.number < region_supers }
     requires raw { HasRawRecords own.old.view at.number }
     ensures region { own.new.region ≡ own.old.region }
     ensures view { Rerecorded (at ∷ []) own.old.view own.new.view }

@@ -1,6 +1,6 @@
 ghost use Rattle.std.specs.Prelude.{◌≡◌, ◌≢◌, ◌+◌, ◌^◌, ◌<◌, ◌≤◌, All, Contains, IfOk, length};
 ghost use Rattle.pa_buckets.specs.declared.spans.State.TheVariants as state;
-ghost use Rattle.pa_layout.specs.Limits.{most_supers};
+ghost use Rattle.pa_layout.specs.Limits.{region_supers};
 ghost use Rattle.pa_record.specs.declared.taken.SuperPage.{SuperPage as Super};
 ghost use Rattle.pa_record.specs.Spans.{Span as RootSpan};
 ghost use Rattle.pa_record.specs.Root.{Root, entered, oldest_decommitted, purged};
@@ -22,7 +22,7 @@ use std::alloc::Global;
 use std::marker::Model;
 
 // The most super pages of a region, and so the most direct maps.
-const SUPERS: usize = 16;
+const SUPERS: usize = 64;
 
 /// The super pages of a root, its direct maps and the heads of its lists of spans. The spans' records are in the metadata
 /// pages, and their free slots in chains: the root's seat has both. Contracts see it as the record `ShelfParts`. Which root it
@@ -38,7 +38,7 @@ pub struct Shelf {
 impl Model for Shelf {
     ghost use Rattle.std.specs.Prelude.{◌≡◌, ◌<◌, ◌≤◌, All, length};
     ghost use Rattle.std.specs.Vec.{vec_capacity};
-    ghost use Rattle.pa_layout.specs.Limits.{most_supers};
+    ghost use Rattle.pa_layout.specs.Limits.{region_supers};
     ghost use Rattle.pa_record.specs.declared.taken.SuperPage.{SuperPage};
     ghost use Rattle.pa_shelf.specs.Shelves.{ShelfParts};
 
@@ -46,9 +46,9 @@ impl Model for Shelf {
 
     ghost view = { λ s. record { supers = s.supers.items; maps = s.maps.items; page = s.page; lists = s.lists } };
 
-    ghost invariant = { λ s. (vec_capacity s.supers ≡ most_supers) × (length s.supers.items ≤ most_supers)
-        × All (λ (a : SuperPage). a.number < most_supers) s.supers.items
-        × (vec_capacity s.maps ≡ most_supers) × (length s.maps.items ≤ most_supers) };
+    ghost invariant = { λ s. (vec_capacity s.supers ≡ region_supers) × (length s.supers.items ≤ region_supers)
+        × All (λ (a : SuperPage). a.number < region_supers) s.supers.items
+        × (vec_capacity s.maps ≡ region_supers) × (length s.maps.items ≤ region_supers) };
 }
 
 impl Shelf {
@@ -68,7 +68,7 @@ impl Shelf {
 
     /// Each of its super pages lies in a region. It costs nothing: it hands on what the type keeps.
     pub fn placed(&self)
-        ensures { All (λ (a : Super). a.number < most_supers) self.now.supers }
+        ensures { All (λ (a : Super). a.number < region_supers) self.now.supers }
     {
         let _ = &self.supers;
     }

@@ -155,7 +155,7 @@ pub(crate) fn has_list(span: &Span) -> bool
 
 // The record of the span that starts there, once more of its slots were provisioned.
 pub(crate) fn with_more(span: Span, at: u32) -> Span
-    requires committed { span.committed ≤ 224 }
+    requires committed { span.committed ≤ 240 }
     requires more { span.provisioned < slots_of span.class }
     requires inside { at + slot_of span.class * slots_of span.class < 2 ^ 32 }
     ensures { result ≡ with_more at span }

@@ -1,5 +1,5 @@
 -- The arithmetic of the count word and of places.
-use Rattle.std.proofs.Common.{◌≡◌, ℕ, ◌+◌, ◌-◌, ◌*◌, ◌/◌, ◌%◌, ◌^◌, ◌<◌, ◌≤◌, arith}
+use Rattle.std.proofs.Common.{◌≡◌, ℕ, ◌+◌, ◌<◌, ◌≤◌, arith}
 use Rattle.pa_slot.specs.declared.word.Step.{Step}
 use Rattle.pa_slot.specs.declared.word.Step.TheVariants.{Issue, Copy, Reset, Free, Write}
 use Rattle.pa_slot.specs.Count.{CanStep, stepped, refs_of, held_of}

@@ -1,5 +1,5 @@
 -- Links and linked lists: a link leads back to its slot, and what a list of links is after one of them changed.
-use Rattle.std.proofs.Common.{◌≡◌, ℕ, zero, suc, ◌+◌, ◌*◌, ◌/◌, ◌%◌, ◌^◌, ◌<◌, List, [], ◌∷◌, ◌++◌, Option, Some, None, get_or, length, refl, sym, ◌∙◌, ap, subst, arith, lit<}
+use Rattle.std.proofs.Common.{◌≡◌, ℕ, zero, suc, ◌+◌, ◌*◌, ◌/◌, ◌%◌, ◌^◌, ◌<◌, List, [], ◌∷◌, ◌++◌, get_or, refl, ◌∙◌, ap, arith}
 use Rattle.std.specs.Prelude.{All}
 use Rattle.std.specs.Int.{swap_bytes, w64, byte_at, bytes_low_first, to_le_bytes, to_be_bytes, from_be_bytes, from_le_bytes}
 use Rattle.std.proofs.lemmas.Nat.{be_bytes_8, from_le_bytes-to_le_bytes_8}

@@ -1,5 +1,5 @@
 -- Marks in which each step of a slot finds the slot's word so far: they have one run for each slot, which ends there.
-use Rattle.std.proofs.Common.{◌≡◌, ℕ, ◌+◌, ◌-◌, ◌<◌, ◌⊎◌, inl, inr, List, [], ◌∷◌, ◌++◌, true, false, Option, Some, None, IsSome, Contains, refl, sym, ap, ◌∙◌, subst, arith, rules, add-one}
+use Rattle.std.proofs.Common.{◌≡◌, ℕ, ◌+◌, ◌<◌, ◌⊎◌, inl, inr, List, [], ◌∷◌, ◌++◌, true, false, Option, Some, None, IsSome, Contains, refl, sym, ap, ◌∙◌, subst, arith, rules, add-one}
 use Rattle.std.proofs.lemmas.Bool.{cases_eq, eq-eqb, ne_eqb, eqb-true, and_parts}
 use Rattle.std.proofs.lemmas.List.Elements.{Contains-append_left, Contains-push, Contains-push_cases}
 use Rattle.pa_slot.specs.declared.word.SlotName.{SlotName}
@@ -226,7 +226,7 @@ runs_end ms word s h m p f c =
     let made : IsSome m.step = subst P (sym f.step) (some_is p) in
     omega (arith, h.counted m f.among made, ap number_of f.found, ap (λ x. number_of (word x)) f.slot)
 
--- so each slot has one run, which ends at the slot's word
+-- each slot has one run, which ends at the slot's word
 pub slots_of_runs : (ms : List Mark) (word : SlotName → ℕ) → HasRuns ms word → Slots ms
 slots_of_runs ms word h s =
     let k = h.path s in (

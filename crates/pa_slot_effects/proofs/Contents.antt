@@ -149,7 +149,7 @@ written_late word x s n value found h =
     let e : h.0.found.0 ≡ word h.0.slot = found m (written_mark x s n value h) in
     ap (λ t. number_of (word t)) (sym h.4) ∙ ap number_of (sym e) ∙ h.5
 
--- so it changes nothing up to the slots' numbers
+-- if k isn't above the number of s, one more record that found its slot's word makes or writes s at no number below k
 quiet_upto : (ps : List Played) (x : Played) (word : SlotName → ℕ) (s : SlotName) (k : ℕ) → HasFound word x → k ≤ number_of (word s)
     → IsQuiet ps (ps ++ x ∷ []) s k k
 quiet_upto ps x word s k found le =

@@ -64,7 +64,7 @@ one_step : (s : SlotName) (k : ℕ) (m : Mark) → m.line < k → m.slot ≡ s �
 one_step s k m lt at made =
     one_is s k m true (and_from (same_slot m.slot s) _ (same_slot_yes m.slot s at) (and_from (ltb m.line k) (is_some m.step) (lt-ltb m.line k lt) made))
 
--- and one more if a step stands between
+-- if a step of slot s is on line l or later and before line k, more steps of s come before line k than before line l
 steps_past : (s : SlotName) (l k : ℕ) (ms : List Mark) (m : Mark) → l ≤ m.line → m.line < k → Contains ms m → m.slot ≡ s → is_some m.step ≡ true
     → steps_before s l ms + 1 ≤ steps_before s k ms
 steps_past s l k [] m le lt c at made = absurd (omega (arith, c.1))

@@ -75,7 +75,7 @@ at_held held cell h = rw (eq-eqb cell cell refl) refl
 pub at_held_other : (held : ℕ → Held) (cell : ℕ) (h : Held) (k : ℕ) → (k ≡ cell → ⊥) → with_held held cell h k ≡ held k
 at_held_other held cell h k ne = rw (ne_eqb k cell ne) refl
 
--- and if one cell is
+-- when one cell is set, the sum over registers and cells loses the cell's old part and gains its new one
 pub amount_cell : (threads : ℕ) (f : Reg → ℕ) (regs : AllRegs) (held : ℕ → Held) (cell : ℕ) (h : Held) → cell < 64
     → amount threads f regs (with_held held cell h) + f (reg_of (held cell)) ≡ amount threads f regs held + f (reg_of h)
 amount_cell threads f regs held cell h lt =

@@ -62,7 +62,7 @@ module _ (word next usable later : SlotName → ℕ) (cells after : ℕ → List
   row_like (ops.Swap cell reg) regs answer then' used h = (h.0, h.1, h.2, like.exchanges cell h.0 h.1 h.3, h.4, h.5)
   row_like ops.Purge regs answer then' used h = h
 
-  -- the same rows if more was stepped on, made and exchanged
+  -- rows stay rows by longer histories, with more steps, more slots made and more exchanges
   pub rows_on : (all : AllRegs) (ps : List Played) (end : AllRegs) → RowsNamed word usable cells all ps end → RowsNamed next later after all ps end
   rows_on all [] end h = h
   rows_on all (x ∷ xs) end h = (
@@ -117,7 +117,7 @@ usable_here : (usable : SlotName → ℕ) (a : Answer) (seen : Seen) (n : ℕ) (
 usable_here usable a seen n s other e at h =
     ap (λ x. usable_or (made_of x) s other) e ∙ rw (same_slot_yes seen.slot s at) (h ∙ ap usable at)
 
--- so of a slot that a record made as many bytes are usable as it has
+-- if each record that makes a slot reports its usable bytes, usable_in has these for each slot that a record made
 pub usable_made : (usable : SlotName → ℕ) (ps : List Played) (x : Played) (seen : Seen) (n : ℕ) (s : SlotName) → AreSized usable ps
     → Contains ps x → x.answer ≡ Made seen n → seen.slot ≡ s → usable_in ps s ≡ usable s
 usable_made usable [] x seen n s right c e at = absurd (omega (arith, c.1))

@@ -38,7 +38,7 @@ first_made ps s (v ∷ vs) w h up =
     let a = issue_made x.0.line x.0.op x.0.answer m x.2 (h.2.step ∙ ap (λ (y : Step). Some y) issue) in
     record { maker = x.0; seen = a.0; usable = a.1; among = x.1; made = a.2; slot = a.3 ∙ h.2.slot }
 
--- so a slot that was stepped on was made
+-- a slot whose word isn't 0 was made by one of the records
 pub used_made : (ps : List Played) (word : SlotName → ℕ) (s : SlotName) → HasRuns (marks_of ps) word → 0 < word s → WasMade ps s
 used_made ps word s runs up =
     let k = runs.path s in

@@ -98,7 +98,7 @@ module _ (usable : ℕ → ℕ) (cells : ℕ → List CellEntry) (ps : List Play
                 ]
           ]
 
-      -- and if one of the read's phase or before left poison, they leave poison
+      -- if a moment of the read's phase or before left poison and none fills the slot after it, such moments leave poison last
       ends_spoiled : (f g : List Moment) (w : Moment) → us ≡ f ++ w ∷ g → w.x.phase ≤ x.phase → leaves w ≡ Some poison → NoneFills (f ++ w ∷ []) →
           last_of 0 (filter_map soon us) ≡ poison
       ends_spoiled f g w cut low left none =

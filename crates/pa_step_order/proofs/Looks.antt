@@ -111,7 +111,7 @@ no_touch : (part : Part) → (part ≡ Looking → ⊥) → (part ≡ Counting �
 no_touch part looks counts (inl is) = looks is
 no_touch part looks counts (inr is) = counts is
 
--- so it is no touch
+-- the part by which an entry came into a list is no touch, neither a look nor a counted step
 entered_no_touch : (roots : Journals) (q : ℕ) (numbers : List ℕ) (part : Part) → entered_part roots q numbers ≡ Some part → IsTouch part → ⊥
 entered_no_touch =
     entered_is (λ p. IsTouch p → ⊥) (no_touch Asking (λ e. cc) (λ e. cc)) (no_touch Swapping (λ e. cc) (λ e. cc)) (λ q act. no_touch (Entering q act) (λ e. cc) (λ e. cc))

@@ -103,7 +103,7 @@ module _ (ps : List Played) (ms : List Moment) (marked : AreMarked ps ms) (run :
         let up = run.phases x y (mark_at x.line seen None) (mark_made y.line d) reader there less (read_marked x seen place value gives) (step_mark y.line y.op y.answer d is) (sym slot) in
         omega arith
 
-    -- and one of an earlier phase left no greater one
+    -- a step of an earlier phase than the read's left a number no greater than the one that the read found
     sooner_step : (y : Played) (d : StepMade) → Contains ps y → step_by y ≡ Some d → d.slot ≡ here → y.phase < x.phase → number_of d.found + 1 ≤ number
     sooner_step y d there is slot less =
         let up = run.phases y x (mark_made y.line d) (mark_at x.line seen None) there reader less (step_mark y.line y.op y.answer d is) (read_marked x seen place value gives) slot in

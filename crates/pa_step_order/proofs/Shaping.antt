@@ -76,7 +76,7 @@ step_signed t step found value looks (Added word bytes ∷ es) none are touched 
 step_signed t step found value looks (Entered keeper made ∷ es) none are touched = absurd (enters_its keeper made es none)
 step_signed t step found value looks (Uncut u ∷ es) none are touched = step_signed t step found value looks es none are touched
 
--- so has a read
+-- a look with a read right after it has no sign, if nothing after them touches a slot and nothing is entered
 read_signed : (t u : Title) (found place value : ℕ) (since : _) (owned unclean : _) (es rest : List Entry) → EntersNone es →
     es ≡ Looked t found ∷ Read u place value since owned unclean ∷ rest → touches rest ≡ [] → filter_map sign_of es ≡ []
 read_signed t u found place value since owned unclean es rest none pair quiet =

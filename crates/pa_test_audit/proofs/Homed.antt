@@ -12,6 +12,7 @@ use Rattle.pa_rules.specs.Caches.{IsOfClass, IsDirect}
 use Rattle.pa_audit_records.specs.Keys.{name_key}
 use Rattle.pa_audit_holders.specs.declared.homes.Home.{Home}
 use Rattle.pa_audit_holders.specs.Homes.{AreHomedIn, HasOneHome, home_by}
+use Rattle.pa_test_audit.specs.Sparse.{IsSparse, AreSparseIn}
 
 class_home : (roots : Journals) (at : ℕ → Option Home) (s : SlotName) (p c : ℕ) → ((q : ℕ) → AreHomedIn roots at q) → IsOfClass roots s p c → (len : ℕ) × (at (name_key s) ≡ Some (record { partition = p; class = Some c; bytes = len }))
 class_home roots at s p c h (e, asked, slots, (i, within, is), act, member) =
@@ -21,17 +22,23 @@ map_home : (roots : Journals) (at : ℕ → Option Home) (s : SlotName) (p : ℕ
 map_home roots at s p h (e, asked, len, (i, within, is), act) =
     (len, h p i e s (slice_get-get_or (roots p) i e within ∙ ap Some is) (subst (λ (a : RootAct). Contains (leaves_by a) s) (sym act) (first_in s [])) ∙ ap (λ (a : RootAct). Some (home_by p a)) act)
 
+-- the class of a slot of a journal whose fills are of version 1's
+sparse_class : (roots : Journals) (s : SlotName) (p c : ℕ) → AreSparseIn roots p → IsOfClass roots s p c → c < 59
+sparse_class roots s p c h (e, asked, slots, (i, within, is), act, member) =
+    subst (λ (a : RootAct). IsSparse p a) act (h i e (slice_get-get_or (roots p) i e within ∙ ap Some is))
+
 -- two homes at one key have one partition and one class
 same_home : (at : ℕ → Option Home) (k : ℕ) (a b : Home) → at k ≡ Some a → at k ≡ Some b → (a.partition ≡ b.partition) × (a.class ≡ b.class)
 same_home at k a b x y = let same = of_some a b (sym x ∙ y) in (ap (λ (z : Home). z.partition) same, ap (λ (z : Home). z.class) same)
 
-pub one_home_of : (roots : Journals) (at : ℕ → Option Home) (s : SlotName) → ((q : ℕ) → AreHomedIn roots at q) → HasOneHome roots s
-one_home_of roots at s h = record {
+pub one_home_of : (roots : Journals) (at : ℕ → Option Home) (s : SlotName) → ((q : ℕ) → AreHomedIn roots at q) → ((q : ℕ) → AreSparseIn roots q) → HasOneHome roots s
+one_home_of roots at s h sparse = record {
   class = λ p q c d x y.
       let (len, a) = class_home roots at s p c h x in
       let (size, b) = class_home roots at s q d h y in
       let (part, class) = same_home at (name_key s) (record { partition = p; class = Some c; bytes = len }) (record { partition = q; class = Some d; bytes = size }) a b in
       (part, of_some c d class);
+  real = λ p c x. sparse_class roots s p c (sparse p) x;
   direct = λ p q x y.
       let (len, a) = map_home roots at s p h x in
       let (size, b) = map_home roots at s q h y in
@@ -48,6 +55,12 @@ one_home_of roots at s h = record {
 -- journal by journal
 pub homed_none : (roots : Journals) (at : ℕ → Option Home) (q : ℕ) → roots q ≡ [] → AreHomedIn roots at q
 homed_none roots at q none i e s there member =
+    let within : i < length (roots q) = slice_get_within (roots q) i e there in
+    let long : length (roots q) ≡ 0 = ap length none in
+    absurd (omega (arith, within, long))
+
+pub sparse_none : (roots : Journals) (q : ℕ) → roots q ≡ [] → AreSparseIn roots q
+sparse_none roots q none i e there =
     let within : i < length (roots q) = slice_get_within (roots q) i e there in
     let long : length (roots q) ≡ 0 = ap length none in
     absurd (omega (arith, within, long))

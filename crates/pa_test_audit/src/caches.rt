@@ -7,10 +7,11 @@ ghost use Rattle.pa_rules.specs.Roots.{journal_at};
 ghost use Rattle.pa_audit_records.specs.Keys.{name_key};
 ghost use Rattle.pa_audit_holders.specs.Homes.{AreHomedIn, HasOneHome, home_by};
 ghost use Rattle.pa_audit_holders.specs.Rows.{IsOfThreads};
+ghost use Rattle.pa_test_audit.specs.Sparse.{IsSparse, AreSparseIn};
 
 use pa_audit_holders::{Books, Home, caches_meet, found_home, homes_of};
 use pa_audit_records::{ByKey, Salt};
-use pa_buckets::{Class, slot_size};
+use pa_buckets::{Class, SPARSE_CLASSES, slot_size};
 use pa_dense::{Act, DenseEntry, DenseJournal};
 use pa_record::{Answer, Batch, Journal, Numbered, RootAct, RootEntry, Seen};
 use pa_rules::Played;
@@ -160,7 +161,29 @@ fn is_journal_homed(
     true
 }
 
-// Whether each slot of the journals has one home.
+// Whether the class of the slots that the entry handed out is one of version 1.
+fn is_entry_sparse(partition: u32, entry: &DenseEntry) -> bool
+    ensures { IsTrue result → IsSparse partition entry.now.act }
+{
+    match entry.act() {
+        Act::Fill { class, .. } => class.number() < SPARSE_CLASSES,
+        _ => true,
+    }
+}
+
+fn is_journal_sparse(roots: &[DenseJournal], partition: u32, journal: &DenseJournal) -> bool
+    requires journal { journal_at roots.now partition ≡ journal.now }
+    ensures { IsTrue result → AreSparseIn (journal_at roots.now) partition }
+{
+    for entry in journal.entries() {
+        if !is_entry_sparse(partition, entry) {
+            return false;
+        }
+    }
+    true
+}
+
+// Whether each slot of the journals has one home, of version 1 if it has a class.
 pub(crate) fn are_homed(homes: &ByKey<Home>, roots: &[DenseJournal]) -> bool
     requires { length roots.now < 4294967296 }
     ensures { IsTrue result → (s : Name) → HasOneHome (journal_at roots.now) s }
@@ -168,6 +191,9 @@ pub(crate) fn are_homed(homes: &ByKey<Home>, roots: &[DenseJournal]) -> bool
     let mut partition: u32 = 0;
     for journal in roots {
         if !is_journal_homed(homes, roots, partition, journal) {
+            return false;
+        }
+        if !is_journal_sparse(roots, partition, journal) {
             return false;
         }
         partition += 1;

@@ -60,7 +60,7 @@ fn lines_are_refused(rt: HostRuntime) {
         b"e 2 0 done 00004000.0\n",
         b"e 2 0 word 0000400A.0 0000000000000000 0000000000000000\n",
         b"r 4 0 2 purge\n",
-        b"r 0 0 2 fill 59 0 00004000.0@0\n",
+        b"r 0 0 2 fill 170 0 00004000.0@0\n",
         b"r 0 0 2 give\n",
         b"r 0 0 2 give 00004000.0@18446744073709551616\n",
         b"p 0 2 0 give 1 none\n",

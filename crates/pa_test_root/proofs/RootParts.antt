@@ -67,7 +67,7 @@ pub pool_opens : (supers words : ℕ) → words ≡ 262144 * supers → supers �
 pool_opens supers words long few =
     let has : keeper_of (pool_part words) 4 ≡ 1 = refl in
     record {
-      few = few;
+      few = omega arith;
       raw = λ b below. low_there words b (omega arith);
       keeper = omega arith;
       list = refl;

@@ -32,7 +32,7 @@ lower_digit d lt = agree_at 16 d refl lt
 above_next : (k n : ℕ) → n / 16 ^ suc k ≡ n / 16 ^ k / 16
 above_next k n = ap (λ m. n / m) (pow-suc 16 k) ∙ sym (div-div-eq-div-mul n (16 ^ k) 16)
 
--- the same from below
+-- dividing by 16 before the other digits are dropped leaves the same
 above_first : (k n : ℕ) → n / 16 / 16 ^ k ≡ n / 16 ^ suc k
 above_first k n = div-div-eq-div-mul n 16 (16 ^ k) ∙ ap (λ m. n / m) (sym (pow-succ' 16 k))
 

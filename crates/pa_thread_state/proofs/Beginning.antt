@@ -53,7 +53,7 @@ none_sized n = search rules
 
 -- a list without titles is one
 empty_is : (n : ℕ) → n < 59 → IsCache (record { class = n; titles = [] })
-empty_is n low = record { class = low; sized = none_sized n; different = search rules; few = omega arith }
+empty_is n low = record { class = omega arith; sized = none_sized n; different = search rules; few = omega arith }
 
 small_class : (caches : List CacheList) (k : ℕ) → AreNoLists 236 caches → (slice_index_or caches k no_cache).class < 59
 small_class caches k are = go (nat_lt k 236) refl

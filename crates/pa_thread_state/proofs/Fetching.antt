@@ -5,7 +5,7 @@ use Rattle.std.proofs.lemmas.List.Elements.{All-contains}
 use Rattle.pa_slot.specs.declared.title.Title.{Title}
 use Rattle.pa_buckets.specs.Table.{slot_of}
 use Rattle.pa_buckets.specs.Bands.{fill_of}
-use Rattle.pa_buckets.proofs.Facts.{fill_of-limit, IsRow-of}
+use Rattle.pa_buckets.proofs.Facts.{fill_of-limit, IsRow_1-of}
 use Rattle.pa_layout.specs.Pages.{supers_for}
 use Rattle.pa_record.specs.declared.root.RootAct.{RootAct}
 use Rattle.pa_record.specs.declared.root.RootAct.TheVariants as act
@@ -40,8 +40,8 @@ module _ (line p c want : ℕ) (s : StockValue) (u n : View) (ts : List Title) (
   pub fill_took : Took s u n ts
   fill_took = record { keeps = fill_asking.keeps; has = gives.has; awares = awares; long = long }
 
-  pub fill_made : (t : Title) → Contains ts t → HasSeenMade (listed_slot p c t) (united u n)
-  fill_made t among =
+  pub fill_made : c < 59 → (t : Title) → Contains ts t → HasSeenMade (listed_slot p c t) (united u n)
+  fill_made small t among =
       let a : RootAct = act.Fill c gives.asked (numbered_by n ts) in
       let (m, at) = for_made gives.index s.thread p line gives.asked (Some gives.first) a s.view u gives.enters in
       record {
@@ -51,7 +51,7 @@ module _ (line p c want : ℕ) (s : StockValue) (u n : View) (ts : List Title) (
           root_entry line a,
           still_there gives.index s.thread p _ s.view u (united u n) m at (left_begins u n p awares.3),
           at.says,
-          (gives.asked, numbered_by n ts, refl, named n ts t among, All-contains (λ (x : Title). x.len ≡ slot_of c) ts t gives.long among),
+          (gives.asked, numbered_by n ts, refl, named n ts t among, All-contains (λ (x : Title). x.len ≡ slot_of c) ts t gives.long among, small),
         );
       }
 
@@ -61,9 +61,9 @@ pub fill_loads : (line p c : ℕ) (s : StockValue) (u n : View) (t : Title) (res
     CanLoad p c rest (record s { view = united u n })
 fill_loads line p c s u n t rest gives is awares long low small empty =
     let took = fill_took line p c (fill_of c) s u n (t ∷ rest) gives is awares long low in
-    let e = fill_of-limit c small in
+    let e = fill_of-limit c (omega arith) in
     let few = gives.few in
-    let eight = (IsRow-of c small).few_fill in
+    let eight = (IsRow_1-of c small).few_fill in
     record {
       partition = low;
       empty = empty;
@@ -73,7 +73,7 @@ fill_loads line p c s u n t rest gives is awares long low small empty =
       batch = omega arith;
       free = λ x among. took_free s u n (t ∷ rest) is took x (later_in t x rest among);
       new = λ q d x listed among. took_new s u n (t ∷ rest) is took q d x listed (later_in t x rest among);
-      made = λ x among. fill_made line p c (fill_of c) s u n (t ∷ rest) gives is awares long low x (later_in t x rest among);
+      made = λ x among. fill_made line p c (fill_of c) s u n (t ∷ rest) gives is awares long low small x (later_in t x rest among);
     }
 
 -- ---- a direct map

@@ -159,7 +159,7 @@ module _ (r line p : ℕ) (ts : List Title) (v w : View) (hands : HandsBack r li
 pub seen_fill : (s : StockValue) (p c : ℕ) (t : Title) → IsStock s → Contains (titles_in s.caches p c) t → HasSeenFill p s.view t
 seen_fill s p c t is among =
     let (m, e, there, says, out) = (is.lists.made p c t among).entry in
-    let (pool, slots, act, named, long) = out in
+    let (pool, slots, act, named, long, small) = out in
     let (n, within, name) = map_cases (λ (n : Numbered). n.slot) slots (name_of t) named in
     let told : m.numbers ≡ root_numbers (root_entry e.line (Fill c pool slots)) = says ∙ ap (λ (a : RootAct). root_numbers (root_entry e.line a)) act in
     (e.line, c, pool, slots, n, long, within, name, subst (λ ns. Contains (map (λ (k : Made). k.numbers) (list_of p s.view)) ns) told (map_in (λ (k : Made). k.numbers) (list_of p s.view) m there))

@@ -7,6 +7,7 @@ use Rattle.std.proofs.lemmas.List.Sums.{sum_by-append}
 use Rattle.pa_slot.specs.declared.title.Title.{Title}
 use Rattle.pa_slot.specs.Titles.{same_title}
 use Rattle.pa_slot.specs.Holdings.{one}
+use Rattle.pa_buckets.specs.Bands.{limit_of}
 use Rattle.pa_record.specs.declared.numbered.Numbered.{Numbered}
 use Rattle.pa_record.specs.declared.root.RootEntry.{RootEntry}
 use Rattle.pa_record.specs.declared.root.RootAct.{RootAct}
@@ -40,7 +41,7 @@ use Rattle.pa_cells.specs.declared.handle.Handle.{Handle}
 use Rattle.pa_cells.specs.Handles.{HandsOut, HasSeenMade, SlotsStaySeen}
 use Rattle.pa_op_specs.specs.Stocks.{StockValue, IsStock, register_in, titles_in, listed_in, listed_slot}
 use Rattle.pa_thread_state.specs.Changes.{IsBack}
-use Rattle.pa_thread_state.specs.Homing.{ComesHome, GoesHome, without_title, note_of_title}
+use Rattle.pa_thread_state.specs.Homing.{ComesHome, GoesHome, IsSettled, Spills, without_title, note_of_title}
 use Rattle.pa_op_specs.proofs.Quiet.{same_titles}
 use Rattle.pa_op_specs.proofs.Seeing.{made_kept, made_for_kept}
 use Rattle.pa_thread_state.proofs.Parking.{made_for_more}
@@ -93,7 +94,7 @@ left_frees t v aware free u other =
     (keeps_but (t ∷ []) v (alone t) (free_alone t v free) aware.free_once).stays u
     (λ among. other (in_alone t u among))
 
--- so each listed title is free still
+-- after the handle's title left the seat, each title on the thread's lists is still free with the seat
 left_listed : (s : StockValue) (h : Handle) → IsStock s → IsAware s.view → IsBack h s → (p class : ℕ) (t : Title) → Contains (titles_in s.caches p class) t →
     0 < free_of (without_title h.title s.view) t
 left_listed s h is aware back p class t among =
@@ -147,9 +148,28 @@ pub seen_fill : (h : Handle) (v : View) (class : ℕ) → HasSeenMade h v → h.
 seen_fill h v class made of =
     let (m, e, among, says, out) = made.entry in
     let by : HandsOut (Some class) h.title e.act = subst (λ k. HandsOut k h.title e.act) of out in
-    let (asked, slots, act, named, long) = by in
+    let (asked, slots, act, named, long, small) = by in
     let (n, there, is) = map_cases (λ (x : Numbered). x.slot) slots (name_of h.title) named in
     (e.line, class, asked, slots, n, long, there, is, numbers_among (list_of h.partition v) m e _ among says act)
+
+-- a class of which a slot was seen made is one of version 1
+pub known_class : (h : Handle) (v : View) (class : ℕ) → HasSeenMade h v → h.class ≡ Some class → class < 59
+known_class h v class made of =
+    let (m, e, among, says, out) = made.entry in
+    let by : HandsOut (Some class) h.title e.act = subst (λ k. HandsOut k h.title e.act) of out in
+    let (asked, slots, act, named, long, small) = by in
+    small
+
+-- a slot that went home alone is settled, if its class keeps no list; and so is one whose list spilled
+pub home_settles : {A E : Type 0} (line class : ℕ) (h : Handle) (s after : StockValue) (result : Result A E) → h.class ≡ Some class → class < 59 → limit_of class ≡ 0 →
+    OnOk result (GoesHome line h s after) → OnOk result (IsSettled line h s after)
+home_settles line class h s after (Ok x) of small none home = inl (λ k is. (let same : class ≡ k = cc in subst (λ z. (z < 59) × (limit_of z ≡ 0)) same (small, none)), home)
+home_settles line class h s after (Err e) of small none home = tt
+
+pub spill_settles : {A E : Type 0} (line class : ℕ) (h : Handle) (s after : StockValue) (result : Result A E) → h.class ≡ Some class → class < 59 → 0 < limit_of class →
+    OnOk result (Spills line h class s after) → OnOk result (IsSettled line h s after)
+spill_settles line class h s after (Ok x) of small some spills = inr (class, of, small, some, spills)
+spill_settles line class h s after (Err e) of small some spills = tt
 
 -- the stake was lent for it
 pub comes_lends : (class : Option ℕ) (r p line : ℕ) (v w note : View) (t : Title) → ComesHome class r p line v w note t → (es : List Entry) × Lends r es v w
@@ -173,7 +193,7 @@ delivered_has stays s cs w note class r p line t (Ok x) are is has comes same =
     kept_has stays s w cs are is has (comes_lends class r p line s.view w note t comes).1.keeps
 delivered_has stays s cs w note class r p line t (Err e) are is has comes same = same_has s w cs are is has same
 
--- and if it kept it, nothing changed
+-- if the call failed and left the seat its view, the thread state with its lists is as it was
 pub delivered_same : {A E : Type 0} (s : StockValue) (cs : List CacheParts) (w : View) (result : Result A E) → HasThem s w s.registers cs →
     OnErr result (w ≡ s.view) → OnErr result (record s { view = w; caches = lists_in w cs } ≡ s)
 delivered_same s cs w (Ok x) them same = tt

@@ -101,7 +101,7 @@ spent : (budget : ℕ) → (((((budget - 0) - 0) - 0) - 0) - 0) - budget ≡ 0
 spent budget = omega arith
 
 -- the pool gets all bytes, its keeper and every lease
-pub pool_opens : (supers words budget : ℕ) → words ≡ 262144 * supers → supers ≤ 16 → CanOpen supers (for_pool words budget)
+pub pool_opens : (supers words budget : ℕ) → words ≡ 262144 * supers → supers ≤ 64 → CanOpen supers (for_pool words budget)
 pool_opens supers words budget long few =
     let has : keeper_of (for_pool words budget) 4 ≡ 1 = refl in
     record {

@@ -2,6 +2,7 @@
 use Rattle.std.proofs.Common.{◌≡◌, ℕ, suc, ◌+◌, ◌-◌, ◌<◌, ◌≤◌, Bool, true, false, List, [], ◌∷◌, ◌++◌, length, refl, sym, ◌∙◌, ap, subst, arith, inl, inr, append_assoc}
 use Rattle.std.specs.Prelude.{◌==◌, ◌&&◌, nat_lt, if◌then◌else◌}
 use Rattle.std.proofs.lemmas.List.{length-map}
+use Rattle.std.proofs.lemmas.Bool.{le-ltb}
 use Rattle.std.proofs.lemmas.Bool.Decides.{nat_tests, eqb_tells}
 use Rattle.pa_slot.specs.declared.title.Title.{Title}
 use Rattle.pa_record.specs.declared.numbered.Numbered.{Numbered}
@@ -11,6 +12,7 @@ use Rattle.pa_region.specs.Views.{stake_of}
 use Rattle.pa_region.specs.Lending.{KeptNumbersStay}
 use Rattle.pa_region.specs.Aware.{IsAware}
 use Rattle.pa_rules.specs.Caches.{gives, purge_acts, listed_slots}
+use Rattle.pa_rules.proofs.Sums.{NoneBut, slots_of_none, slots_sparse, purge_sparse}
 use Rattle.pa_root.specs.Handing.{numbered_by, at_number_seen, PurgeEnters}
 use Rattle.pa_op_specs.specs.Stocks.{StockValue, IsStock, titles_in, listed_in}
 use Rattle.pa_op_specs.specs.Workers.{HasItsStake}
@@ -112,6 +114,7 @@ slots_none s p = omega arith
 pub slots_more : (line p n slots : ℕ) (s now : StockValue) → IsStock now → GivesLists line p n s now → n < 59 →
     slots + listed_slots (listed_in s p) n (59 - n) ≡ listed_slots (listed_in s p) 0 59 →
     (slots + length (titles_in now.caches p n)) + listed_slots (listed_in s p) (n + 1) (59 - (n + 1)) ≡ listed_slots (listed_in s p) 0 59
+unfolding listed_slots
 slots_more line p n slots s now is some below count =
     let lists = listed_in s p in
     let e : 59 - n ≡ suc (59 - (n + 1)) = omega arith in
@@ -156,12 +159,17 @@ none_left p s q c = elim (eqb_tells q p) [
         cleared_is p 59 (titles_in s.caches) q c here low ∙ rw this refl
     by_class false is here this = rw (this, is) refl
 
+-- none but the classes of version 1 have lists
+pub listed_sparse : (s : StockValue) (p : ℕ) → NoneBut 0 59 (listed_in s p)
+listed_sparse s p c (inl low) = absurd (omega arith)
+listed_sparse s p c (inr past) = rw (le-ltb c 59 past) refl
+
 pub purges_root : KeptNumbersStay → (s now : StockValue) (w : View) (line p slots : ℕ) → IsAware now.view → IsAware w → p < 4 → GivesLists line p 59 s now →
     PurgeEnters now.thread p line now.view w → slots + listed_slots (listed_in s p) 59 (59 - 59) ≡ listed_slots (listed_in s p) 0 59 →
     PurgesRoot line p slots s (record now { view = w })
 purges_root law s now w line p slots aware both low some enters count = (
-  (let e : listed_slots (listed_in s p) 59 (59 - 59) ≡ 0 = refl in omega arith),
-  subst (λ acts. Gives line p acts (without_lists p (titles_in s.caches)) s (record now { view = w })) some.rest
+  (let e = slots_of_none (listed_in s p) 59 in let all = slots_sparse (listed_in s p) (listed_sparse s p) in omega arith),
+  subst (λ acts. Gives line p acts (without_lists p (titles_in s.caches)) s (record now { view = w })) (some.rest ∙ sym (purge_sparse (listed_in s p) (listed_sparse s p)))
       (gives_left line p (some.acts ++ Purge ∷ []) (titles_in now.caches) (without_lists p (titles_in s.caches)) s (record now { view = w })
       (gives_on line p some.acts (Purge ∷ []) (without_classes p 59 (titles_in s.caches)) (titles_in now.caches) s now (record now { view = w }) some.given
       (purged_gives law now w line p aware both low enters))

@@ -54,12 +54,12 @@ has_still s w rs cs are was has now firsts =
       holds = kept.0;
     }
 
--- the same by what a call says of the view
+-- a seat whose view w is x has the thread's lists, if with x the thread state is sound and first words of listed titles stay
 pub has_as : (s : StockValue) (w x : View) (rs : List StockRegister) (cs : List CacheParts) → w ≡ x → s.caches ≡ lists_in s.view cs → IsStock s →
     All (HoldsList s.view) cs → IsStock (record s { view = x; registers = rs }) → FirstsStay s x → HasThem s w rs cs
 has_as s w x rs cs e are was has now firsts = subst (λ v. HasThem s v rs cs) (sym e) (has_still s x rs cs are was has now firsts)
 
--- so the thread state is the one before with this view and these registers
+-- if the seat has the thread's lists, the thread state made of its parts is the one before with view x and registers rs
 pub after_as : (s : StockValue) (w x : View) (rs : List StockRegister) (cs : List CacheParts) → w ≡ x → HasThem s w rs cs →
     record s { view = w; registers = rs; caches = lists_in w cs } ≡ record s { view = x; registers = rs }
 after_as s w x rs cs e them =
@@ -78,7 +78,7 @@ knows_first s p class t is among =
 pub firsts_keep : (s : StockValue) (w : View) → IsStock s → Keeps s.view w → FirstsStay s w
 firsts_keep s w is keeps p class t among = keeps.words (t.start / 8) (knows_first s p class t is among)
 
--- so the lists stay when the seat lent its stake, or did nothing
+-- a seat still has the thread's lists if its view keeps all it had, or is unchanged
 pub kept_has : SlotsStaySeen → (s : StockValue) (w : View) (cs : List CacheParts) → s.caches ≡ lists_in s.view cs → IsStock s →
     All (HoldsList s.view) cs → Keeps s.view w → HasThem s w s.registers cs
 kept_has stays s w cs are is has keeps = has_still s w s.registers cs are is has (kept_stock stays s w is keeps) (firsts_keep s w is keeps)
@@ -114,7 +114,7 @@ user_unlisted s u is aware user p class t among same =
     let z = aware.free_alone u (subst (λ x. 0 < free_of s.view x) (sym same) (is.lists.free p class t among)) in
     absurd (omega arith)
 
--- so words that are others only in its slot leave the first words
+-- if only words in the slot of a title that the seat uses changed, the listed titles keep their first words
 pub firsts_used : (words : ℕ) (s : StockValue) (w : View) (u : Title) → IsStock s → IsAware s.view → IsWellFormed words u → IsUser u s.view →
     ((q : ℕ) → (q < u.start / 8) ⊎ (count_place u < q) → slice_index w.words q ≡ slice_index s.view.words q) → FirstsStay s w
 firsts_used words s w u is aware placed user others =

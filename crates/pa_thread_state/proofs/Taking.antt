@@ -7,7 +7,6 @@ use Rattle.pa_slot.specs.declared.title.Title.{Title}
 use Rattle.pa_slot.specs.Titles.{IsWellFormed}
 use Rattle.pa_record.specs.declared.pool.PoolEntry.{PoolEntry}
 use Rattle.pa_record.specs.declared.root.RootAct.{RootAct}
-use Rattle.pa_record.specs.Numbers.{root_numbers}
 use Rattle.pa_record.specs.Root.{asked_by, names}
 use Rattle.pa_record.specs.Spans.{name_of}
 use Rattle.pa_lists.proofs.Members.{in_cases, not_in_none, first_in, later_in}
@@ -135,7 +134,7 @@ module _ (s : StockValue) (u n : View) (titles : List Title) (is : IsStock s) (t
       left_number u n well.0 t took.awares.1 took.awares.3 took.long well.1 there
       ∙ kept_number s.view u well.0 t took.awares.0 took.awares.1 took.keeps well.1 free
 
-  -- and one of the note at the note's
+  -- a title that came with the note has in the united view the number that the note has seen
   pub took_number : (words : ℕ) (t : Title) → IsWellFormed words t → Contains titles t → seen_of (united u n) t ≡ seen_of n t
   took_number words t well among = right_number u n words t took.awares.2 took.awares.3 took.long well ((took.has.frees t).1 among)
 

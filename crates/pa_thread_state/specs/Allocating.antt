@@ -3,7 +3,7 @@ use Rattle.std.specs.Prelude.{◌≡◌, ℕ, ◌-◌, ◌<◌, ◌≤◌, List,
 use Rattle.pa_slot.specs.declared.title.Title.{Title}
 use Rattle.pa_slot.specs.declared.word.Step.TheVariants.{Issue}
 use Rattle.pa_slot.specs.Count.{number_of}
-use Rattle.pa_buckets.specs.Limits.{class_count}
+use Rattle.pa_buckets.specs.Limits.{sparse_count}
 use Rattle.pa_buckets.specs.Bands.{fill_of, limit_of}
 use Rattle.pa_buckets.specs.Table.{slot_of}
 use Rattle.pa_record.specs.declared.entry.Answer.{Answer}
@@ -39,7 +39,7 @@ pub record BecomesList (p class : ℕ) (titles : List Title) (before after : Sto
 
 -- The front left the list of a partition and a class.
 pub record TakesFront (p class : ℕ) (t : Title) (before after : StockValue) : Type 0 where
-  pub small : class < class_count
+  pub small : class < sparse_count
   pub rest : List Title
   pub was : titles_in before.caches p class ≡ t ∷ rest
   pub long : t.len ≡ slot_of class
@@ -93,7 +93,7 @@ pub record FillsList (line p class : ℕ) (t : Title) (before after : StockValue
   pub gives : FillGives before.thread p line class (fill_of class) before.view asked note (t ∷ rest)
   pub awares : IsAware asked × IsAware note × IsAware (united asked note)
   pub long : length asked.words ≡ length note.words
-  pub small : class < class_count
+  pub small : class < sparse_count
   pub empty : titles_in before.caches p class ≡ []
   pub loaded : BecomesList p class rest (record before { view = united asked note }) after
 

@@ -4,7 +4,7 @@ use Rattle.pa_slot.specs.declared.title.Title.{Title}
 use Rattle.pa_slot.specs.declared.word.Step.{Step}
 use Rattle.pa_slot.specs.declared.word.Step.TheVariants.{Copy, Write}
 use Rattle.pa_slot.specs.Titles.{IsWellFormed}
-use Rattle.pa_buckets.specs.Limits.{class_count}
+use Rattle.pa_buckets.specs.Limits.{sparse_count}
 use Rattle.pa_buckets.specs.Bands.{limit_of}
 use Rattle.pa_slot.specs.declared.title.OwnState.TheVariants.{Clean, Dirty}
 use Rattle.pa_slot.specs.Count.{CanStep}
@@ -93,6 +93,6 @@ NeedsRoot h s = (class : ℕ) → h.class ≡ Some class → limit_of class ≤ 
 -- The slot was put at the front of the list of its class, which had room, or nothing was done, and the slot needs the root.
 abbrev pub IsPut : Bool → Handle → (before after : StockValue) → Type 0
 IsPut true h before after =
-    (class : ℕ) × (h.class ≡ Some class) × (class < class_count) × (length (titles_in before.caches h.partition class) < limit_of class)
+    (class : ℕ) × (h.class ≡ Some class) × (class < sparse_count) × (length (titles_in before.caches h.partition class) < limit_of class)
     × BecomesFront h class before after
 IsPut false h before after = (after ≡ before) × NeedsRoot h before

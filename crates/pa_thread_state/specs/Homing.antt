@@ -2,7 +2,7 @@
 -- the list's tail went back.
 use Rattle.std.specs.Prelude.{◌≡◌, ℕ, ◌-◌, ◌/◌, ◌<◌, ◌⊎◌, [], ◌∷◌, Option, Some, None}
 use Rattle.pa_slot.specs.declared.title.Title.{Title}
-use Rattle.pa_buckets.specs.Limits.{class_count}
+use Rattle.pa_buckets.specs.Limits.{sparse_count}
 use Rattle.pa_buckets.specs.Bands.{limit_of}
 use Rattle.pa_region.specs.declared.view.View.{View}
 use Rattle.pa_region.specs.Hands.{left_after, given_after}
@@ -44,5 +44,5 @@ pub record Spills (line : ℕ) (h : Handle) (class : ℕ) (before after : StockV
 -- The slot is where it belongs. A direct map, or a slot of a class that keeps no list, is in its root. Else its list spilled.
 abbrev pub IsSettled : ℕ → Handle → (before after : StockValue) → Type 0
 IsSettled line h before after =
-    (((class : ℕ) → h.class ≡ Some class → (class < class_count) × (limit_of class ≡ 0)) × GoesHome line h before after)
-    ⊎ ((class : ℕ) × (h.class ≡ Some class) × (class < class_count) × (0 < limit_of class) × Spills line h class before after)
+    (((class : ℕ) → h.class ≡ Some class → (class < sparse_count) × (limit_of class ≡ 0)) × GoesHome line h before after)
+    ⊎ ((class : ℕ) × (h.class ≡ Some class) × (class < sparse_count) × (0 < limit_of class) × Spills line h class before after)

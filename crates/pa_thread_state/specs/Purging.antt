@@ -1,7 +1,7 @@
 -- A purge of one partition: its lists go back whole, and then its root is purged.
 use Rattle.std.specs.Prelude.{◌≡◌, ℕ, ◌-◌, ◌==◌, ◌&&◌, ◌++◌, List, [], nat_lt, if◌then◌else◌}
 use Rattle.pa_slot.specs.declared.title.Title.{Title}
-use Rattle.pa_buckets.specs.Limits.{class_count}
+use Rattle.pa_buckets.specs.Limits.{class_count, sparse_count}
 use Rattle.pa_record.specs.declared.root.RootAct.{RootAct}
 use Rattle.pa_rules.specs.Caches.{purge_acts, listed_slots}
 use Rattle.pa_op_specs.specs.Stocks.{StockValue, titles_in, listed_in}
@@ -26,4 +26,4 @@ pub record GivesLists (line p classes : ℕ) (before after : StockValue) : Type 
   pub acts : List RootAct
   pub given : Gives line p acts (without_classes p classes (titles_in before.caches)) before after
   pub rest :
-      acts ++ purge_acts (listed_in before p) classes (class_count - classes) ≡ purge_acts (listed_in before p) 0 class_count
+      acts ++ purge_acts (listed_in before p) classes (sparse_count - classes) ≡ purge_acts (listed_in before p) 0 sparse_count

@@ -3,7 +3,7 @@ use Rattle.std.specs.Prelude.{◌≡◌, ℕ, ◌+◌, ◌-◌, ◌*◌, ◌/◌
 use Rattle.pa_slot.specs.declared.title.Title.{Title}
 use Rattle.pa_slot.specs.declared.word.Step.{Step}
 use Rattle.pa_slot.specs.Run.{IsReturning}
-use Rattle.pa_buckets.specs.Limits.{class_count}
+use Rattle.pa_buckets.specs.Limits.{sparse_count}
 use Rattle.pa_buckets.specs.Bands.{limit_of}
 use Rattle.pa_record.specs.declared.entry.Seen.{Seen}
 use Rattle.pa_region.specs.declared.view.View.{View}
@@ -53,7 +53,7 @@ pub record StopsPartition (line p : ℕ) (before after : StockValue) : Type 0 wh
   pub classes : ℕ
   pub between : StockValue
   pub gave : GivesLists line p classes before between
-  pub stopped : ((classes < class_count) × StopsTail line p classes 0 between after) ⊎ ((classes ≡ class_count) × (after ≡ between))
+  pub stopped : ((classes < sparse_count) × StopsTail line p classes 0 between after) ⊎ ((classes ≡ sparse_count) × (after ≡ between))
 
 -- A slot that a step returned isn't where it belongs: its title is free in the seat and on no list. It was to go to its root alone,
 -- and nothing else is another, or the tail of its list stopped, of which more than half the limit was to go back.

@@ -1,5 +1,5 @@
 ghost use Rattle.std.specs.Prelude.{◌≡◌, ℕ, ◌<◌, [], None, Some, IfOk, IfErr, List, All};
-ghost use Rattle.pa_buckets.specs.Limits.{class_count};
+ghost use Rattle.pa_buckets.specs.Limits.{sparse_count};
 ghost use Rattle.pa_buckets.specs.Bands.{fill_of};
 ghost use Rattle.pa_trace.specs.Limits.{most_partitions};
 ghost use Rattle.pa_cache.specs.Caches.{HoldsFree};
@@ -39,11 +39,11 @@ impl<N: Name> Stock<N> {
     ) -> Result<Title, FillFault>
         requires stake { HasItsStake self.old }
         requires partition { partition < most_partitions }
+        requires small { class < sparse_count }
         requires empty { titles_in self.old.caches partition class ≡ [] }
         ensures filled { IfOk result (λ t. FillsList line partition class t self.old self.new) }
         ensures none { IfErr result (FindsNone line partition 1 (Some class) self.old self.new) }
     {
-        let _ = class.number();
         self.kept();
         match self.ask_fill(rt, heap, line, partition, class) {
             Ok((note, titles)) => {
@@ -145,8 +145,9 @@ impl<N: Name> Stock<N> {
 
     // Loads these titles into the empty list of a partition and a class.
     fn load(&mut self, heap: &Heap<N>, partition: u32, class: Class, titles: &[Title])
-        requires { CanLoad partition class titles.now self.old }
-        ensures small { class < class_count }
+        requires can { CanLoad partition class titles.now self.old }
+        requires small { class < sparse_count }
+        ensures small { class < sparse_count }
         ensures loaded { BecomesList partition class titles.now self.old self.new }
     {
         other_lists_stay();

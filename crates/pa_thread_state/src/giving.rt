@@ -1,6 +1,7 @@
 //! Slots of a list that go back to the root of their partition.
 ghost use Rattle.std.specs.Prelude.{◌≡◌, ◌≢◌, ℕ, ◌+◌, ◌*◌, ◌<◌, ◌≤◌, length, map, take, AllPairs, Contains, OnOk, OnErr, IfErr};
 ghost use Rattle.pa_record.specs.declared.root.RootAct.TheVariants.{Give};
+ghost use Rattle.pa_buckets.specs.Limits.{sparse_count};
 ghost use Rattle.pa_trace.specs.Limits.{most_partitions};
 ghost use Rattle.pa_region.specs.Views.{least_stake};
 ghost use Rattle.pa_region.specs.Lending.{CanLend};
@@ -46,6 +47,7 @@ impl<N: Name> Stock<N> {
     ) -> Result<(), OutOfMemory>
         requires stake { HasItsStake self.old }
         requires partition { partition < most_partitions }
+        requires small { class < sparse_count }
         ensures gives { OnOk result (GivesTail line partition class keep self.old self.new) }
         ensures stake { OnErr result (KeepsItsStake self.old self.new) }
         ensures stops { OnErr result (StopsTail line partition class keep self.old self.new) }
@@ -65,6 +67,7 @@ impl<N: Name> Stock<N> {
     // How many batches the titles of a list after its first `keep` make.
     fn batches_behind(&self, partition: u32, class: Class, keep: u32) -> u32
         requires partition { partition < most_partitions }
+        requires small { class < sparse_count }
         ensures all { length (titles_in self.now.caches partition class) ≤ keep + 16 * result }
         ensures no_more { (n : ℕ) → n < result → keep + 16 * n < length (titles_in self.now.caches partition class) }
     {
@@ -86,6 +89,7 @@ impl<N: Name> Stock<N> {
     ) -> ArrayVec<Title, 16>
         requires region { region.now ≡ N.region }
         requires partition { partition < most_partitions }
+        requires small { class < sparse_count }
         ensures titles { result.items ≡ batch_after keep (titles_in self.old.caches partition class) }
         ensures different { AllPairs ◌≢◌ result.items }
         ensures rest { BecomesList partition class (rest_after keep (titles_in self.old.caches partition class)) self.old self.new }
@@ -110,6 +114,7 @@ impl<N: Name> Stock<N> {
     ) -> Result<(), OutOfMemory>
         requires stake { HasItsStake self.old }
         requires partition { partition < most_partitions }
+        requires small { class < sparse_count }
         requires some { keep < length (titles_in self.old.caches partition class) }
         ensures gives { OnOk result (GivesBatch line partition class keep self.old self.new) }
         ensures stake { OnErr result (KeepsItsStake self.old self.new) }
@@ -118,7 +123,6 @@ impl<N: Name> Stock<N> {
     {
         kept_numbers_stay();
         slots_stay_seen();
-        let _ = class.number();
         self.kept();
         let titles = self.take_batch(heap.region(), partition, class, keep);
         self.kept();

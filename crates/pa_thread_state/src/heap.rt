@@ -1,5 +1,5 @@
 ghost use Rattle.std.specs.Prelude.{◌≡◌, ◌*◌, ◌≤◌, [], IfOk};
-ghost use Rattle.pa_layout.specs.Limits.{most_supers};
+ghost use Rattle.pa_layout.specs.Limits.{region_supers};
 ghost use Rattle.pa_region.specs.Start.{first_view};
 ghost use Rattle.pa_region.specs.Waiting.{unclean_of};
 ghost use Rattle.pa_region.specs.Lists.{list_of};
@@ -75,7 +75,7 @@ impl<N: Name> Model for Heap<N> {
 }
 
 impl<N: Name> Heap<N> {
-    /// A heap over a new region of this many super pages, 1 to 16, with the region's first seat. The seat that comes back has
+    /// A heap over a new region of this many super pages, 1 to 64, with the region's first seat. The seat that comes back has
     /// every stake, each with an empty log, and the whole budget. The heap has all else.
     pub fn open(
         alloc: Global,
@@ -85,7 +85,7 @@ impl<N: Name> Heap<N> {
         budget: u32,
     ) -> Result<(Heap<N>, Seat), OutOfMemory>
         requires region { (region ≡ N.region) × (seat.region ≡ N.region) }
-        requires supers { supers ≤ most_supers }
+        requires supers { supers ≤ region_supers }
         requires first { seat.view ≡ first_view (262144 * supers) budget }
         ensures regions { IfOk result (λ r. (r.0 ≡ N.region) × (r.1.region ≡ N.region)) }
         ensures stakes { IfOk result (λ r. HasAllStakes budget r.1.view) }
@@ -150,7 +150,7 @@ fn part_all(
     budget: u32,
 ) -> (Note, Note, Note, Note, Note, Note)
     requires region { seat.old.region ≡ region.now }
-    requires supers { supers ≤ most_supers }
+    requires supers { supers ≤ region_supers }
     requires first { seat.old.view ≡ first_view (262144 * supers) budget }
     ensures region { seat.new.region ≡ region.now }
     ensures notes { (result.0.region ≡ region.now) × (result.1.region ≡ region.now) × (result.2.region ≡ region.now)

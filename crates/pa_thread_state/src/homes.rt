@@ -1,6 +1,7 @@
 //! Slots that a step returned and that their lists have no room for.
 ghost use Rattle.std.specs.Prelude.{◌≡◌, ◌-◌, ◌/◌, ◌<◌, ◌≤◌, List, [], ◌∷◌, length, Some, OnOk, IfErr, OnErr};
 ghost use Rattle.pa_slot.specs.declared.title.Title.{Title};
+ghost use Rattle.pa_buckets.specs.Limits.{sparse_count};
 ghost use Rattle.pa_buckets.specs.Bands.{limit_of};
 ghost use Rattle.pa_region.specs.Views.{least_stake};
 ghost use Rattle.pa_region.specs.Hands.{IsParted, united};
@@ -65,6 +66,7 @@ impl<N: Name> Stock<N> {
         requires stake { HasItsStake self.old }
         requires back { IsBack handle.now self.old }
         requires class { handle.now.class ≡ Some class }
+        requires small { class < sparse_count }
         requires some { 0 < limit_of class }
         ensures spills { OnOk result (Spills line handle.now class self.old self.new) }
         ensures stake { OnErr result (KeepsItsStake self.old self.new) }

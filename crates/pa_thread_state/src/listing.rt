@@ -1,5 +1,5 @@
 ghost use Rattle.std.specs.Prelude.{◌≡◌, ◌↔◌, ◌+◌, ◌*◌, ◌<◌, ◌≤◌, length, IsTrue};
-ghost use Rattle.pa_buckets.specs.Limits.{class_count};
+ghost use Rattle.pa_buckets.specs.Limits.{class_count, sparse_count};
 ghost use Rattle.pa_buckets.specs.Bands.{limit_of};
 ghost use Rattle.pa_trace.specs.Limits.{most_partitions};
 ghost use Rattle.pa_rules.specs.Limits.{list_count};
@@ -10,7 +10,7 @@ ghost use Rattle.pa_op_specs.specs.Stocks.{listed_in, titles_in};
 ghost use Rattle.pa_thread_state.specs.Changes.{BecomesFront, CanList, IsBack, IsPut};
 
 use crate::stock::Stock;
-use pa_buckets::{CLASSES, Class, cache_limit, rows_have_bounds, slot_size};
+use pa_buckets::{Class, SPARSE_CLASSES, cache_limit, rows_have_bounds, slot_size};
 use pa_cache::other_lists_stay;
 use pa_cells::Handle;
 use pa_record::Tally;
@@ -21,6 +21,7 @@ impl<N: Name> Stock<N> {
     pub(crate) fn list(&mut self, region: &Region, handle: &Handle, class: Class)
         requires region { region.now ≡ N.region }
         requires can { CanList handle.now class self.old }
+        requires small { class < sparse_count }
         ensures { BecomesFront handle.now class self.old self.new }
     {
         other_lists_stay();
@@ -32,10 +33,11 @@ impl<N: Name> Stock<N> {
 
     // How many titles the list of a partition and a class has.
     pub(crate) fn count_listed(&self, partition: u32, class: Class) -> u32
-        requires { partition < most_partitions }
+        requires partition { partition < most_partitions }
+        requires small { class < sparse_count }
         ensures count { result ≡ length (titles_in self.now.caches partition class) }
         ensures few { result ≤ 64 }
-        ensures small { class < class_count }
+        ensures small { class < sparse_count }
     {
         rows_have_bounds();
         self.kept();
@@ -45,9 +47,10 @@ impl<N: Name> Stock<N> {
 
     // Whether the list of a partition and a class has room for one more title.
     pub(crate) fn room(&self, partition: u32, class: Class) -> bool
-        requires { partition < most_partitions }
+        requires partition { partition < most_partitions }
+        requires small { class < sparse_count }
         ensures room { IsTrue result ↔ (length (titles_in self.now.caches partition class) < limit_of class) }
-        ensures small { class < class_count }
+        ensures small { class < sparse_count }
     {
         self.count_listed(partition, class) < cache_limit(class)
     }
@@ -60,7 +63,7 @@ impl<N: Name> Stock<N> {
     {
         self.kept();
         let mut tally = Tally { slots: 0, bytes: 0 };
-        for number in 0..CLASSES {
+        for number in 0..SPARSE_CLASSES {
             let class = Class::of(number).unwrap();
             let slots = self.listed(partition, class);
             tally.slots += u64::from(slots);
@@ -92,10 +95,11 @@ impl<N: Name> Stock<N> {
 
     // How many slots the list of a partition and a class has.
     fn listed(&self, partition: u32, class: Class) -> u32
-        requires { partition < most_partitions }
+        requires partition { partition < most_partitions }
+        requires small { class < sparse_count }
         ensures slots { result ≡ length (listed_in self.now partition class) }
         ensures few { result ≤ limit_of class }
-        ensures small { class < class_count }
+        ensures small { class < sparse_count }
     {
         self.kept();
         let place = place_of(partition, class);
@@ -113,10 +117,11 @@ pub(crate) fn class_numbered(number: u32) -> Class
 
 // The index of the cache of a partition and a class.
 pub(crate) fn place_of(partition: u32, class: Class) -> usize
-    requires { partition < most_partitions }
-    ensures place { result ≡ class_count * partition + class }
+    requires partition { partition < most_partitions }
+    requires small { class < sparse_count }
+    ensures place { result ≡ sparse_count * partition + class }
     ensures among { result < list_count }
-    ensures small { class < class_count }
+    ensures small { class < sparse_count }
 {
-    (CLASSES * partition + class.number()) as usize
+    (SPARSE_CLASSES * partition + class.number()) as usize
 }

@@ -1,5 +1,5 @@
 ghost use Rattle.std.specs.Prelude.{◌≡◌, ℕ, ◌+◌, ◌%◌, ◌<◌, ◌≤◌, All, IfOk, map, replicate};
-ghost use Rattle.pa_buckets.specs.Limits.{class_count};
+ghost use Rattle.pa_buckets.specs.Limits.{sparse_count};
 ghost use Rattle.pa_trace.specs.Limits.{register_count, most_partitions};
 ghost use Rattle.pa_rules.specs.Limits.{list_count};
 ghost use Rattle.pa_region.specs.declared.view.View.{View};
@@ -14,7 +14,7 @@ ghost use Rattle.pa_op_specs.specs.Workers.{HasItsStake};
 
 use crate::listing::class_numbered;
 use crate::stock::Stock;
-use pa_buckets::{CLASSES, Class};
+use pa_buckets::{Class, SPARSE_CLASSES};
 use pa_cache::Cache;
 use pa_cells::{Handle, slots_stay_seen};
 use pa_region::{Mark, Name, Note, Region, beginnings_join, free_numbers_stay, seen_numbers_join};
@@ -104,7 +104,7 @@ fn no_lists(alloc: Global) -> Result<Vec<Cache>, OutOfMemory>
 
 // The class of the list at this place.
 fn class_at(place: u32) -> Class
-    ensures { result ≡ place % class_count }
+    ensures { result ≡ place % sparse_count }
 {
-    class_numbered(place % CLASSES)
+    class_numbered(place % SPARSE_CLASSES)
 }

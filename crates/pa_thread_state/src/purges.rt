@@ -12,7 +12,7 @@ use crate::heap::Heap;
 use crate::listing::class_numbered;
 use crate::roots::with_root;
 use crate::stock::Stock;
-use pa_buckets::CLASSES;
+use pa_buckets::SPARSE_CLASSES;
 use pa_cells::slots_stay_seen;
 use pa_region::{Name, Seat, kept_numbers_stay};
 use pa_root::Root;
@@ -41,7 +41,7 @@ impl<N: Name> Stock<N> {
         slots_stay_seen();
         self.kept();
         let mut slots = 0;
-        for number in 0..CLASSES {
+        for number in 0..SPARSE_CLASSES {
             let class = class_numbered(number);
             self.kept();
             let count = self.count_listed(partition, class);

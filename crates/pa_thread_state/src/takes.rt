@@ -1,4 +1,5 @@
 ghost use Rattle.std.specs.Prelude.{◌≡◌, ◌<◌};
+ghost use Rattle.pa_buckets.specs.Limits.{sparse_count};
 ghost use Rattle.pa_trace.specs.Limits.{register_count, most_partitions};
 ghost use Rattle.pa_op_specs.specs.Stocks.{HasNoHandle, register_in};
 ghost use Rattle.pa_op_specs.specs.Workers.{HasItsStake};
@@ -19,6 +20,7 @@ impl<N: Name> Stock<N> {
     pub fn pop(&mut self, region: &Region, partition: u32, class: Class) -> Option<Title>
         requires region { region.now ≡ N.region }
         requires partition { partition < most_partitions }
+        requires small { class < sparse_count }
         ensures { Pops partition class result self.old self.new }
     {
         self.kept();

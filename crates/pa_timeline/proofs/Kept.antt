@@ -81,7 +81,7 @@ module _ {A B : Type 0} (f : A → Option B) where
             again)
       ]
 
-  -- and the other way round
+  -- S holds of what the filter keeps of a and of b, if it keeps both
   abbrev pub OfKept : (B → B → Type 0) → A → A → Type 0
   OfKept S a b = (u v : B) → f a ≡ Some u → f b ≡ Some v → S u v
 

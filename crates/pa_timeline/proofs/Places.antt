@@ -157,7 +157,7 @@ module _ (steps : Played → List Part) (ps : List Played) (pools : List PoolEnt
       let same : counted_steps k.slot (us ++ m ∷ vs) ≡ counted_steps l.slot (us ++ m ∷ vs) = ap (λ s. counted_steps s (us ++ m ∷ vs)) slot in
       omega arith
 
-  -- so a touch that found a lesser number comes first
+  -- of two touches of a slot that found different numbers, the one with the lesser number comes first
   pub by_number : (i j : ℕ) (m n : Moment) (k l : Mark) → IsAt ms i m → IsAt ms j n → IsTouch m.part → IsTouch n.part →
       mark_of m.x ≡ Some k → mark_of n.x ≡ Some l → k.slot ≡ l.slot →
       number_of k.found < number_of l.found → i < j

@@ -100,7 +100,7 @@ module _ (records : List Played) (journal : List RootEntry) (pools : List PoolEn
       let (k, z, at_z, low, of, due, changes) = changed_before _ _ _ _ _ ms t.ordered lower_slot place us vs y cut (λ zero. not_zero (given ∙ zero)) in
       (k, z, at_z, omega arith, of, among_all records journal z of due, changes)
 
-  -- so after the poisoning of the word, if only that leaves something else
+  -- a read that gives poison comes after the free on line 7 poisoned the word, if nothing else leaves something other than 0 in it
   poisoned_before : AllPairs (λ (x y : Played). x.line ≢ y.line) records → (free : Played) → Contains records free → free.line ≡ 7 →
       (place : ℕ) → list_all (spoils_alone place) (moments_in records journal) ≡ true → (i : ℕ) (y : Moment) → IsAt ms i y →
       y.part ≡ Loading → GivesAt y.x.op y.x.answer (slot_seen lower_slot 0x2000003) place poison →
@@ -111,7 +111,7 @@ module _ (records : List Played) (journal : List RootEntry) (pools : List PoolEn
       the_poisoning records free place z differ there line of (passes (spoils_alone place) (moments_in records journal) z alone among) changes in
       (k, subst (λ m. IsAt ms k m) it at_z, low)
 
-  -- and a read of the first word after its poisoning doesn't give 0
+  -- after a free of phase 2 poisoned the first word, no read gives 0 there if only steps of phase 1 leave something other than poison
   no_content_after : (free : Played) → free.phase ≡ 2 → moment_leaves lower_slot 0 (moment free (Spoiling 0)) ≡ Some poison →
       list_all cleans_early (moments_in records journal) ≡ true → (k j : ℕ) (y : Moment) → IsAt ms k (moment free (Spoiling 0)) →
       IsAt ms j y → k < j → y.part ≡ Loading → GivesAt y.x.op y.x.answer (slot_seen lower_slot 0x2000003) 0 0 → ⊥

@@ -1,7 +1,6 @@
 -- What is printed of a head and of a line is their text.
-use Rattle.std.proofs.Common.{◌≡◌, ℕ, ◌<◌, ◌^◌, List, [], ◌∷◌, ◌++◌, codes, refl, append_assoc, sym, ◌∙◌, ap, arith}
+use Rattle.std.proofs.Common.{◌≡◌, ℕ, ◌<◌, List, [], ◌∷◌, ◌++◌, codes, refl, append_assoc, ◌∙◌, ap, arith}
 use Rattle.std.specs.Fmt.{decimal}
-use Rattle.pa_text.specs.Numeral.{IsNumeral}
 use Rattle.pa_text.specs.Hex.{hex}
 use Rattle.pa_text.proofs.Numerals.{decimal_numeral}
 use Rattle.pa_trace.specs.declared.line.Head.{Head}

@@ -12,6 +12,6 @@ pub record LinesSoFar : Type 0 where
 abbrev pub no_lines : Head → LinesSoFar
 no_lines head = record { head = head; items = [] }
 
--- the same head, and one more line after the others
+-- so_far with one more line at its end
 abbrev pub with_line : Line → LinesSoFar → LinesSoFar
 with_line line so_far = record { head = so_far.head; items = so_far.items ++ line ∷ [] }

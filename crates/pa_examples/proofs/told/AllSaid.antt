@@ -16,10 +16,11 @@ use Rattle.pa_record.specs.declared.entry.Answer.{Answer}
 use Rattle.pa_record.specs.declared.entry.Answer.TheVariants as answers
 use Rattle.pa_record.specs.declared.report.ReportLine.{ReportLine}
 use Rattle.pa_record.specs.declared.report.Tally.{Tally}
+use Rattle.pa_rules.specs.Caches.{listed_slots}
 use Rattle.pa_rules.specs.declared.played.Played.{Played}
 use Rattle.pa_rules.specs.Played.{mark_of}
 use Rattle.pa_rules.specs.Registers.{Row}
-use Rattle.pa_rules.specs.Report.{until}
+use Rattle.pa_rules.specs.Report.{until, listed_bytes}
 use Rattle.pa_slot.specs.Kinds.{issues, frees, enters, leaves}
 use Rattle.pa_examples.specs.Worked.{tally, report_line, seen_at, two_threads_trace, two_threads_journal, two_threads_report, two_threads_census}
 use Rattle.pa_examples.proofs.worked.Lists.{each}
@@ -188,7 +189,7 @@ module _ (answer : Answer) (word value after : ℕ) (fits : ReadFits answer word
   LineSaid n l = IsLineSaid two_threads_trace (told_with so) (seat_last so) ts (caches_until n) (seat_until ts n) l
 
   line_1 : LineSaid 1 (report_line 1 (tally 1 16) (tally 0 0) (tally 7 112) two_threads_census)
-  unfolding rows row_of slot_of
+  unfolding rows row_of slot_of listed_slots listed_bytes
   line_1 = record {
     live = fits.until_1.lives (homes_in two_threads_trace (told_with so)) sizes (home_is so) (size_is so);
     quarantined = fits.until_1.waits (homes_in two_threads_trace (told_with so)) sizes (home_is so) (size_is so);
@@ -197,7 +198,7 @@ module _ (answer : Answer) (word value after : ℕ) (fits : ReadFits answer word
   }
 
   line_2 : LineSaid 2 (report_line 2 (tally 0 0) (tally 1 16) (tally 7 112) two_threads_census)
-  unfolding rows row_of slot_of
+  unfolding rows row_of slot_of listed_slots listed_bytes
   line_2 = record {
     live = fits.until_2.lives (homes_in two_threads_trace (told_with so)) sizes (home_is so) (size_is so);
     quarantined = fits.until_2.waits (homes_in two_threads_trace (told_with so)) sizes (home_is so) (size_is so);
@@ -206,7 +207,7 @@ module _ (answer : Answer) (word value after : ℕ) (fits : ReadFits answer word
   }
 
   line_3 : LineSaid 3 (report_line 3 (tally 0 0) (tally 0 0) (tally 8 128) two_threads_census)
-  unfolding rows row_of slot_of
+  unfolding rows row_of slot_of listed_slots listed_bytes
   line_3 = record {
     live = fits.until_3.lives (homes_in two_threads_trace (told_with so)) sizes (home_is so) (size_is so);
     quarantined = fits.until_3.waits (homes_in two_threads_trace (told_with so)) sizes (home_is so) (size_is so);

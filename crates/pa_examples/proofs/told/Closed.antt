@@ -91,7 +91,7 @@ module _ (answer : Answer) (word value after : ℕ) (last : KnowsLast (reading_s
     ),
   )
 
-  listed : (k p class : ℕ) (m : Numbered) → k < 2 → p < 1 → class < 59 → Contains (caches_until 3 k p class) m → 0 < times_in (span_slots 256) (title_of sizes m.slot)
+  listed : (k p class : ℕ) (m : Numbered) → k < 2 → p < 1 → class < 170 → Contains (caches_until 3 k p class) m → 0 < times_in (span_slots 256) (title_of sizes m.slot)
   listed k p class m few one real among =
       let of = known_at k few p class m among in
       let home : p ≡ 0 = omega arith in

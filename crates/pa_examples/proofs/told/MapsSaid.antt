@@ -20,8 +20,8 @@ use Rattle.pa_record.proofs.Worked.{direct_map_again}
 use Rattle.pa_rules.specs.declared.register.Register.TheVariants.{Own, Ref, Freed, Cleared}
 use Rattle.pa_rules.specs.Registers.{Regs, with, no_regs}
 use Rattle.pa_rules.specs.Cells.{history_at}
-use Rattle.pa_rules.specs.Caches.{no_caches}
-use Rattle.pa_rules.specs.Report.{HasSize, until}
+use Rattle.pa_rules.specs.Caches.{no_caches, listed_slots}
+use Rattle.pa_rules.specs.Report.{HasSize, until, listed_bytes}
 use Rattle.pa_rules.specs.Sizes.{slot_size_for}
 use Rattle.pa_rules.specs.Legal.{IsLegalTold}
 use Rattle.pa_legal.specs.Known.{IsKnown}
@@ -356,7 +356,7 @@ heap = record {
 -- ---- the report
 
 line : IsLineSaid direct_map_trace told_maps seat_maps maps_told at_end seat_maps (report_line 1 (tally 1 2002944) (tally 0 0) (tally 0 0) direct_map_again_census)
-unfolding rows row_of slot_of
+unfolding rows row_of slot_of listed_slots listed_bytes
 line = record {
   live = lives homes sizes first.home second.home third.home first.long second.long third.long;
   quarantined = waits homes sizes second.home second.long;

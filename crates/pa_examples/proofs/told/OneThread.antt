@@ -126,7 +126,7 @@ module _ (ts : List ToldRecord) (notes : List SeenNumber) (journal : List RootEn
       (λ p n0 n4 n5. by_one (λ j. [] ≡ entered_in p (log_of j ts)) (sym (is.others p n0 n4)) (λ j other. sym (ap (λ log. entered_in p log) (is.alone j other))) k)
       q
 
-  -- so it is one order
+  -- the log of stake 0, the only stake that did anything, is an order of what the records did
   its_order : IsOrderOf ts notes lists (map first_did (log_of 0 ts))
   its_order = record {
     stakes = first_small (log_of 0 ts);

@@ -7,7 +7,7 @@ use Rattle.pa_slot.specs.declared.word.Step.TheVariants as steps
 use Rattle.pa_slot.specs.Count.{held_of}
 use Rattle.pa_slot.specs.Titles.{poison}
 use Rattle.pa_buckets.specs.Bands.{limit_of}
-use Rattle.pa_buckets.specs.Table.{rows}
+use Rattle.pa_buckets.specs.Table.{rows, row_of}
 use Rattle.pa_region.specs.declared.view.Entry.{Entry}
 use Rattle.pa_region.specs.declared.view.Entry.TheVariants.{Looked, Read}
 use Rattle.pa_region.specs.Moves.{no_deeds}
@@ -153,7 +153,7 @@ free_row = inr (λ h. absurd (omega (arith, h.1)), none_on two_threads_journal 6
 
 reset_row : DoneRow roots (record { line = 11; thread = 1; phase = 3; op = ops.Reset 0; answer = answers.Done (seen_at 16384 0 0x3000002) }) (Some steps.Reset) (seen_at 16384 0 0x3000002)
     (no_caches 1) second_cache
-unfolding limit_of
+unfolding rows row_of limit_of
 reset_row = inl ((refl, refl), inl (0, 0, of_class, (refl, no_other two_threads_journal 11), λ p c. refl))
 
 -- the read touches no list

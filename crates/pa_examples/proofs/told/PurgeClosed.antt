@@ -167,7 +167,7 @@ slot_free n some_number few of =
       | inr n ↦ n.0
     ]
 
-listed : (k p class : ℕ) (m : Numbered) → k < 1 → p < 1 → class < 59 → Contains (worked.at_end k p class) m → 0 < times_in (later_slots 255) (title_of sizes m.slot)
+listed : (k p class : ℕ) (m : Numbered) → k < 1 → p < 1 → class < 170 → Contains (worked.at_end k p class) m → 0 < times_in (later_slots 255) (title_of sizes m.slot)
 listed k p class m few alone real among =
     let first : 0 ≡ k = omega arith in
     let home : 0 ≡ p = omega arith in

@@ -19,8 +19,8 @@ use Rattle.pa_rules.specs.declared.register.Register.TheVariants.{Own, Freed}
 use Rattle.pa_rules.specs.Registers.{Regs, with, no_regs}
 use Rattle.pa_rules.specs.Roots.{Journals, journal_at}
 use Rattle.pa_rules.specs.Cells.{history_at}
-use Rattle.pa_rules.specs.Caches.{IsOfClass, no_caches}
-use Rattle.pa_rules.specs.Report.{HasSize, until}
+use Rattle.pa_rules.specs.Caches.{IsOfClass, no_caches, listed_slots}
+use Rattle.pa_rules.specs.Report.{HasSize, until, listed_bytes}
 use Rattle.pa_rules.specs.Sizes.{slot_size_for}
 use Rattle.pa_rules.specs.Legal.{IsLegalTold}
 use Rattle.pa_rules.specs.Worked.{first_slot, purge_records}
@@ -244,7 +244,7 @@ heap = record {
 -- ---- the report
 
 line : IsLineSaid purge_trace told_purge seat_purge purge_told worked.at_end seat_purge (report_line 1 (tally 1 16) (tally 0 0) (tally 7 112) purge_census)
-unfolding rows row_of slot_of
+unfolding rows row_of slot_of listed_slots listed_bytes
 line = record {
   live = counted homes sizes home long;
   quarantined = record { slots = refl; bytes = refl };

@@ -51,6 +51,6 @@ module _ (ps : List Played) (s : SlotName) (low high : ℕ) (untouched : is_unto
       both_ways _ (not-true _ here)
       (subst (λ o. is_written_between s low high o p.answer ≡ true) (sym op) (subst (λ a. is_written_between s low high (ops.Write reg value) a ≡ true) (sym is) there))
 
-  -- so the value of the write at the first number is the content at the second
+  -- the value that a write at number low left is the content at number high, if no record makes or writes the slot in between
   pub content_of : (value : ℕ) → IsWrittenAt ps s low value → low < high → IsContent ps s high value
   content_of value written less = inl (low, (written, less, never_made), λ m other (at, below, none) above. never_written m other at above below)

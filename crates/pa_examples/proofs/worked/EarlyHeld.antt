@@ -13,8 +13,8 @@ use Rattle.pa_rules.specs.declared.played.Played.{Played}
 use Rattle.pa_rules.specs.Played.{marks_of}
 use Rattle.pa_rules.specs.Roots.{AreRoots, IsPoolOf, AreAllTitles}
 use Rattle.pa_rules.specs.Holders.{InRoot, AreHolders}
-use Rattle.pa_rules.specs.Caches.{Caches, with_cache, no_caches, DoneRow, CachesTo, AreCaches}
-use Rattle.pa_rules.specs.Report.{until, IsTally, HasCensus, IsReportLine, IsReport}
+use Rattle.pa_rules.specs.Caches.{Caches, with_cache, no_caches, DoneRow, CachesTo, AreCaches, listed_slots}
+use Rattle.pa_rules.specs.Report.{until, IsTally, HasCensus, IsReportLine, IsReport, listed_bytes}
 use Rattle.pa_rules.proofs.Following.{titles_follow}
 use Rattle.pa_rules.proofs.Running.{OtherLine}
 use Rattle.pa_legal.proofs.tallies.Levels.{is_live, live_is, is_live_of, is_quarantined, quarantined_is, is_quarantined_of}
@@ -164,11 +164,11 @@ abbrev IsRight : ReportLine → Type 0
 IsRight l = IsReportLine 1 2 early_read_records two_threads_pool roots l
 
 right_1 : IsRight (report_line 1 (tally 1 16) (tally 0 0) (tally 7 112) two_threads_census)
-unfolding rows row_of slot_of
+unfolding rows row_of slot_of listed_slots listed_bytes
 right_1 = record { live = live_1; quarantined = quarantined_1; cached = (after_1, cached_1, refl, refl); root = has_census 1 (lit≤ tt) }
 
 right_2 : IsRight (report_line 2 (tally 0 0) (tally 1 16) (tally 7 112) two_threads_census)
-unfolding rows row_of slot_of
+unfolding rows row_of slot_of listed_slots listed_bytes
 right_2 = record { live = live_2; quarantined = quarantined_2; cached = (after_2, cached_2, refl, refl); root = has_census 2 (lit≤ tt) }
 
 pub reported : IsReport 2 1 2 early_read_records two_threads_pool roots early_read_report

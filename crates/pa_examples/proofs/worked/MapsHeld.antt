@@ -10,8 +10,8 @@ use Rattle.pa_record.proofs.Worked.{direct_map_again}
 use Rattle.pa_rules.specs.Played.{marks_of}
 use Rattle.pa_rules.proofs.Running.{OtherLine}
 use Rattle.pa_rules.specs.Holders.{InRoot, AreHolders}
-use Rattle.pa_rules.specs.Caches.{Caches, with_cache, no_caches, IsDirect, CachesTo, AreCaches}
-use Rattle.pa_rules.specs.Report.{HasSize, IsTally, InPhases, IsReportLine, IsReport}
+use Rattle.pa_rules.specs.Caches.{Caches, with_cache, no_caches, IsDirect, CachesTo, AreCaches, listed_slots}
+use Rattle.pa_rules.specs.Report.{HasSize, IsTally, InPhases, IsReportLine, IsReport, listed_bytes}
 use Rattle.pa_legal.proofs.tallies.Levels.{is_live, live_is, is_live_of, is_quarantined, quarantined_is, is_quarantined_of}
 use Rattle.pa_examples.specs.Worked.{seen_at, tally, report_line, direct_map_records, direct_map_report}
 use Rattle.pa_examples.proofs.worked.Holders.{HasIt, IsIssued, issued, no_moves}
@@ -137,7 +137,7 @@ in_phase_1 = (
 )
 
 line_right : IsReportLine 1 1 direct_map_records direct_map_again_pool roots (report_line 1 (tally 1 2002944) (tally 0 0) (tally 0 0) direct_map_again_census)
-unfolding rows row_of slot_of
+unfolding rows row_of slot_of listed_slots listed_bytes
 line_right = record {
   live = live;
   quarantined = quarantined;

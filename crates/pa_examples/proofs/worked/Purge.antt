@@ -23,9 +23,9 @@ use Rattle.pa_rules.specs.Registers.{Regs, with, no_regs, AreRegisters}
 use Rattle.pa_rules.specs.Contents.{IsReadAllowed, AreContents}
 use Rattle.pa_rules.specs.Roots.{Journals, journal_at, IsEntry, AreRoots, IsPoolOf, AreAllTitles}
 use Rattle.pa_rules.specs.Holders.{InRoot, WithThread, AreHolders}
-use Rattle.pa_rules.specs.Caches.{Cache, Caches, with_list, with_cache, no_caches, acts_of, purge_acts, IsOfClass, MadeRow, DoneRow, CachesTo, AreCaches}
+use Rattle.pa_rules.specs.Caches.{Cache, Caches, with_list, with_cache, no_caches, acts_of, purge_acts, IsOfClass, MadeRow, DoneRow, CachesTo, AreCaches, listed_slots}
 use Rattle.pa_rules.specs.Seen.{IsSeenInOrder}
-use Rattle.pa_rules.specs.Report.{HasSize, InPhases, IsTally, IsReportLine, IsReport}
+use Rattle.pa_rules.specs.Report.{HasSize, InPhases, IsTally, IsReportLine, IsReport, listed_bytes}
 use Rattle.pa_rules.specs.Sizes.{slot_size_for, usable_of}
 use Rattle.pa_rules.specs.Worked.{first_slot, of_first_thread, purge_records}
 use Rattle.pa_rules.proofs.Following.{titles_follow}
@@ -194,10 +194,10 @@ made_row : MadeRow roots (of_first_thread 2 (ops.Alloc 0 0 8) (answers.Made (fir
 made_row = inl (0, 0, filled, rest, (0, 8, refl, class_0), (Some 0, (refl, no_other purge_journal 2)), refl, λ p c. refl)
 
 free_row : DoneRow roots (of_first_thread 3 (ops.Free 0) (answers.Done (first_slot 16777217))) (Some steps.Free) (first_slot 16777217) listed_made listed_free
-unfolding limit_of
+unfolding rows row_of limit_of
 free_row = inl ((refl, refl), inl (0, 0, of_class, (refl, no_other purge_journal 3), λ p c. refl))
 
-purged_acts : (p : ℕ) → p < 1 → acts_of roots 4 p ≡ purge_acts (listed_free p) 0 59
+purged_acts : (p : ℕ) → p < 1 → acts_of roots 4 p ≡ purge_acts (listed_free p) 0 170
 purged_acts zero below = refl
 purged_acts (suc p) below = absurd (omega arith)
 
@@ -205,6 +205,7 @@ again_row : MadeRow roots (of_first_thread 5 (ops.Alloc 1 0 8) (answers.Made (fi
 again_row = inl (0, 0, freed ∷ rest, rest, (1, 8, refl, class_0), (None, (refl, no_other purge_journal 5)), refl, λ p c. refl)
 
 pub cached_to : CachesTo 1 roots no_caches purge_records at_end
+unfolding listed_slots
 cached_to = (listed_made, made_row, (listed_free, free_row, (no_caches 0, (purged_acts, refl, λ p c. refl), (listed_again, again_row, refl))))
 
 pub cached : AreCaches 1 roots purge_records
@@ -237,7 +238,7 @@ in_phase_1 = (
 )
 
 all_right : AllByRecursion (IsReportLine 1 1 purge_records purge_pool roots) purge_report
-unfolding rows row_of slot_of
+unfolding rows row_of slot_of listed_slots listed_bytes
 all_right = (
   record {
     live = live;

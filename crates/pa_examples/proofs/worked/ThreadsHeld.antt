@@ -2,6 +2,7 @@
 use Rattle.std.proofs.Common.{[], ◌∷◌, Some, refl, arith, inl, inr, lit<}
 use Rattle.std.specs.List.{AllByRecursion}
 use Rattle.pa_slot.specs.declared.word.Step.TheVariants as steps
+use Rattle.pa_buckets.specs.Table.{rows, row_of}
 use Rattle.pa_buckets.specs.Bands.{limit_of}
 use Rattle.pa_trace.specs.declared.script.Op.TheVariants as ops
 use Rattle.pa_record.specs.declared.entry.Answer.TheVariants as answers
@@ -81,7 +82,7 @@ free_row = inr (λ h. absurd (omega (arith, h.1)), none_on two_threads_journal 6
 
 reset_row : DoneRow roots (record { line = 11; thread = 1; phase = 3; op = ops.Reset 0; answer = answers.Done (seen_at 16384 0 0x3000002) }) (Some steps.Reset) (seen_at 16384 0 0x3000002)
     (no_caches 1) second_cache
-unfolding limit_of
+unfolding rows row_of limit_of
 reset_row = inl ((refl, refl), inl (0, 0, of_class, (refl, no_other two_threads_journal 11), λ p c. refl))
 
 pub cached_1 : CachesTo 1 roots no_caches (until 1 two_threads_records) after_1

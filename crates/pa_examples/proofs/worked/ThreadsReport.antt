@@ -5,9 +5,10 @@ use Rattle.std.proofs.lemmas.List.Elements.{All-from_recursion}
 use Rattle.pa_slot.specs.Run.{IsLive, IsQuarantined}
 use Rattle.pa_buckets.specs.Table.{rows, row_of, slot_of}
 use Rattle.pa_record.specs.declared.report.ReportLine.{ReportLine}
+use Rattle.pa_rules.specs.Caches.{listed_slots}
 use Rattle.pa_rules.specs.declared.played.Played.{Played}
 use Rattle.pa_rules.specs.Played.{marks_of}
-use Rattle.pa_rules.specs.Report.{until, IsTally, HasCensus, IsReportLine, IsReport}
+use Rattle.pa_rules.specs.Report.{until, IsTally, HasCensus, IsReportLine, IsReport, listed_bytes}
 use Rattle.pa_rules.proofs.Running.{OtherLine}
 use Rattle.pa_legal.proofs.tallies.Levels.{is_live, live_is, is_live_of, is_quarantined, quarantined_is, is_quarantined_of}
 use Rattle.pa_examples.specs.Worked.{tally, report_line, two_threads_records, two_threads_journal, two_threads_pool, two_threads_census, two_threads_report}
@@ -76,15 +77,15 @@ abbrev IsRight : ReportLine → Type 0
 IsRight l = IsReportLine 1 2 two_threads_records two_threads_pool roots l
 
 right_1 : IsRight (report_line 1 (tally 1 16) (tally 0 0) (tally 7 112) two_threads_census)
-unfolding rows row_of slot_of
+unfolding rows row_of slot_of listed_slots listed_bytes
 right_1 = record { live = live_1; quarantined = quarantined_1; cached = (after_1, cached_1, refl, refl); root = has_census 1 (lit≤ tt) }
 
 right_2 : IsRight (report_line 2 (tally 0 0) (tally 1 16) (tally 7 112) two_threads_census)
-unfolding rows row_of slot_of
+unfolding rows row_of slot_of listed_slots listed_bytes
 right_2 = record { live = live_2; quarantined = quarantined_2; cached = (after_2, cached_2, refl, refl); root = has_census 2 (lit≤ tt) }
 
 right_3 : IsRight (report_line 3 (tally 0 0) (tally 0 0) (tally 8 128) two_threads_census)
-unfolding rows row_of slot_of
+unfolding rows row_of slot_of listed_slots listed_bytes
 right_3 = record { live = live_3; quarantined = quarantined_3; cached = (after_3, cached_3, refl, refl); root = has_census 3 (lit≤ tt) }
 
 pub reported : IsReport 3 1 2 two_threads_records two_threads_pool roots two_threads_report

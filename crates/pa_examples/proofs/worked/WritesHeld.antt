@@ -11,8 +11,8 @@ use Rattle.pa_record.specs.declared.entry.Answer.TheVariants as answers
 use Rattle.pa_rules.specs.Played.{marks_of}
 use Rattle.pa_rules.specs.Roots.{AreRoots, IsPoolOf, AreAllTitles}
 use Rattle.pa_rules.specs.Holders.{InRoot, AreHolders}
-use Rattle.pa_rules.specs.Caches.{Caches, with_cache, no_caches, DoneRow, CachesTo, AreCaches}
-use Rattle.pa_rules.specs.Report.{IsTally, IsReportLine, IsReport}
+use Rattle.pa_rules.specs.Caches.{Caches, with_cache, no_caches, DoneRow, CachesTo, AreCaches, listed_slots}
+use Rattle.pa_rules.specs.Report.{IsTally, IsReportLine, IsReport, listed_bytes}
 use Rattle.pa_rules.proofs.Following.{titles_follow}
 use Rattle.pa_rules.proofs.Running.{OtherLine}
 use Rattle.pa_legal.proofs.tallies.Levels.{is_live, live_is, is_live_of, is_quarantined, quarantined_is, is_quarantined_of}
@@ -125,7 +125,7 @@ quarantined : IsTally IsQuarantined roots writes_records 0 (tally 0 0)
 quarantined = (_, [], slots_of_kind IsQuarantined is_quarantined quarantined_is is_quarantined_of refl roots writes_records 0 words [] alone worded tt refl, refl, refl)
 
 all_right : AllByRecursion (IsReportLine 1 1 writes_records writes_pool roots) writes_report
-unfolding rows row_of slot_of
+unfolding rows row_of slot_of listed_slots listed_bytes
 all_right = (
   record {
     live = live;

@@ -1,7 +1,7 @@
 -- The wrong runs that were worked out fail where they do.
 use Rattle.std.proofs.Common.{◌≡◌, ℕ, zero, suc, ◌+◌, ◌<◌, max, [], ◌∷◌, refl, sym, subst, arith, inl, inr, lit<, lit≤}
 use Rattle.pa_buckets.specs.Classes.{IsClassOf}
-use Rattle.pa_buckets.proofs.Facts.{IsRow-of}
+use Rattle.pa_buckets.proofs.Facts.{IsRow_1-of}
 use Rattle.pa_trace.specs.declared.script.Op.TheVariants as ops
 use Rattle.pa_record.specs.declared.entry.Answer.TheVariants as answers
 use Rattle.pa_record.specs.declared.root.RootAct.{RootAct}
@@ -49,7 +49,7 @@ none_again (suc p) act e = absurd cc
 
 not_of_class : (size class : ℕ) → 2000000 ≡ size → IsClassOf (max size 1 + 8) class → ⊥
 not_of_class size class same h =
-    let most = (IsRow-of class h.real).greatest_slot in
+    let most = (IsRow_1-of class h.real).greatest_slot in
     let fits = h.fits in
     omega arith
 

@@ -83,7 +83,7 @@ fill_fits = refl
 
 class_0 : IsClassOf 9 0
 unfolding rows row_of slot_of
-class_0 = record { real = lit< tt; fits = lit≤ tt; least = λ d below. absurd (omega arith) }
+class_0 = record { from = lit≤ tt; real = lit< tt; fits = lit≤ tt; least = λ d from below. absurd (omega arith) }
 
 filled_fits : EntryFits 1 ps refused_told.pools refused_told.roots 0 0 filled
 filled_fits = record {

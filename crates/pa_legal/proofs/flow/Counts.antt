@@ -31,7 +31,7 @@ hit_once s k n = cond (hits s k n) 1 0
 abbrev pub at_in : SlotName → ℕ → List Numbered → ℕ
 at_in s k xs = count_by (hits s k) xs
 
-abbrev pub listed : SlotName → ℕ → (ℕ → List Numbered) → ℕ → ℕ → ℕ
+unfoldable pub listed : SlotName → ℕ → (ℕ → List Numbered) → ℕ → ℕ → ℕ
 listed s k lists class zero = 0
 listed s k lists class (suc n) = at_in s k (lists class) + listed s k lists (class + 1) n
 
@@ -94,6 +94,7 @@ pub out_gives : (s : SlotName) (k : ℕ) (xs : List Numbered) → moved_in is_ou
 out_gives s k xs = out_batches s k (length xs) xs
 
 pub back_purge : (s : SlotName) (k : ℕ) (lists : ℕ → List Numbered) (class n : ℕ) → moved_in is_back s k (purge_acts lists class n) ≡ listed s k lists class n
+unfolding listed
 back_purge s k lists class zero = refl
 back_purge s k lists class (suc n) =
     let a = moved_append is_back s k (gives (lists class)) (purge_acts lists (class + 1) n) in
@@ -113,6 +114,7 @@ out_purge s k lists class (suc n) =
 
 -- lists that agree from a class on
 pub listed_agree : (s : SlotName) (k : ℕ) (f g : ℕ → List Numbered) (from n : ℕ) → ((c : ℕ) → from ≤ c → f c ≡ g c) → listed s k f from n ≡ listed s k g from n
+unfolding listed
 listed_agree s k f g from zero same = refl
 listed_agree s k f g from (suc n) same =
     let here : at_in s k (f from) ≡ at_in s k (g from) = ap (at_in s k) (same from (omega arith)) in
@@ -122,6 +124,7 @@ listed_agree s k f g from (suc n) same =
 -- lists that agree but at one class
 listed_but_one : (s : SlotName) (k : ℕ) (f g : ℕ → List Numbered) (class from n : ℕ) → from ≤ class → class < from + n → ((c : ℕ) → (c ≡ class → ⊥) → f c ≡ g c) →
     listed s k f from n + at_in s k (g class) ≡ listed s k g from n + at_in s k (f class)
+unfolding listed
 listed_but_one s k f g class from zero low high same = absurd (omega arith)
 listed_but_one s k f g class from (suc n) low high same = elim (cases_eq from class) [
   | inl e ↦
@@ -136,6 +139,7 @@ listed_but_one s k f g class from (suc n) low high same = elim (cases_eq from cl
 ]
 
 pub listed_none : (s : SlotName) (k : ℕ) (f : ℕ → List Numbered) (from n : ℕ) → ((c : ℕ) → f c ≡ []) → listed s k f from n ≡ 0
+unfolding listed
 listed_none s k f from zero none = refl
 listed_none s k f from (suc n) none =
     let here : at_in s k (f from) ≡ 0 = ap (at_in s k) (none from) in
@@ -143,9 +147,9 @@ listed_none s k f from (suc n) none =
     omega arith
 
 -- one list of a thread was changed
-pub listed_changed : (s : SlotName) (k : ℕ) (cache after : Cache) (p class : ℕ) (xs : List Numbered) → class < 59 → ((c : ℕ) → after p c ≡ with_list cache p class xs p c) →
-    listed s k (after p) 0 59 + at_in s k (cache p class) ≡ listed s k (cache p) 0 59 + at_in s k xs
+pub listed_changed : (s : SlotName) (k : ℕ) (cache after : Cache) (p class : ℕ) (xs : List Numbered) → class < 170 → ((c : ℕ) → after p c ≡ with_list cache p class xs p c) →
+    listed s k (after p) 0 170 + at_in s k (cache p class) ≡ listed s k (cache p) 0 170 + at_in s k xs
 listed_changed s k cache after p class xs real becomes =
-    let one = listed_but_one s k (after p) (cache p) class 0 59 (omega arith) (omega arith) (λ c ne. becomes c ∙ list_of_another_class cache p class xs c ne) in
+    let one = listed_but_one s k (after p) (cache p) class 0 170 (omega arith) (omega arith) (λ c ne. becomes c ∙ list_of_another_class cache p class xs c ne) in
     let here : at_in s k (after p class) ≡ at_in s k xs = ap (at_in s k) (becomes class ∙ list_changed cache p class xs) in
     omega arith

@@ -59,12 +59,12 @@ module _ (s : SlotName) (k p : ℕ) (roots : Journals) where
   -- what a row does with the slot of partition p, with these entries and this mark
   abbrev pub Flows : List RootAct → Option Mark → Cache → Cache → Type 0
   Flows acts mark cache after =
-      listed s k (after p) 0 59 + marked (is_issue_at s k) mark + moved_in is_back s k acts ≡ listed s k (cache p) 0 59 + moved_in is_out s k acts + marked (is_return_at s k) mark
+      listed s k (after p) 0 170 + marked (is_issue_at s k) mark + moved_in is_back s k acts ≡ listed s k (cache p) 0 170 + moved_in is_out s k acts + marked (is_return_at s k) mark
 
   -- a row without entries, steps that issue or return, and changes
   quiet : (acts : List RootAct) (mark : Option Mark) (cache after : Cache) → SameLists after cache →
       moved_in is_out s k acts + marked (is_return_at s k) mark ≡ moved_in is_back s k acts + marked (is_issue_at s k) mark → Flows acts mark cache after
-  quiet acts mark cache after becomes even = let same = listed_agree s k (after p) (cache p) 0 59 (λ c low. becomes p c) in omega arith
+  quiet acts mark cache after becomes even = let same = listed_agree s k (after p) (cache p) 0 170 (λ c low. becomes p c) in omega arith
 
   none_moved : (acts : List RootAct) → acts ≡ [] → (moved_in is_out s k acts ≡ 0) × (moved_in is_back s k acts ≡ 0)
   none_moved acts e = (ap (moved_in is_out s k) e, ap (moved_in is_back s k) e)
@@ -105,13 +105,13 @@ module _ (s : SlotName) (k p : ℕ) (roots : Journals) where
         elim (cases_eq q p) [
           | inl same ↦
               let (out, back) = first_moved x.line class (cache p class) xs (subst (λ z. FilledFirst roots x.line z class (cache z class) xs) same filled) in
-              let change = listed_changed s k cache after p class rest asks.3.real (λ c. becomes p c ∙ ap (λ z. with_list cache z class rest p c) same) in
+              let change = listed_changed s k cache after p class rest (omega (arith, asks.3.real)) (λ c. becomes p c ∙ ap (λ z. with_list cache z class rest p c) same) in
               omega arith
           | inr other ↦
               let (out, back) = none_moved (acts_of roots x.line p) (keeps.others p (λ e. other (sym e))) in
               let of = keeps.known head (subst (λ zs. Contains zs head) (sym front) (first_in head rest)) in
               let away = not_of head q other (class_leaves roots seen.slot q class of) in
-              let same = listed_agree s k (after p) (cache p) 0 59 (λ c low. becomes p c ∙ list_of_another cache q class rest p c (λ e. other (sym e))) in
+              let same = listed_agree s k (after p) (cache p) 0 170 (λ c low. becomes p c ∙ list_of_another cache q class rest p c (λ e. other (sym e))) in
               omega arith
         ]
     made_flows x seen cache after known new (inr (q, size, asked, len, asks, only, becomes)) =
@@ -155,7 +155,7 @@ module _ (s : SlotName) (k p : ℕ) (roots : Journals) where
           | inr other ↦
               let (out, back) = none_moved (acts_of roots x.line p) (only.1 p (λ e. other (sym e))) in
               let away = not_of slot q other (class_leaves roots slot.slot q class of) in
-              let same = listed_agree s k (after p) (cache p) 0 59 (λ c low. becomes p c ∙ list_of_another cache q class (kept class list) p c (λ e. other (sym e))) in
+              let same = listed_agree s k (after p) (cache p) 0 170 (λ c low. becomes p c ∙ list_of_another cache q class (kept class list) p c (λ e. other (sym e))) in
               omega arith
         ]
     return_flows pools x slot mark cache after journals unmaps i o (inr (q, asked, number, direct, only, becomes)) =
@@ -214,9 +214,9 @@ module _ (s : SlotName) (k p : ℕ) (roots : Journals) where
 
   purged_flows : (partitions : ℕ) (x : Played) (slots : ℕ) (cache after : Cache) → p < partitions → PurgedRow partitions roots x slots cache after → Flows (acts_of roots x.line p) None cache after
   purged_flows partitions x slots cache after below (acts, counted, empty) =
-      let out : moved_in is_out s k (acts_of roots x.line p) ≡ 0 = ap (moved_in is_out s k) (acts p below) ∙ out_purge s k (cache p) 0 59 in
-      let back : moved_in is_back s k (acts_of roots x.line p) ≡ listed s k (cache p) 0 59 = ap (moved_in is_back s k) (acts p below) ∙ back_purge s k (cache p) 0 59 in
-      let none = listed_none s k (after p) 0 59 (empty p) in
+      let out : moved_in is_out s k (acts_of roots x.line p) ≡ 0 = ap (moved_in is_out s k) (acts p below) ∙ out_purge s k (cache p) 0 170 in
+      let back : moved_in is_back s k (acts_of roots x.line p) ≡ listed s k (cache p) 0 170 = ap (moved_in is_back s k) (acts p below) ∙ back_purge s k (cache p) 0 170 in
+      let none = listed_none s k (after p) 0 170 (empty p) in
       omega arith
 
   -- a row without entries, with a look or no mark

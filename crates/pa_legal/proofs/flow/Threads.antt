@@ -42,10 +42,10 @@ returns_at s k x = marked (is_return_at s k) (mark_of x)
 
 module _ (partitions : ℕ) (pools : List PoolEntry) (roots : Journals) (s : SlotName) (k p t : ℕ) (journals : (q : ℕ) → IsJournal pools (roots q)) (own : IsOnlyOf roots p s) (below : p < partitions) where
   pub all_flow : (xs : List Played) (all after : Caches) → ((x : Played) → Contains xs x → IsNewMap roots x × UnmapsNext roots x) → ((u : ℕ) → IsKnown roots (all u)) → CachesTo partitions roots all xs after →
-      listed s k (after t p) 0 59 + over t (issues_at s k) xs + over t (λ x. moved_in is_back s k (acts_of roots x.line p)) xs
-      ≡ listed s k (all t p) 0 59 + over t (λ x. moved_in is_out s k (acts_of roots x.line p)) xs + over t (returns_at s k) xs
+      listed s k (after t p) 0 170 + over t (issues_at s k) xs + over t (λ x. moved_in is_back s k (acts_of roots x.line p)) xs
+      ≡ listed s k (all t p) 0 170 + over t (λ x. moved_in is_out s k (acts_of roots x.line p)) xs + over t (returns_at s k) xs
   all_flow [] all after each known e =
-      let same : listed s k (after t p) 0 59 ≡ listed s k (all t p) 0 59 = ap (λ (c : Caches). listed s k (c t p) 0 59) e in
+      let same : listed s k (after t p) 0 170 ≡ listed s k (all t p) 0 170 = ap (λ (c : Caches). listed s k (c t p) 0 170) e in
       omega arith
   all_flow (x ∷ xs) all after each known (next, row, rest) =
       let (new, unmaps) = each x (first_in x xs) in
@@ -59,8 +59,8 @@ module _ (partitions : ℕ) (pools : List PoolEntry) (roots : Journals) (s : Slo
             let o : cond {A = ℕ} (x.thread == t) (returns_at s k x) 0 ≡ returns_at s k x = rw is refl in
             let b : cond {A = ℕ} (x.thread == t) (moved_in is_back s k (acts_of roots x.line p)) 0 ≡ moved_in is_back s k (acts_of roots x.line p) = rw is refl in
             let u : cond {A = ℕ} (x.thread == t) (moved_in is_out s k (acts_of roots x.line p)) 0 ≡ moved_in is_out s k (acts_of roots x.line p) = rw is refl in
-            let here : listed s k (with_cache all x.thread next t p) 0 59 ≡ listed s k (next p) 0 59 = ap (λ (c : Cache). listed s k (c p) 0 59) (with_here all x.thread next t (sym e)) in
-            let old : listed s k (all x.thread p) 0 59 ≡ listed s k (all t p) 0 59 = ap (λ z. listed s k (all z p) 0 59) e in
+            let here : listed s k (with_cache all x.thread next t p) 0 170 ≡ listed s k (next p) 0 170 = ap (λ (c : Cache). listed s k (c p) 0 170) (with_here all x.thread next t (sym e)) in
+            let old : listed s k (all x.thread p) 0 170 ≡ listed s k (all t p) 0 170 = ap (λ z. listed s k (all z p) 0 170) e in
             omega arith
         | inr other ↦
             let is = ne_eqb x.thread t other in
@@ -68,7 +68,7 @@ module _ (partitions : ℕ) (pools : List PoolEntry) (roots : Journals) (s : Slo
             let o : cond {A = ℕ} (x.thread == t) (returns_at s k x) 0 ≡ 0 = rw is refl in
             let b : cond {A = ℕ} (x.thread == t) (moved_in is_back s k (acts_of roots x.line p)) 0 ≡ 0 = rw is refl in
             let u : cond {A = ℕ} (x.thread == t) (moved_in is_out s k (acts_of roots x.line p)) 0 ≡ 0 = rw is refl in
-            let here : listed s k (with_cache all x.thread next t p) 0 59 ≡ listed s k (all t p) 0 59 = ap (λ (c : Cache). listed s k (c p) 0 59) (with_other all x.thread next t (λ e. other (sym e))) in
+            let here : listed s k (with_cache all x.thread next t p) 0 170 ≡ listed s k (all t p) 0 170 = ap (λ (c : Cache). listed s k (c p) 0 170) (with_other all x.thread next t (λ e. other (sym e))) in
             omega arith
       ]
     where

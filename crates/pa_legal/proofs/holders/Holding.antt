@@ -115,7 +115,7 @@ module _ (supers partitions : ℕ) (ps : List Played) (pools : List PoolEntry) (
         (λ x among. (new_map supers partitions ps pools roots a.journals a.pool lines a.slots a.caches x (inside xs rest x parts among), a.unmaps x (inside xs rest x parts among))) (λ u q c n among. absurd (not_in_none n among)) front in
         let out = over_lines is_out t roots s k p xs in
         let back' = over_lines is_back t roots s k p xs in
-        let start = listed_none s k (no_caches t p) 0 59 (λ c. refl) in
+        let start = listed_none s k (no_caches t p) 0 170 (λ c. refl) in
         omega arith
 
     -- before a move back its thread got the slot once more than it gave it back

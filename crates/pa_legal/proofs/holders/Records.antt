@@ -138,7 +138,7 @@ module _ (partitions : ℕ) (roots : Journals) (x : Played) (p asked : ℕ) (slo
   by_done seen (Some step) cache after is steps (inr (other, acts, becomes)) = absurd (not_none (acts p))
 
   by_purged : (slots : ℕ) (cache after : Cache) → p < partitions → PurgedRow partitions roots x slots cache after → ⊥
-  by_purged slots cache after below (acts, counted, empty) = elim (in_purge (cache p) 0 59 (Unmap asked slot) (subst (λ zs. Contains zs (Unmap asked slot)) (acts p below) among)) [
+  by_purged slots cache after below (acts, counted, empty) = elim (in_purge (cache p) 0 170 (Unmap asked slot) (subst (λ zs. Contains zs (Unmap asked slot)) (acts p below) among)) [
     | inl (ys, give) ↦ give_no_unmap asked slot ys give
     | inr purge ↦ absurd cc
   ]

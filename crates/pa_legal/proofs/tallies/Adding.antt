@@ -99,7 +99,7 @@ module _ (P : ℕ → Type 0) (up down : Step → ℕ → Bool) (test : ℕ → 
         turned false true n = refl
         turned false false n = refl
 
-    -- so no more went out than in
+    -- the marks remove no more than they add, in slots and in bytes
     went_in : WentIn up down home size p (marks_of xs)
     went_in =
         let ones = weighs (λ s. 1) in

@@ -42,7 +42,7 @@ live_balances Write u can = let (refs, held, some, none) = stepped_is Write u ca
 pub live_is : (w : ℕ) → is_live w ≡ true → IsLive w
 live_is w e = eqb-true (held_of w) 1 e
 
--- and each live word passes
+-- is_live is true of each live word
 pub is_live_of : (w : ℕ) → IsLive w → is_live w ≡ true
 is_live_of w e = eq-eqb (held_of w) 1 e
 
@@ -132,7 +132,7 @@ quarantined_balances Write u can =
     let b = quarantined_held (stepped Write u) (λ e. omega arith) in
     omega arith
 
--- and what passes is quarantined
+-- a word of which is_quarantined is true is quarantined
 pub quarantined_is : (w : ℕ) → is_quarantined w ≡ true → IsQuarantined w
 quarantined_is w e =
     let (a, b) = and_parts (held_of w == 0) (not (refs_of w == 0)) e in

@@ -184,7 +184,7 @@ next_below f n xs ys h k same now =
 abbrev pub HasGap : {A : Type 0} → (A → ℕ) → ℕ → ℕ → List A → Type 0
 HasGap f n m xs = (x : _) → Contains xs x → (f x < n) ⊎ (m ≤ f x)
 
--- so as much comes before m as before n
+-- if no line of a list is from n up to m, the part of it before line n is the part before line m
 pub below_gap : {A : Type 0} (f : A → ℕ) (n m : ℕ) (xs : List A) → n ≤ m → HasGap f n m xs → below f n xs ≡ below f m xs
 below_gap f n m [] up gap = refl
 below_gap f n m (x ∷ xs) up gap =

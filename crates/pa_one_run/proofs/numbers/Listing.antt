@@ -18,7 +18,7 @@ pub record Stands (all : Caches) (s : SlotName) (p threads : ℕ) (m : Numbered)
   pub thread : ℕ
   pub class : ℕ
   pub few : thread < threads
-  pub real : class < 59
+  pub real : class < 170
   pub among : Contains (all thread p class) m
   pub slot : m.slot ≡ s
 
@@ -32,10 +32,10 @@ nowhere all s p threads m none at =
 pub unstood : (s : SlotName) (xs : List Numbered) (m : Numbered) → stands s xs ≡ 0 → Contains xs m → m.slot ≡ s → ⊥
 unstood s xs m none among same = let some = some_times s (names xs) (subst (Contains (names xs)) same (map_in (λ (n : Numbered). n.slot) xs m among)) in omega arith
 
-pub unlisted : (cache : Cache) (s : SlotName) (p c : ℕ) (m : Numbered) → listed_times s (cache p) 0 59 ≡ 0 → c < 59 → Contains (cache p c) m → m.slot ≡ s → ⊥
+pub unlisted : (cache : Cache) (s : SlotName) (p c : ℕ) (m : Numbered) → listed_times s (cache p) 0 170 ≡ 0 → c < 170 → Contains (cache p c) m → m.slot ≡ s → ⊥
 unlisted cache s p c m none real among same = elim (cases_eq (stands s (cache p c)) 0) [
   | inl empty ↦ unstood s (cache p c) m empty among same
-  | inr some ↦ let times = some_listed s (cache p) c 0 59 (omega arith) (omega arith) (omega arith) in omega arith
+  | inr some ↦ let times = some_listed s (cache p) c 0 170 (omega arith) (omega arith) (omega arith) in omega arith
 ]
 
 -- ---- where it is
@@ -96,7 +96,7 @@ stands_emptied all s p threads thread next m empty at = record {
 -- ---- how often
 
 -- what doesn't stay of a list that got one slot more
-pub kept_times : (s : SlotName) (all : Caches) (thread p threads class : ℕ) (slot : Numbered) (next : Cache) → thread < threads → class < 59 →
+pub kept_times : (s : SlotName) (all : Caches) (thread p threads class : ℕ) (slot : Numbered) (next : Cache) → thread < threads → class < 170 →
     SameLists next (with_list (all thread) p class (kept class (slot ∷ all thread p class))) →
     cached_times s (with_cache all thread next) p threads + stands s (spilled class (slot ∷ all thread p class)) ≡ cached_times s all p threads + once s slot.slot
 kept_times s all thread p threads class slot next few real becomes =
@@ -109,8 +109,8 @@ kept_times s all thread p threads class slot next few real becomes =
 
 -- all lists of a thread
 pub emptied_times : (s : SlotName) (all : Caches) (thread p threads : ℕ) (next : Cache) → thread < threads → ((q c : ℕ) → next q c ≡ []) →
-    cached_times s (with_cache all thread next) p threads + listed_times s (all thread p) 0 59 ≡ cached_times s all p threads
+    cached_times s (with_cache all thread next) p threads + listed_times s (all thread p) 0 170 ≡ cached_times s all p threads
 emptied_times s all thread p threads next few empty =
-    let none = listed_none s (next p) 0 59 (empty p) in
+    let none = listed_none s (next p) 0 170 (empty p) in
     let cached = cached_changed s all thread p threads next few in
     omega arith

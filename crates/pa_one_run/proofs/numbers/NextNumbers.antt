@@ -154,7 +154,7 @@ module _ (a : Parts) (before rest : List Played) (x : Played) (all : Caches) (ne
 
   -- ---- a slot was made
 
-  first_numbered : (c : ℕ) (old xs : List Numbered) → c < 59 → old ≡ all x.thread p c → FilledFirst a.roots x.line p c old xs →
+  first_numbered : (c : ℕ) (old xs : List Numbered) → c < 170 → old ≡ all x.thread p c → FilledFirst a.roots x.line p c old xs →
       AreNumbered (Before ++ On) s number (λ m. Listed m ⊎ (Contains xs m × (m.slot ≡ s)))
   first_numbered c [] xs real is (asked, only) =
       filled Before On s number c asked xs Listed (λ m. Listed m ⊎ (Contains xs m × (m.slot ≡ s))) are only.0
@@ -170,7 +170,7 @@ module _ (a : Parts) (before rest : List Played) (x : Played) (all : Caches) (ne
   known : IsKnown a.roots (all x.thread)
   known = all_known a.partitions a.roots before no_caches all (λ t q c m among. absurd (not_in_none m among)) n.caches x.thread
 
-  class_here : (seen : Seen) (c : ℕ) (xs left : List Numbered) → mark_of x ≡ Some (mark_at x.line seen (Some Issue)) → c < 59 → FilledFirst a.roots x.line p c (all x.thread p c) xs →
+  class_here : (seen : Seen) (c : ℕ) (xs left : List Numbered) → mark_of x ≡ Some (mark_at x.line seen (Some Issue)) → c < 170 → FilledFirst a.roots x.line p c (all x.thread p c) xs →
       FrontIs seen xs left → SameLists next (with_list (all x.thread) p c left) → AreNumberedAfter a before x all next s p
   class_here seen c xs left marked real first front becomes =
       let mark = mark_at x.line seen (Some Issue) in
@@ -198,7 +198,7 @@ module _ (a : Parts) (before rest : List Played) (x : Played) (all : Caches) (ne
   made_next : (seen : Seen) → mark_of x ≡ Some (mark_at x.line seen (Some Issue)) → MadeRow a.roots x seen (all x.thread) next → AreNumberedAfter a before x all next s p
   made_next seen marked (inl (q, c, xs, left, asks, first, front, becomes)) = elim (cases_eq q p) [
     | inl same ↦
-        class_here seen c xs left marked asks.3.real (subst (λ z. FilledFirst a.roots x.line z c (all x.thread z c) xs) same first) front
+        class_here seen c xs left marked (omega (arith, asks.3.real)) (subst (λ z. FilledFirst a.roots x.line z c (all x.thread z c) xs) same first) front
         (subst (λ z. SameLists next (with_list (all x.thread) z c left)) same becomes)
     | inr other ↦
         let head : Numbered = record { slot = seen.slot; number = number_of seen.found.0 } in
@@ -264,8 +264,8 @@ module _ (a : Parts) (before rest : List Played) (x : Played) (all : Caches) (ne
             )
       ]
 
-  -- and what doesn't stay of its list goes back
-  return_here : (slot : Numbered) (c : ℕ) → c < 59 → AreNumbered Before s later_number (Pushed slot) → cached_times s all p a.threads + once s slot.slot ≤ 1 →
+  -- a slot's numbers hold after the record if its thread pushed a slot to a list, kept a part of that, and gave back the rest
+  return_here : (slot : Numbered) (c : ℕ) → c < 170 → AreNumbered Before s later_number (Pushed slot) → cached_times s all p a.threads + once s slot.slot ≤ 1 →
       On ≡ gives (spilled c (slot ∷ all x.thread p c)) → SameLists next (with_list (all x.thread) p c (kept c (slot ∷ all x.thread p c))) → AreNumberedAfter a before x all next s p
   return_here slot c real on one acts becomes =
       let list = slot ∷ all x.thread p c in
@@ -334,13 +334,13 @@ module _ (a : Parts) (before rest : List Played) (x : Played) (all : Caches) (ne
   purged_next slots marked (acts, counted, empty) =
       let few' = once_before in
       let times = emptied_times s all x.thread p a.threads next few empty in
-      let back = λ (m : Numbered). (c : ℕ) × (c < 59) × Contains (all x.thread p c) m in
+      let back = λ (m : Numbered). (c : ℕ) × (c < 170) × Contains (all x.thread p c) m in
       subst (λ k. AreNumbered (Before ++ On) s k Next) (sym (apart_number before x s (apart_look x s None marked)))
       (given_back Before On s number Listed Next are back
-      (λ k none. ap (ways_of s k) (acts p real_partition) ∙ purge_none s k (all x.thread p) 0 59 (λ c m below among. none m (c, omega arith, among)))
+      (λ k none. ap (ways_of s k) (acts p real_partition) ∙ purge_none s k (all x.thread p) 0 170 (λ c m below among. none m (c, omega arith, among)))
       (λ m (c, real, among) slot. record { thread = x.thread; class = c; few = few; real = real; among = among; slot = slot })
       (λ m at. stands_emptied all s p a.threads x.thread next m empty at)
-      (elim (cases_eq (listed_times s (all x.thread p) 0 59) 0) [
+      (elim (cases_eq (listed_times s (all x.thread p) 0 170) 0) [
         | inl none ↦ inl (λ m (c, real, among) slot. unlisted (all x.thread) s p c m none real among slot)
         | inr some ↦ inr (λ m at. nowhere (with_cache all x.thread next) s p a.threads m (omega arith) at)
       ]))

@@ -123,7 +123,7 @@ module _ (a : Parts) (x : Played) (p : ℕ) (s : SlotName) (real : p < a.partiti
   row_alone (answers.Made seen usable) cache after row = made_alone seen cache after row
   row_alone (answers.Done seen) cache after row = done_alone (step_of x.op) seen cache after row
   row_alone (answers.Full entry) cache after row = full_alone cache after row
-  row_alone (answers.Purged slots) cache after row = none_left _ (row.0 p real) (left_purge s (cache p) 0 59)
+  row_alone (answers.Purged slots) cache after row = none_left _ (row.0 p real) (left_purge s (cache p) 0 170)
   row_alone answer cache after row = none_left [] (row.0 p) refl
 
 alone_is : (acts : List RootAct) (act : RootAct) → IsAlone acts → Contains acts act → acts ≡ act ∷ []

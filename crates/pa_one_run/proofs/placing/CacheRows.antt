@@ -249,7 +249,7 @@ no_acts_past a n p h past = ap (λ (es : List RootEntry). map (λ (e : RootEntry
 
 purge_unasked : (a : Parts) (x : Played) (slots : ℕ) (cache next : Cache) → IsFiled a → PurgedRow a.partitions a.roots x slots cache next → on pool_line x.line a.pools ≡ []
 purge_unasked a x slots cache next h (acts, counted, empty) = asks_nothing a x.line h (λ p act among. elim (cases_lt p a.partitions) [
-  | inl less ↦ purge_names_none (cache p) 0 59 act (subst (λ zs. Contains zs act) (acts p less) among)
+  | inl less ↦ purge_names_none (cache p) 0 170 act (subst (λ zs. Contains zs act) (acts p less) among)
   | inr past ↦ absurd (not_in_none act (subst (λ zs. Contains zs act) (no_acts_past a x.line p h past) among))
 ])
 

@@ -127,7 +127,7 @@ unmap_free a p line number s h u =
     holder_of a.ps s number (moves_at (a.roots p) s number) move (h.holders.moves p s number)
     (filter_in (is_move_of s number) (flat_map (λ (e : RootEntry). moves_by e.line e.act) (a.roots p)) move all test)
 
--- so it names the number that the step on its line left
+-- if a record's line only unmaps the record's direct slot, the Unmap names the number after the one that the record found
 pub unmap_number : (a : Parts) (x : Played) (m : Mark) (p asked number : ℕ) → IsFiled a → Contains a.ps x → mark_of x ≡ Some m → IsDirect a.roots m.slot p →
     acts_of a.roots x.line p ≡ unmap_at asked m.slot number ∷ [] → number ≡ number_of m.found + 1
 unmap_number a x m p asked number h among is direct only =

@@ -117,7 +117,7 @@ pub record AreNamed (a b : Parts) (n p i j : ℕ) : Type 0 where
   pub asked : IsAsked a n p i entry
   pub asked' : IsAsked b n p j entry'
 
--- so they do if each line has one entry of a journal, which names one of the pool
+-- if two runs agree before line n and each has just one act of partition p on it, the pool entries that the acts name are there
 pub named : (a b : Parts) (n p i j : ℕ) (act act' : RootAct) → IsFiled a → IsFiled b → Agrees n a b → OnlyActs a.roots n p (act ∷ []) → OnlyActs b.roots n p (act' ∷ []) →
     asked_by act ≡ Some i → asked_by act' ≡ Some j → AreNamed a b n p i j
 named a b n p i j act act' h k agrees only only' asks asks' =

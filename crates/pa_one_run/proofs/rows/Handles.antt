@@ -194,7 +194,7 @@ holds_made a before rest all h parts rows =
     let start : HoldsMade a [] no_regs = record { registers = λ t r s e. absurd (not_some s e); cells = λ k e q s member among. absurd (not_in_none q among) } in
     made_along a [] before rest no_regs all h parts start rows
 
--- so what a step other than an allocation steps on was made before
+-- the slot that a record's answer `done` reports was made by a record before it
 pub done_made : (a : Parts) (before rest : List Played) (x : Played) (seen : Seen) → IsFiled a → a.ps ≡ before ++ x ∷ rest → x.answer ≡ Done seen → IsMadeIn before seen.slot
 done_made a before rest x seen h parts is =
     let at = row_at a before rest x h parts in

@@ -56,7 +56,7 @@ change_alike cells others (ops.Swap cell reg) answer h =
     swap_alike (slice_get (cells cell)) (slice_get (others cell)) (λ c. (reg, reg_of (found_in c))) (swapped_of answer) (λ j e. h cell reg j refl e)
 change_alike cells others ops.Purge answer h = refl
 
--- so the same answers to the same ops lead to the same registers
+-- records lead from equal registers to equal registers by two histories that have equal exchanges for their answers
 rows_alike : (f g : Facts) (all all' : AllRegs) (ps : List Played) (after after' : AllRegs) → ((q : Played) → Contains ps q → AreCellsAlike f.cells g.cells q.op q.answer) → all ≡ all' →
     RowsTo f all ps after → RowsTo g all' ps after' → after ≡ after'
 rows_alike f g all all' [] after after' alike same e d = e ∙ same ∙ sym d

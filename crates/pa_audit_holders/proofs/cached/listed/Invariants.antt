@@ -6,6 +6,6 @@ use Rattle.pa_audit_holders.proofs.cached.listed.Given as goal
 abbrev pub invariant-loop-thread : goal.invariant-loop-thread
 invariant-loop-thread l = record {
   listed : IsListed l.thread (caches_in l.caches) l.partition l.sum;
-  few : l.sum.slots ≤ 3776 * l.thread;
-  small : l.sum.bytes ≤ 3464495104 * l.thread;
+  few : l.sum.slots ≤ 10880 * l.thread;
+  small : l.sum.bytes ≤ 10695475200 * l.thread;
 }

@@ -7,6 +7,14 @@ use Rattle.pa_audit_holders.specs.Lists.{cache_in}
 use Rattle.pa_audit_holders.proofs.Leading.{back_by_class, back_by_map}
 use Rattle.pa_audit_holders.proofs.returns.go_home.Goals as goal
 
+pub put_in_list-requires-clause-class : goal.put_in_list-requires-clause-class
+put_in_list-requires-clause-class c =
+    let roots = journal_at c.args.page.now.roots in
+    let s = c.args.slot.slot in
+    let number : c.unwrap-class.result ≡ c.in-Some.number = subst (λ o. IfSome o (λ k. k ≡ c.in-Some.number)) c.unwrap-class.ensures c.of.ensures.class in
+    let home = subst (λ o. IsHomeIn roots s c.args.home.partition o) c.in-Some.is c.requires.home.goes in
+    c.requires.one.real c.args.home.partition c.unwrap-class.result (subst (λ k. IsOfClass roots s c.args.home.partition k) (sym number) home.0)
+
 pub returns-in_ok-fits-in-Some : goal.returns-in_ok-fits-in-Some
 returns-in_ok-fits-in-Some c =
     let roots = journal_at c.args.page.now.roots in

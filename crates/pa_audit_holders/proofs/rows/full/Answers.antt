@@ -7,6 +7,9 @@ use Rattle.pa_audit_holders.specs.Lists.{cache_in}
 use Rattle.pa_audit_holders.proofs.Leading.{IsRoomless, full_by_class, full_by_map, full_by_none}
 use Rattle.pa_audit_holders.proofs.rows.full.Goals as goal
 
+pub list-list-requires-clause-class : goal.list-list-requires-clause-class
+list-list-requires-clause-class c = let (reg, size, is, class) = c.in-Some.ensures.some in class.real
+
 pub returns-in-Some : goal.returns-in-Some
 returns-in-Some c =
     let roots = journal_at c.args.page.now.roots in

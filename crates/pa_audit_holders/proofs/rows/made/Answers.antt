@@ -5,6 +5,9 @@ use Rattle.pa_audit_holders.specs.Lists.{cache_in}
 use Rattle.pa_audit_holders.proofs.Leading.{made_by_class, made_by_map, made_by_none}
 use Rattle.pa_audit_holders.proofs.rows.made.Goals as goal
 
+pub made_of_class-requires-clause-class : goal.made_of_class-requires-clause-class
+made_of_class-requires-clause-class c = let (reg, size, is, class) = c.in-Some.ensures.some in class.real
+
 pub returns-in_ok-fits-in-Some : goal.returns-in_ok-fits-in-Some
 returns-in_ok-fits-in-Some c =
     let asks = subst (λ (o : Op). AsksForClass o c.in-Some.bin.partition c.in-Some.bin.class) c.op-op.ensures.op c.in-Some.ensures.some in

@@ -12,6 +12,9 @@ use Rattle.pa_heap.proofs.Fulling.{full_class_does}
 use Rattle.pa_heap.proofs.Stopped.{class_asks}
 use Rattle.pa_heap.proofs.allocs.alloc_filled.Goals as goal
 
+pub fill_list-requires-clause-small : goal.fill_list-requires-clause-small
+fill_list-requires-clause-small g c = c.requires.class.1.real
+
 pub issue-requires-clause-stake : goal.issue-requires-clause-stake
 issue-requires-clause-stake g c =
     let low : c.args.partition < 4 = let few = c.kept.ensures.stock.partitions in let here = c.requires.partition in omega arith in

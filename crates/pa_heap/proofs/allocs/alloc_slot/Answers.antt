@@ -9,6 +9,9 @@ use Rattle.pa_heap.proofs.Issuing.{issued_made, issued_budget}
 use Rattle.pa_heap.proofs.Allocated.{front_issues, front_does}
 use Rattle.pa_heap.proofs.allocs.alloc_slot.Goals as goal
 
+pub pop-requires-clause-small : goal.pop-requires-clause-small
+pop-requires-clause-small g c = c.requires.class.1.real
+
 pub issue-requires-clause-stake : goal.issue-requires-clause-stake
 issue-requires-clause-stake g c =
     let low : c.args.partition < 4 = let few = c.kept.ensures.stock.partitions in let here = c.requires.partition in omega arith in

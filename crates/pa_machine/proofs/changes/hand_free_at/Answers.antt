@@ -1,4 +1,4 @@
-use Rattle.std.proofs.Common.{◌≡◌, ◌∙◌, ◌<◌, ℕ, refl, Some, None, subst}
+use Rattle.std.proofs.Common.{◌∙◌, refl, Some, None, subst}
 use Rattle.std.proofs.lemmas.List.{get_or_default}
 use Rattle.pa_machine.specs.declared.slot.Slot.{Slot}
 use Rattle.pa_machine.specs.Tables.{IsNextSlot}

@@ -1,4 +1,4 @@
-use Rattle.std.proofs.Common.{◌≡◌, ◌+◌, ◌<◌, sym, ap, get_or, take, Err, subst}
+use Rattle.std.proofs.Common.{sym, ap, get_or, take, Err, subst}
 use Rattle.std.proofs.lemmas.List.{take_more}
 use Rattle.std.proofs.lemmas.Option.{slice_get-get_or}
 use Rattle.pa_slot.specs.declared.word.Step.TheVariants.{Issue}

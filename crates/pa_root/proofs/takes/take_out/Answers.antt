@@ -14,7 +14,7 @@ use Rattle.pa_root.proofs.takes.take_out.Goals as goal
 
 pub take_slots-titles-requires-clause-few : goal.take_slots-titles-requires-clause-few
 take_slots-titles-requires-clause-few c =
-    let real : c.args.class < 59 = search rules in
+    let real : c.args.class < 170 = search rules in
     let few = (IsRow-of c.args.class real).few_fill in
     let want = c.requires.want in
     omega arith
@@ -98,7 +98,7 @@ returns-clause-shown c p asked s ready shown =
 
 pub returns-clause-turn : goal.returns-clause-turn
 returns-clause-turn c =
-    let real : c.args.class < 59 = search rules in
+    let real : c.args.class < 170 = search rules in
     let few = (IsRow-of c.args.class real).few_fill in
     let want = c.requires.want in
     let turn = c.take_slots-titles.ensures.turn in

@@ -1,4 +1,4 @@
-use Rattle.std.proofs.Common.{◌≡◌, ◌+◌, ◌*◌, ap, arith}
+use Rattle.std.proofs.Common.{◌+◌, ◌*◌, ap, arith}
 use Rattle.pa_test_spans.specs.declared.table.Table.{Table}
 use Rattle.pa_test_spans.proofs.Counting.{kept_more}
 use Rattle.pa_test_spans.proofs.moves.drawn_moves_leave_each_list_in_turn.Goals as goal

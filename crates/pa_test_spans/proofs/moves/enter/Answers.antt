@@ -1,4 +1,4 @@
-use Rattle.std.proofs.Common.{◌≡◌, ◌≤◌, ◌+◌, length, ap, sym, subst, arith}
+use Rattle.std.proofs.Common.{◌≤◌, length, ap, sym, subst, arith}
 use Rattle.pa_spans.specs.Lists.{SpanListParts}
 use Rattle.pa_test_spans.specs.Table.{listed_spans}
 use Rattle.pa_test_spans.proofs.Counting.{few_after, turn_after}

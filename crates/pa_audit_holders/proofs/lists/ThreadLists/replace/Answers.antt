@@ -11,7 +11,7 @@ changed-sum-requires c =
     let lists = c.self.inside.lists.items in
     let p = c.args.partition in
     let n = c.number.result in
-    let real : c.number.result < 59 = omega (arith, c.number.ensures.number, c.number.ensures.bound) in
+    let real : c.number.result < 59 = omega (arith, c.number.ensures.number, c.requires.class) in
     let there = listed_there lists p n _ c.replace-replaced.result c.self.invariant.many c.requires.partition real (c.replace-replaced.ensures.value ∙ c.index_mut.ensures.value) in
     let few : c.len-after.result ≤ 64 = omega (arith, c.len-after.ensures, c.requires.few) in
     part_there lists c.self.inside.sums p c.args.class n c.len-before.result c.len-after.result c.self.invariant c.requires.partition c.number.ensures.number real (c.len-before.ensures ∙ ap length there) few
@@ -21,7 +21,7 @@ invariant_of-self c =
     let lists = c.self.inside.lists.items in
     let p = c.args.partition in
     let n = c.number.result in
-    let real : c.number.result < 59 = omega (arith, c.number.ensures.number, c.number.ensures.bound) in
+    let real : c.number.result < 59 = omega (arith, c.number.ensures.number, c.requires.class) in
     let there = listed_there lists p n _ c.replace-replaced.result c.self.invariant.many c.requires.partition real (c.replace-replaced.ensures.value ∙ c.index_mut.ensures.value) in
     let same = c.replace-replaced.ensures.after in
     let few : length c.replace-replaced.new.dest ≤ 64 = subst (λ (xs : List Numbered). length xs ≤ 64) (sym same) c.requires.few in
@@ -33,7 +33,7 @@ returns-clause-slots c =
     let lists = c.self.inside.lists.items in
     let p = c.args.partition in
     let n = c.number.result in
-    let real : c.number.result < 59 = omega (arith, c.number.ensures.number, c.number.ensures.bound) in
+    let real : c.number.result < 59 = omega (arith, c.number.ensures.number, c.requires.class) in
     listed_there lists p n _ c.replace-replaced.result c.self.invariant.many c.requires.partition real (c.replace-replaced.ensures.value ∙ c.index_mut.ensures.value) ∙ sym (listed lists p n real)
     ∙ ap (λ k. cache_in c.self.inside.lists.items c.args.partition k) c.number.ensures.number ∙ ap (λ (ls : List (List Numbered)). cache_in ls c.args.partition c.args.class) c.self.view_is
 
@@ -42,7 +42,7 @@ returns-clause-few c =
     let lists = c.self.inside.lists.items in
     let p = c.args.partition in
     let n = c.number.result in
-    let real : c.number.result < 59 = omega (arith, c.number.ensures.number, c.number.ensures.bound) in
+    let real : c.number.result < 59 = omega (arith, c.number.ensures.number, c.requires.class) in
     let there = listed_there lists p n _ c.replace-replaced.result c.self.invariant.many c.requires.partition real (c.replace-replaced.ensures.value ∙ c.index_mut.ensures.value) in
     subst (λ (xs : List Numbered). length xs ≤ 64) (sym (there ∙ sym (listed lists p n real))) (list_short lists c.self.inside.sums p n c.self.invariant c.requires.partition real)
 
@@ -51,7 +51,7 @@ returns-clause-after c =
     let lists = c.self.inside.lists.items in
     let p = c.args.partition in
     let n = c.number.result in
-    let real : c.number.result < 59 = omega (arith, c.number.ensures.number, c.number.ensures.bound) in
+    let real : c.number.result < 59 = omega (arith, c.number.ensures.number, c.requires.class) in
     cache_set lists p n c.replace-replaced.new.dest (listed_within lists p n c.self.invariant.many c.requires.partition real) real
     ∙ ap (λ (xs : List Numbered). with_list (cache_in c.self.inside.lists.items) c.args.partition c.number.result xs) c.replace-replaced.ensures.after
     ∙ ap (λ k. with_list (cache_in c.self.inside.lists.items) c.args.partition k c.args.slots) c.number.ensures.number

@@ -17,5 +17,5 @@ invariant_of-self-2 c =
       omega arith,
       omega arith,
       rw c.pop_front.ensures.capacity fits,
-      All-tail (λ (s : Freed). s.class < 59) front rest (subst HaveClasses whole classes),
+      All-tail (λ (s : Freed). s.class < 170) front rest (subst HaveClasses whole classes),
     )

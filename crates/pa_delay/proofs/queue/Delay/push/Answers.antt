@@ -27,5 +27,5 @@ invariant_of-self c =
       rw items (omega arith),
       rw items (omega arith),
       rw c.push_back_reserved.ensures.capacity fits,
-      rw items (All-push (λ (s : Freed). s.class < 59) c.self.inside.slots.items c.args.slot classes c.slot_size.ensures.bound),
+      rw items (All-push (λ (s : Freed). s.class < 170) c.self.inside.slots.items c.args.slot classes c.slot_size.ensures.bound),
     )

@@ -1,4 +1,4 @@
-use Rattle.std.proofs.Common.{◌≡◌, refl, sym, subst}
+use Rattle.std.proofs.Common.{refl, sym, subst}
 use Rattle.pa_machine.specs.Events.{State, IsSameShape}
 use Rattle.pa_machine.specs.Tables.{state_of}
 use Rattle.pa_machine.proofs.Holding.{same_shape}

@@ -1,4 +1,4 @@
-use Rattle.std.proofs.Common.{◌≡◌, ℕ, ◌+◌, ◌/◌, ◌<◌, slice_index}
+use Rattle.std.proofs.Common.{◌≡◌, ℕ, ◌+◌, ◌<◌, slice_index}
 use Rattle.pa_machine.proofs.tables.Tables.content_is.Given as goal
 
 abbrev pub invariant-loop-i : goal.invariant-loop-i

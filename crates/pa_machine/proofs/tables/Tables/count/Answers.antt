@@ -1,4 +1,4 @@
-use Rattle.std.proofs.Common.{◌≡◌, ◌/◌, ◌∙◌, refl, ap}
+use Rattle.std.proofs.Common.{◌/◌, ◌∙◌, refl, ap}
 use Rattle.std.specs.Vec.{with_item, with_items}
 use Rattle.pa_machine.specs.declared.tables.Tables.{Tables}
 use Rattle.pa_slot.specs.Count.{stepped}

@@ -1,4 +1,4 @@
-use Rattle.std.proofs.Common.{◌≡◌, ◌∙◌, ◌+◌, ◌/◌, ◌<◌, ◌≤◌, ℕ, refl, Some}
+use Rattle.std.proofs.Common.{refl, Some}
 use Rattle.std.specs.Vec.{with_items}
 use Rattle.pa_machine.specs.declared.tables.Tables.{Tables}
 use Rattle.pa_machine.specs.Tables.{IsNextSlot}

@@ -1,9 +1,9 @@
-use Rattle.std.proofs.Common.{◌≡◌, ◌∙◌, ◌+◌, ◌/◌, ◌<◌, ◌≤◌, ℕ, refl, sym, ap, Some, None, subst, arith, length, List}
+use Rattle.std.proofs.Common.{◌∙◌, ◌+◌, ℕ, refl, sym, ap, Some, None, subst, arith, length, List}
 use Rattle.std.specs.Vec.{with_items}
 use Rattle.std.proofs.lemmas.List.{with_items_is}
 use Rattle.pa_machine.specs.declared.tables.Tables.{Tables}
 use Rattle.pa_machine.specs.Tables.{IsFilled}
-use Rattle.std.proofs.Common.{Option, ◌-◌, ◌*◌}
+use Rattle.std.proofs.Common.{Option, ◌-◌}
 use Rattle.pa_machine.proofs.Handing.{hand_raw_row}
 use Rattle.pa_machine.proofs.Enabling.{raw_inside}
 use Rattle.pa_machine.proofs.tables.Tables.hand_raw.Goals as goal

@@ -1,4 +1,4 @@
-use Rattle.std.proofs.Common.{refl, ◌≡◌, ◌+◌, ◌-◌, None, ◌∙◌, arith, inl, inr}
+use Rattle.std.proofs.Common.{refl, ◌+◌, ◌-◌, None, arith, inl, inr}
 use Rattle.std.proofs.lemmas.Bool.Decides.{eqb_tells}
 use Rattle.pa_machine.proofs.Totals.{get_or_past}
 use Rattle.pa_machine.proofs.Enabling.{actor_is}

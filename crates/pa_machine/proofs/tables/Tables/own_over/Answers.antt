@@ -1,4 +1,4 @@
-use Rattle.std.proofs.Common.{◌≡◌, sym}
+use Rattle.std.proofs.Common.{sym}
 use Rattle.pa_slot.proofs.Outcomes.{if_some}
 use Rattle.pa_machine.proofs.tables.Tables.own_over.Goals as goal
 

@@ -1,4 +1,4 @@
-use Rattle.std.proofs.Common.{◌≡◌, ◌∙◌, ◌+◌, ◌/◌, ◌<◌, ◌≤◌, ℕ, refl, Some, arith}
+use Rattle.std.proofs.Common.{◌/◌, refl, Some, arith}
 use Rattle.std.specs.Vec.{with_item, with_items}
 use Rattle.pa_slot.specs.declared.title.OwnState.TheVariants.{Dirty}
 use Rattle.pa_machine.specs.declared.tables.Tables.{Tables}

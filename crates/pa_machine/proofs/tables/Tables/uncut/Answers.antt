@@ -1,4 +1,4 @@
-use Rattle.std.proofs.Common.{◌≡◌, ◌∙◌, ◌+◌, ◌/◌, ◌<◌, ◌≤◌, ℕ, refl, sym, ap, Some, None, subst, length, List}
+use Rattle.std.proofs.Common.{◌∙◌, ◌+◌, ℕ, refl, sym, ap, Some, None, subst, length, List}
 use Rattle.std.specs.Vec.{with_item, with_items}
 use Rattle.std.proofs.lemmas.List.{with_items_is}
 use Rattle.pa_machine.specs.declared.tables.Tables.{Tables}

@@ -8,6 +8,6 @@ use Rattle.pa_place.proofs.blanks.Blanks.new.Given as goal
 abbrev pub invariant-loop-class : goal.invariant-loop-class
 invariant-loop-class l = record {
   many : vec_len l.lists ≡ l._class;
-  room : vec_capacity l.lists ≡ 59;
+  room : vec_capacity l.lists ≡ 170;
   none : All (λ (v : Vec Span Global). v.items ≡ []) l.lists.items;
 }

@@ -15,7 +15,7 @@ invariant_of-self c =
     let e = ap (λ (z : RoomyRoot). z.root) c.self.view_is in
     let k = c.self.invariant.0 in
     let after = c.takes.new.self in
-    let real : c.args.class < 59 = search rules in
+    let real : c.args.class < 170 = search rules in
     let b = filled_step c.args.class c.args.want (root_of s) (root_of after) c.takes.new.titles.items (good_of s k) real c.requires.few c.takes.ensures.filled c.takes.ensures.ordered in
     let takes = subst (λ room. HasTakes c.args.class c.args.want room) (sym (ap (λ (z : RoomyRoot). z.room) c.self.view_is)) c.requires.room in
     let room = (given_room s c.self.inside.spare.items c.self.inside.room c.args.class c.args.want c.requires.some takes c.self.invariant.1).room in
@@ -29,7 +29,7 @@ returns-clause-step c = λ n.
     let e = ap (λ (z : RoomyRoot). z.root) c.self.view_is in
     let k = c.self.invariant.0 in
     let after = c.takes.new.self in
-    let real : c.args.class < 59 = search rules in
+    let real : c.args.class < 170 = search rules in
     let b = filled_step c.args.class c.args.want (root_of s) (root_of after) c.takes.new.titles.items (good_of s k) real c.requires.few c.takes.ensures.filled c.takes.ensures.ordered in
     subst (λ z. IsStep n n z (root_of after)) e (in_place n (root_of s) (root_of after) b)
 
@@ -39,7 +39,7 @@ returns-clause-maps c =
     let e = ap (λ (z : RoomyRoot). z.root) c.self.view_is in
     let k = c.self.invariant.0 in
     let after = c.takes.new.self in
-    let real : c.args.class < 59 = search rules in
+    let real : c.args.class < 170 = search rules in
     let b = filled_step c.args.class c.args.want (root_of s) (root_of after) c.takes.new.titles.items (good_of s k) real c.requires.few c.takes.ensures.filled c.takes.ensures.ordered in
     b.maps ∙ ap (λ (z : Root). z.maps) e
 
@@ -49,7 +49,7 @@ returns-clause-made c =
     let e = ap (λ (z : RoomyRoot). z.root) c.self.view_is in
     let k = c.self.invariant.0 in
     let after = c.takes.new.self in
-    let real : c.args.class < 59 = search rules in
+    let real : c.args.class < 170 = search rules in
     let b = filled_step c.args.class c.args.want (root_of s) (root_of after) c.takes.new.titles.items (good_of s k) real c.requires.few c.takes.ensures.filled c.takes.ensures.ordered in
     let m = cuts_made c.args.class c.args.want (root_of s) k.ready real in
     let same = ap (λ (f : Filled). f.root) c.takes.ensures.filled in

@@ -70,3 +70,9 @@ returns-clause-given g c =
 pub returns-in_err-give-clause-same : goal.returns-in_err-give-clause-same
 returns-in_err-give-clause-same g c =
     any_err _ _ (c.in_err-give.ensures.same ∙ lists_settled c.args.thread c.args.partition c.loop-number.number c.args.self.now c.loop-number.self c.loop-number.slots c.loop-number.invariant)
+
+pub returns-clause-slots : goal.returns-clause-slots
+returns-clause-slots g c =
+    let past = c.loop-number-test.false in
+    let last = c.loop-number.auto.number-end in
+    (purge_end c.args.thread c.args.partition c.loop-number.number c.args.self.now c.loop-number.self c.loop-number.slots c.loop-number.invariant (omega arith)).1

@@ -29,7 +29,7 @@ has_room_for-requires g c =
 pub returns-then-has_room_for-clause-opened : goal.returns-then-has_room_for-clause-opened
 returns-then-has_room_for-clause-opened g c =
     let p = g.row.P in let class = c.args.class in
-    let real : class < 59 = search rules in
+    let real : class < 170 = search rules in
     let v0 = c.args.self.now.seat.view in let js = c.args.self.now.journal.items in let l = c.args.shelf.now in
     let kept = c.requires.kept in
     let some : IsSome (span_for class (root_of v0 js)) =
@@ -154,7 +154,7 @@ returns-clause-opened g c =
       same = c.in-Ok.ensures.lists;
     } in
     let class = c.args.class in
-    let real : class < 59 = search rules in
+    let real : class < 170 = search rules in
     let s = state_of v0 js in
     let root = root_of v0 js in
     let good = kept_good p v0 js l kept in

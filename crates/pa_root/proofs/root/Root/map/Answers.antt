@@ -6,7 +6,7 @@ use Rattle.pa_slot.specs.declared.title.Title.{Title}
 use Rattle.pa_region.specs.declared.view.View.{View}
 use Rattle.pa_region.specs.Shares.{Share, byte_word_count}
 use Rattle.pa_slot.specs.Holdings.{RawByte}
-use Rattle.pa_layout.specs.Limits.{most_supers}
+use Rattle.pa_layout.specs.Limits.{region_supers}
 use Rattle.pa_region.specs.Views.{HasTitle, held_of_view, least_stake, seen_of}
 use Rattle.pa_region.specs.Hands.{CanHand, left_after, given_after}
 use Rattle.pa_region.specs.Cuts.{after_cut}
@@ -132,10 +132,10 @@ map-requires g c =
     let one : 1 ≤ c.args.shape.supers = served.one in
     let regions_are : c.ask_room-room.new.self.seat.region ≡ c.cut_map-title.new.seat.region =
     sym (c.cut_map-title.ensures.region ∙ c.take.ensures.region) in
-    let small = subst (λ z. byte_word_count z ≤ 4194304) (sym regions_are) c.placed.ensures.small in
-    let inside : (b : ℕ) → 0 < held_of_view w (RawByte b) → b < 33554432 = λ b held. let below = c.aware-2.ensures.raw b held in omega arith in
+    let small = subst (λ z. byte_word_count z ≤ 16777216) (sym regions_are) c.placed.ensures.small in
+    let inside : (b : ℕ) → 0 < held_of_view w (RawByte b) → b < 134217728 = λ b held. let below = c.aware-2.ensures.raw b held in omega arith in
     let few = few_maps p first c.args.shape.supers asked (root_of_parts w js root) note still pages.both_aware pages.run.has one inside (omega arith) in
-    record { few = subst (λ ts. length ts < most_supers) shown.kept.maps few }
+    record { few = subst (λ ts. length ts < region_supers) shown.kept.maps few }
 
 pub hand-note-requires-clause-able : goal.hand-note-requires-clause-able
 hand-note-requires-clause-able g c =

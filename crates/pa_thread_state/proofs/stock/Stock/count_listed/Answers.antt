@@ -13,10 +13,10 @@ returns-clause-few g c =
     let i : StockValue = record { thread = c.self.inside.thread; partitions = c.self.inside.partitions; view = v; registers = c.self.inside.registers; caches = map (list_in v) cs } in
     let within : place < length cs =
     let n = c.self.invariant.1.lists.count in let k = c.place_of-place.ensures.among in omega (arith, length-map cs (list_in v)) in
-    let at = cache_of i p class place (list_in v x) c.self.invariant.1 c.requires c.place_of-place.ensures.small
+    let at = cache_of i p class place (list_in v x) c.self.invariant.1 c.requires.partition c.place_of-place.ensures.small
     c.place_of-place.ensures.place (ap (list_in v) c.index.ensures ∙ sym (get_or-map (list_in v) cs place x (list_in v x) within)) in
     let len = c.len.ensures v in
     let long : length (list_in v x).titles ≡ length (titles_in i.caches p class) = ap length at.titles_are in
     let few = c.self.invariant.1.lists.few p class in
-    let kept = (c.rows_have_bounds.ensures.bounds class c.place_of-place.ensures.small).few_kept in
+    let kept = (c.rows_have_bounds.ensures.bounds class (omega (arith, c.place_of-place.ensures.small))).few_kept in
     omega arith

@@ -8,16 +8,16 @@ use Rattle.pa_thread_state.proofs.stock.Stock.fill_list.Goals as goal
 pub receive-requires-clause-only : goal.receive-requires-clause-only
 receive-requires-clause-only g c = (c.in-Ok.titles.items, c.in-Ok.ensures.gave.has)
 
-pub load-requires : goal.load-requires
-load-requires g c =
+pub load-requires-clause-can : goal.load-requires-clause-can
+load-requires-clause-can g c =
     subst (λ (ts : List Title). CanLoad c.args.partition c.args.class ts c.receive.new.self) (sym c.as_slice.ensures.value)
     (fill_can_load c.args.line c.args.partition c.args.class c.args.self.now c.ask_fill.new.self c.receive.new.self c.in-Ok.note.view c.in-Ok.titles.items
     c.remove-title.result c.remove-title.new.self.items c.ask_fill.ensures.same c.in-Ok.ensures.gave c.remove-title.ensures.value c.remove-title.ensures.items
-    c.receive.ensures c.kept.ensures.stock c.kept.ensures.aware c.kept-in-Ok.ensures.aware c.kept-in-Ok-2.ensures.aware c.requires.partition c.number.ensures.bound c.requires.empty)
+    c.receive.ensures c.kept.ensures.stock c.kept.ensures.aware c.kept-in-Ok.ensures.aware c.kept-in-Ok-2.ensures.aware c.requires.partition c.requires.small c.requires.empty)
 
 pub returns-in-Ok-clause-filled : goal.returns-in-Ok-clause-filled
 returns-in-Ok-clause-filled g c =
     fills_list c.args.line c.args.partition c.args.class c.args.self.now c.ask_fill.new.self c.receive.new.self c.load.new.self c.in-Ok.note.view c.in-Ok.titles.items
     c.remove-title.result c.remove-title.new.self.items c.ask_fill.ensures.same c.in-Ok.ensures.gave c.remove-title.ensures.value c.remove-title.ensures.items
-    c.receive.ensures c.kept-in-Ok.ensures.aware c.kept-in-Ok-2.ensures.aware c.number.ensures.bound c.requires.empty
+    c.receive.ensures c.kept-in-Ok.ensures.aware c.kept-in-Ok-2.ensures.aware c.requires.small c.requires.empty
     (subst (λ (ts : List Title). BecomesList c.args.partition c.args.class ts c.receive.new.self c.load.new.self) c.as_slice.ensures.value c.load.ensures.loaded)

@@ -58,7 +58,7 @@ invariant_of-self-2 g c =
     let least = (least_is i.thread i.view c.self.invariant.1.stake stake).0 in
     let hands = subst (λ r. HandsBack r line p titles i.view w) least c.in_ok-give_titles.ensures.gave in
     let done = batch_done s b p class keep is takes c.kept_numbers_stay.ensures c.slots_stay_seen.ensures w titles line c.kept-2.ensures.stock c.kept-2.ensures.aware
-    c.aware.ensures.aware c.requires.partition c.number.ensures.bound c.take_batch-titles.ensures.titles c.take_batch-titles.ensures.different
+    c.aware.ensures.aware c.requires.partition c.requires.small c.take_batch-titles.ensures.titles c.take_batch-titles.ensures.different
     (subst (λ (z : StockValue). HandsBack z.thread line p titles z.view w) c.self.view_is hands) in
     let now = subst (λ (z : StockValue). IsStock (record z { view = w })) (sym c.self.view_is) done.0 in
     let them = has_still i w i.registers cs refl c.self.invariant.1 c.self.invariant.2 now
@@ -75,7 +75,7 @@ returns-clause-gives g c =
     let least = (least_is i.thread i.view c.self.invariant.1.stake stake).0 in
     let hands = subst (λ r. HandsBack r line p titles i.view w) least c.in_ok-give_titles.ensures.gave in
     let done = batch_done s b p class keep is takes c.kept_numbers_stay.ensures c.slots_stay_seen.ensures w titles line c.kept-2.ensures.stock c.kept-2.ensures.aware
-    c.aware.ensures.aware c.requires.partition c.number.ensures.bound c.take_batch-titles.ensures.titles c.take_batch-titles.ensures.different
+    c.aware.ensures.aware c.requires.partition c.requires.small c.take_batch-titles.ensures.titles c.take_batch-titles.ensures.different
     (subst (λ (z : StockValue). HandsBack z.thread line p titles z.view w) c.self.view_is hands) in
     let now = subst (λ (z : StockValue). IsStock (record z { view = w })) (sym c.self.view_is) done.0 in
     let them = has_still i w i.registers cs refl c.self.invariant.1 c.self.invariant.2 now
@@ -114,5 +114,5 @@ returns-in_err-give_titles-clause-refused g c =
     let them = has_still i w i.registers c.self.inside.caches.items refl c.self.invariant.1 c.self.invariant.2
     (back_stock c.slots_stay_seen.ensures i w c.self.invariant.1 back) (λ p class t among. back.words (t.start / 8)) in
     any_err c.from_residual.result _ (refused c.args.self.now c.take_batch-titles.new.self _ w c.args.partition c.args.class c.args.keep c.kept.ensures.stock
-    c.requires.partition c.number.ensures.bound c.take_batch-titles.ensures.rest (subst (λ (z : StockValue). TakesBack z.view w) c.self.view_is back)
+    c.requires.partition c.requires.small c.take_batch-titles.ensures.rest (subst (λ (z : StockValue). TakesBack z.view w) c.self.view_is back)
     (after_as i w w i.registers c.self.inside.caches.items refl them ∙ ap (λ (z : StockValue). record z { view = w }) c.self.view_is))

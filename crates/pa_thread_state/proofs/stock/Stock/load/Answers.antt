@@ -18,12 +18,12 @@ use Rattle.pa_thread_state.proofs.stock.Stock.load.Goals as goal
 pub all_placed-requires : goal.all_placed-requires
 all_placed-requires g c =
     let i : StockValue = record { thread = c.self.inside.thread; partitions = c.self.inside.partitions; view = c.self.inside.seat.view; registers = c.self.inside.registers; caches = map (list_in c.self.inside.seat.view) c.self.inside.caches.items } in
-    loads_free i c.args.partition c.args.class c.args.titles.now (subst (λ (z : StockValue). CanLoad c.args.partition c.args.class c.args.titles.now z) (sym c.self.view_is) c.requires)
+    loads_free i c.args.partition c.args.class c.args.titles.now (subst (λ (z : StockValue). CanLoad c.args.partition c.args.class c.args.titles.now z) (sym c.self.view_is) c.requires.can)
 
 pub load-requires-clause-empty : goal.load-requires-clause-empty
 load-requires-clause-empty g c =
     let i : StockValue = record { thread = c.self.inside.thread; partitions = c.self.inside.partitions; view = c.self.inside.seat.view; registers = c.self.inside.registers; caches = map (list_in c.self.inside.seat.view) c.self.inside.caches.items } in
-    let can = subst (λ (z : StockValue). CanLoad c.args.partition c.args.class c.args.titles.now z) (sym c.self.view_is) c.requires in
+    let can = subst (λ (z : StockValue). CanLoad c.args.partition c.args.class c.args.titles.now z) (sym c.self.view_is) c.requires.can in
     let v = c.self.inside.seat.view in let cs = c.self.inside.caches.items in let x = c.index_mut-cache.result.now in
     let within : c.place_of-place.result < length cs =
     let n = c.self.invariant.1.lists.count in let k = c.place_of-place.ensures.among in omega (arith, length-map cs (list_in v)) in
@@ -35,12 +35,12 @@ load-requires-clause-empty g c =
 pub load-requires-clause-free : goal.load-requires-clause-free
 load-requires-clause-free g c =
     let i : StockValue = record { thread = c.self.inside.thread; partitions = c.self.inside.partitions; view = c.self.inside.seat.view; registers = c.self.inside.registers; caches = map (list_in c.self.inside.seat.view) c.self.inside.caches.items } in
-    loads_free i c.args.partition c.args.class c.args.titles.now (subst (λ (z : StockValue). CanLoad c.args.partition c.args.class c.args.titles.now z) (sym c.self.view_is) c.requires)
+    loads_free i c.args.partition c.args.class c.args.titles.now (subst (λ (z : StockValue). CanLoad c.args.partition c.args.class c.args.titles.now z) (sym c.self.view_is) c.requires.can)
 
 pub load-requires-clause-size : goal.load-requires-clause-size
 load-requires-clause-size g c =
     let i : StockValue = record { thread = c.self.inside.thread; partitions = c.self.inside.partitions; view = c.self.inside.seat.view; registers = c.self.inside.registers; caches = map (list_in c.self.inside.seat.view) c.self.inside.caches.items } in
-    let can = subst (λ (z : StockValue). CanLoad c.args.partition c.args.class c.args.titles.now z) (sym c.self.view_is) c.requires in
+    let can = subst (λ (z : StockValue). CanLoad c.args.partition c.args.class c.args.titles.now z) (sym c.self.view_is) c.requires.can in
     let v = c.self.inside.seat.view in let cs = c.self.inside.caches.items in let x = c.index_mut-cache.result.now in
     let within : c.place_of-place.result < length cs =
     let n = c.self.invariant.1.lists.count in let k = c.place_of-place.ensures.among in omega (arith, length-map cs (list_in v)) in
@@ -55,7 +55,7 @@ invariant_of-self g c =
     let w = c.load.new.seat.view in let y = c.load.new.self in let place = c.place_of-place.result in
     let p = c.args.partition in let class = c.args.class in let ts = c.args.titles.now in
     let i : StockValue = record { thread = c.self.inside.thread; partitions = c.self.inside.partitions; view = v; registers = c.self.inside.registers; caches = map (list_in v) cs } in
-    let can = subst (λ (z : StockValue). CanLoad p class ts z) (sym c.self.view_is) c.requires in
+    let can = subst (λ (z : StockValue). CanLoad p class ts z) (sym c.self.view_is) c.requires.can in
     let aware = subst (λ (z : StockValue). IsAware z.view) (sym c.self.view_is) c.kept.ensures.aware in
     let long : length cs ≡ 236 = sym (length-map cs (list_in v)) ∙ c.self.invariant.1.lists.count in
     let within : place < length cs = let k = c.place_of-place.ensures.among in omega arith in
@@ -79,7 +79,7 @@ returns-clause-loaded g c =
     let w = c.load.new.seat.view in let y = c.load.new.self in let place = c.place_of-place.result in
     let p = c.args.partition in let class = c.args.class in let ts = c.args.titles.now in
     let i : StockValue = record { thread = c.self.inside.thread; partitions = c.self.inside.partitions; view = v; registers = c.self.inside.registers; caches = map (list_in v) cs } in
-    let can = subst (λ (z : StockValue). CanLoad p class ts z) (sym c.self.view_is) c.requires in
+    let can = subst (λ (z : StockValue). CanLoad p class ts z) (sym c.self.view_is) c.requires.can in
     let aware = subst (λ (z : StockValue). IsAware z.view) (sym c.self.view_is) c.kept.ensures.aware in
     let long : length cs ≡ 236 = sym (length-map cs (list_in v)) ∙ c.self.invariant.1.lists.count in
     let within : place < length cs = let k = c.place_of-place.ensures.among in omega arith in

@@ -17,6 +17,12 @@ use Rattle.pa_thread_state.proofs.stock.Stock.purge_partition.Goals as goal
 pub loop-number-init : goal.loop-number-init
 loop-number-init g c = record { some = lists_none c.args.line c.args.partition c.args.self.now; count = slots_none c.args.self.now c.args.partition; few = omega arith; budget = refl }
 
+pub count_listed-count-requires-clause-small : goal.count_listed-count-requires-clause-small
+count_listed-count-requires-clause-small g c = omega (arith, c.class_numbered-class.ensures, c.loop-number-test.true)
+
+pub give_tail-requires-clause-small : goal.give_tail-requires-clause-small
+give_tail-requires-clause-small g c = omega (arith, c.class_numbered-class.ensures, c.loop-number-test.true)
+
 pub give_tail-requires-clause-stake : goal.give_tail-requires-clause-stake
 give_tail-requires-clause-stake g c =
     lists_stake c.args.line c.args.partition c.loop-number.number c.args.self.now c.loop-number.self c.loop-number.invariant.some c.requires.stake
