@@ -1,5 +1,5 @@
 -- What the clauses before a clause grant its checker; and that of places which aren't there nothing is asked.
-use Rattle.std.proofs.Common.{◌≡◌, ℕ, ◌<◌, ◌≤◌, ◌^◌, List, [], length, get_or, zip, Some, sym, ap, subst, arith, inl, inr}
+use Rattle.std.proofs.Common.{◌≡◌, ℕ, ◌<◌, ◌≤◌, ◌^◌, List, [], length, get_or, zip, Some, sym, ◌∙◌, ap, subst, arith, inl, inr}
 use Rattle.std.specs.Prelude.{All, slice_get, sum_by}
 use Rattle.std.proofs.lemmas.Bool.{cases_lt}
 use Rattle.std.proofs.lemmas.List.{get_or_past, length-map}
@@ -10,6 +10,10 @@ use Rattle.std.proofs.lemmas.Option.{slice_get_within}
 use Rattle.pa_slot.specs.declared.word.SlotName.{SlotName}
 use Rattle.pa_trace.specs.declared.script.Trace.{Trace}
 use Rattle.pa_trace.specs.Limits.{IsWithinLimits}
+use Rattle.pa_trace.specs.Rules.{rules_of}
+use Rattle.pa_trace.specs.declared.script.Rules.{Rules}
+use Rattle.pa_rules.proofs.Ruling.{told_version, record_rules}
+use Rattle.pa_rules.proofs.Versions.{real_first}
 use Rattle.pa_record.specs.declared.run.Run.{Run}
 use Rattle.pa_record.specs.RunText.{history_of, journal_of}
 use Rattle.pa_rules.specs.declared.played.Played.{Played}
@@ -45,16 +49,19 @@ pub all_within : (t : Trace) (r : Run) (ps : List Played) → AreRecordsOf t r p
 all_within t r ps same limits = subst (λ qs. All IsPlayedWithin qs) (sym same) (records_are_within t r.entries.items limits)
 
 pub phases_rise : (t : Trace) (r : Run) (ps : List Played) → AreRecordsOf t r ps → RiseByPhase ps
-phases_rise t r ps same = subst RiseByPhase (sym same) (phased_played t.lines r.entries.items)
+phases_rise t r ps same = subst RiseByPhase (sym same) (phased_played (rules_of t) t.lines r.entries.items)
 
-pub are_due : (t : Trace) (r : Run) → Holds clauses.Lines t r → AreDue t.lines r.entries.items
+pub are_due : (t : Trace) (r : Run) → Holds clauses.Lines t r → AreDue (rules_of t) t.lines r.entries.items
 are_due t r holds = (lines_are_places t (told_by r)).1 holds
 
 pub of_threads : (t : Trace) (r : Run) (ps : List Played) → AreRecordsOf t r ps → IsWithinLimits t → Holds clauses.Lines t r → AreOfThreads16 ps
 of_threads t r ps same limits holds = subst AreOfThreads16 (sym same) (due_have_lines.threads t (told_by r) limits (are_due t r holds))
 
-pub registers_held : (t : Trace) (r : Run) (ps : List Played) → AreRecordsOf t r ps → Holds clauses.Registers t r → (i : ℕ) → RegistersDemand usable_of (history_of r) ps (places.Record i)
-registers_held t r ps same holds i = subst (λ qs. RegistersDemand usable_of (history_of r) qs (places.Record i)) (sym same) (holds (places.Record i))
+pub registers_held : (t : Trace) (r : Run) (ps : List Played) → AreRecordsOf t r ps → IsWithinLimits t → Holds clauses.Registers t r
+    → (i : ℕ) → RegistersDemand (usable_of 1) (history_of r) ps (places.Record i)
+registers_held t r ps same limits holds i =
+    subst (λ qs. RegistersDemand (usable_of 1) (history_of r) qs (places.Record i)) (sym same)
+    (subst (λ v. RegistersDemand (usable_of v) (history_of r) (records_of t (told_by r)) (places.Record i)) limits.version (holds (places.Record i)))
 
 pub slots_held : (t : Trace) (r : Run) (ps : List Played) → AreRecordsOf t r ps → Holds clauses.Slots t r → (i : ℕ) → SlotsDemand ps (places.Record i)
 slots_held t r ps same holds i = subst (λ qs. SlotsDemand qs (places.Record i)) (sym same) (holds (places.Record i))
@@ -67,22 +74,30 @@ exchanges_held t r ps same holds k j = subst (λ qs. CellsDemand (history_of r) 
 
 pub all_of_threads : (t : Trace) (r : Run) (ps : List Played) → AreRecordsOf t r ps → IsWithinLimits t → Holds clauses.Lines t r → All IsOfThreads ps
 all_of_threads t r ps same limits holds k d below =
-    let lines = subst (λ qs. AreLines t.lines qs) (sym same) (records_are_lines.lines t.lines r.entries.items (are_due t r holds)) in
+    let lines = subst (λ qs. AreLines (rules_of t) t.lines qs) (sym same) (records_are_lines.lines (rules_of t) t.lines r.entries.items (are_due t r holds)) in
     let (thread, op) = records_within t ps (get_or ps k d) limits lines (Contains-get_or ps k d below) in
-    let few = limits.head.2 in
-    (omega (arith, few, thread), names_within t.partitions (get_or ps k d).op limits.head.1.1 op)
+    let few = limits.head.2 in (
+      omega (arith, few, thread),
+      names_within t.partitions (get_or ps k d).op limits.head.1.1 op,
+      ap (λ (z : Rules). z.version) (record_rules (rules_of t) t.lines ps (get_or ps k d) lines (Contains-get_or ps k d below)) ∙ limits.version,
+    )
 
 -- ---- the pool and the journals
 
 pub pool_fits : (t : Trace) (r : Run) → Holds clauses.Pool t r → DoAllFit t.region r.pool.items
 pool_fits t r holds j e at = (holds (places.Pool j) e at).fits
 
-pub homes_held : (t : Trace) (r : Run) → Holds clauses.Lines t r → Holds clauses.Pool t r → Holds clauses.Roots t r → (s : SlotName) → HasOneHome (journal_of r) s
-homes_held t r lines pool roots s =
+pub homes_held : (t : Trace) (r : Run) → IsWithinLimits t → Holds clauses.Lines t r → Holds clauses.Pool t r → Holds clauses.Roots t r → (s : SlotName) → HasOneHome (journal_of r) s
+homes_held t r limits lines pool roots s =
     let u = told_by r in
     let due = are_due t r lines in
     let kind = one_kind t.region t.partitions (records_of t u) u.pools u.roots s ((roots_are_places t u due).1 roots) ((pool_is_places t u due).1 pool) in
-    record { class = kind.class; real = kind.real; direct = kind.direct; either = kind.either }
+    record {
+      class = kind.class;
+      real = λ p c of. let (x, among, has) = kind.real p c of in real_first x.rules.version c (told_version t u x limits among) has;
+      direct = kind.direct;
+      either = kind.either;
+    }
 
 -- ---- numbers of 32 bits
 
@@ -109,7 +124,7 @@ zip_short xs ys = let long = length-zip xs ys in omega (arith, long)
 
 no_record : (t : Trace) (r : Run) (i : ℕ) (x : Played) → (i < length r.entries.items → ⊥) → slice_get (records_of t (told_by r)) i ≡ Some x → ⊥
 no_record t r i x none at =
-    let os = op_lines 2 1 t.lines in
+    let os = op_lines (rules_of t) 2 1 t.lines in
     let within = slice_get_within (records_of t (told_by r)) i x at in
     let long = length-map (zip os r.entries.items) beside in
     let few = zip_short os r.entries.items in

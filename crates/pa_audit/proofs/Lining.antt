@@ -1,10 +1,14 @@
 -- From the first place of a clause to the first line at which it fails.
-use Rattle.std.proofs.Common.{ℕ, ◌+◌, ◌<◌, ◌≤◌, List, length, Option, Some, None, refl, sym, ◌∙◌, arith, inl, inr}
-use Rattle.std.specs.Prelude.{IfSome}
+use Rattle.std.proofs.Common.{◌≡◌, ℕ, ◌+◌, ◌<◌, ◌≤◌, List, length, map, Option, Some, None, refl, sym, ◌∙◌, arith, inl, inr}
+use Rattle.std.specs.Prelude.{IfSome, slice_get}
 use Rattle.std.specs.Option.{option_map}
 use Rattle.std.proofs.lemmas.Bool.{cases_lt}
-use Rattle.std.proofs.lemmas.Option.{slice_get_past}
+use Rattle.std.proofs.lemmas.List.{length-map}
+use Rattle.std.proofs.lemmas.Option.{slice_get_cases, slice_get_past}
+use Rattle.pa_trace.specs.declared.script.Line.{Line}
+use Rattle.pa_trace.specs.declared.script.Rules.{Rules}
 use Rattle.pa_trace.specs.declared.script.Trace.{Trace}
+use Rattle.pa_record.specs.declared.entry.Entry.{Entry}
 use Rattle.pa_record.specs.declared.run.Run.{Run}
 use Rattle.pa_lists.proofs.Members.{not_some}
 use Rattle.pa_rules.specs.declared.played.Played.{Played}
@@ -13,7 +17,8 @@ use Rattle.pa_rules.specs.declared.verdict.Clause.TheVariants as clauses
 use Rattle.pa_rules.specs.declared.verdict.Place.{Place}
 use Rattle.pa_rules.specs.declared.verdict.Place.TheVariants as places
 use Rattle.pa_rules.specs.Places.{line_at}
-use Rattle.pa_rules.specs.RecordDemands.{IsRecord}
+use Rattle.pa_rules.specs.Played.{key_of_entry, key_of_line, op_lines}
+use Rattle.pa_rules.specs.RecordDemands.{IsRecord, LinesDemand}
 use Rattle.pa_rules.specs.Tells.{TellsFirst}
 use Rattle.pa_rules.specs.Told.{told_by}
 use Rattle.pa_rules.specs.Verdicts.{Demand}
@@ -88,6 +93,26 @@ first_there ps n P None few none tells = tt
 first_there ps n P (Some i) few none (unmet, before) = elim (cases_lt i (length ps)) [
   | inl less ↦ omega (arith, less, few)
   | inr past ↦ absurd (unmet (none i (λ x at. not_some x (sym (slice_get_past ps i past) ∙ at))))
+]
+
+-- ---- a list beside the one that is due
+
+-- where the first of two lists that are the same so far ends, both do
+pub same_beyond : {A : Type 0} (xs ys : List A) (k i : ℕ) → k ≡ length xs → k < i → slice_get xs k ≡ slice_get ys k
+    → slice_get xs i ≡ slice_get ys i
+same_beyond xs ys k i end past same = elim ((slice_get_cases ys k).1) [
+  | inl more ↦ absurd (not_some more.0 (sym (slice_get_past xs k (omega (arith, end))) ∙ same ∙ more.2))
+  | inr few ↦ slice_get_past xs i (omega (arith, end, past)) ∙ sym (slice_get_past ys i (omega (arith, few.0, past)))
+]
+
+-- a record that isn't the one that is due is there, or it is missing at the end
+pub line_there : (rules : Rules) (ls : List Line) (es : List Entry) (n : ℕ) (o : Option ℕ) → length es < n
+    → TellsFirst (λ i. LinesDemand rules ls es (places.Record i)) o → IfSome o (λ i. i < n)
+line_there rules ls es n None few tells = tt
+line_there rules ls es n (Some i) few (unmet, before) = elim (cases_lt (length es) i) [
+  | inl past ↦ absurd (unmet (same_beyond (map key_of_entry es) (map key_of_line (op_lines rules 2 1 ls)) (length es) i
+      (sym (length-map es key_of_entry)) past (before (length es) past)))
+  | inr most ↦ omega (arith, most, few)
 ]
 
 -- ---- the clause that speaks of the report alone

@@ -38,7 +38,8 @@ above_record Meets i before (places.Pool j) less = absurd less
 above_record Meets i before (places.Cell k j) less = absurd less
 above_record Meets i before (places.Report j) less = absurd less
 
-above_root : (Meets : Place → Type 0) (p j : ℕ) → ((i : ℕ) → Meets (places.Record i)) → ((q i : ℕ) → IsAbove q i p j → Meets (places.Root q i)) → (other : Place) → Precedes other (places.Root p j) → Meets other
+above_root : (Meets : Place → Type 0) (p j : ℕ) → ((i : ℕ) → Meets (places.Record i))
+    → ((q i : ℕ) → IsAbove q i p j → Meets (places.Root q i)) → (other : Place) → Precedes other (places.Root p j) → Meets other
 above_root Meets p j records before (places.Record i) less = records i
 above_root Meets p j records before (places.Root q i) less = before q i less
 above_root Meets p j records before (places.Pool i) less = absurd less
@@ -67,7 +68,8 @@ pool_told supers ps pools roots None tells = all_told (PoolDemand supers ps pool
 
 -- ---- cells: of records, and of exchanges after them
 
-pub swap_told : (cells : ℕ → List CellEntry) (ps : List Played) (at : ℕ) → TellsFirst (λ i. CellsDemand cells ps (places.Record i)) (Some at) → TellsPlace (CellsDemand cells ps) (Some (places.Record at))
+pub swap_told : (cells : ℕ → List CellEntry) (ps : List Played) (at : ℕ)
+    → TellsFirst (λ i. CellsDemand cells ps (places.Record i)) (Some at) → TellsPlace (CellsDemand cells ps) (Some (places.Record at))
 swap_told cells ps at (unmet, before) = (unmet, above_record (CellsDemand cells ps) at before)
 
 pub exchange_told : (cells : ℕ → List CellEntry) (ps : List Played) (k at : ℕ) → TellsFirst (λ i. CellsDemand cells ps (places.Record i)) None →

@@ -44,7 +44,7 @@ pub fn audit_dense(alloc: Global, trace: &Trace, run: &DenseRun) -> Result<Verdi
     requires short { HasLines32 run.now }
     ensures { IfOk result (λ v. IsVerdict v trace.now run.now) }
 {
-    let records = records_of(alloc, trace.lines.as_slice(), run.entries())?;
+    let records = records_of(alloc, trace.rules(), trace.lines.as_slice(), run.entries())?;
     let salt = Salt::of(records.as_slice(), run.roots());
     let mut known = known_at_first(alloc, salt, trace, records.as_slice())?;
     for at in 0..CLAUSES {

@@ -26,7 +26,14 @@ full_named roots x j reg p size answer op has j' reg' p' size' answer' op' =
 -- what fills a place past the end
 abbrev pub no_played : Played
 no_played =
-    record { line = 0; thread = 0; phase = 0; op = ops.Alloc 0 0 0; answer = answers.Made (record { slot = record { start = 0; born = 0 }; found = record { 0 = 0 } }) 0 }
+    record {
+      line = 0;
+      thread = 0;
+      phase = 0;
+      rules = record { version = 0; plain_from = 0 };
+      op = ops.Alloc 0 0 0;
+      answer = answers.Made (record { slot = record { start = 0; born = 0 }; found = record { 0 = 0 } }) 0;
+    }
 
 -- what the clause requires of a record, and what the test says of it
 abbrev pub NamesFullAt : Journals → List Played → ℕ → Type 0

@@ -1,6 +1,7 @@
 -- Records whose lines rise, one by one.
 use Rattle.std.proofs.Common.{◌≡◌, ℕ, ◌<◌, List, Some, arith}
 use Rattle.std.specs.Prelude.{slice_get}
+use Rattle.pa_trace.specs.Rules.{rules_of}
 use Rattle.pa_rules.specs.declared.played.Played.{Played}
 use Rattle.pa_rules.specs.Told.{records_of}
 use Rattle.pa_rules.proofs.Numbering.{lines_rise}
@@ -16,9 +17,9 @@ pub record HaveRisen (ps : List Played) (n least : ℕ) : Type 0 where
 -- the records that are due
 pub due_have_lines : RecordsHaveLines
 due_have_lines = record {
-  rising = λ t r due. lines_rise t.lines (records_of t r) (records_are_lines.lines t.lines r.entries due);
+  rising = λ t r due. lines_rise (rules_of t) t.lines (records_of t r) (records_are_lines.lines (rules_of t) t.lines r.entries due);
   threads = λ t r within due x among.
-      let below = (records_within t (records_of t r) x within (records_are_lines.lines t.lines r.entries due) among).0 in
+      let below = (records_within t (records_of t r) x within (records_are_lines.lines (rules_of t) t.lines r.entries due) among).0 in
       let few = within.head.2 in
       omega arith;
 }

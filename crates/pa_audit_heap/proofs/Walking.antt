@@ -45,7 +45,7 @@ walked_none supers phases ps pools es w seen root plan least none = record {
 pub record IsTaken (partitions : ℕ) (ps : List Played) (pools : List PoolEntry) (p : ℕ) (w : Walk) (e : RootEntry) (x : Played) : Type 0 where
   pub partition : p < partitions
   pub is : IsTheRecord ps e.line (Some x)
-  pub makes : MakesEntry pools p e.act x.op
+  pub makes : MakesEntry pools p e.act x
   pub from : AsksFrom w.least (asked_by e.act)
   pub behind : IsBehind w.order x
 

@@ -1,73 +1,73 @@
-ghost use Rattle.std.specs.Prelude.{◌≡◌, ℕ, ◌+◌, ◌≤◌, ◌↔◌, ◌⊎◌, max, IfNone, IfSome, IsTrue};
+ghost use Rattle.std.specs.Prelude.{◌≡◌, ℕ, ◌+◌, ◌<◌, ◌≤◌, ◌↔◌, ◌⊎◌, max, IfNone, IfSome, IsTrue};
 ghost use Rattle.pa_dense.specs.Act.{act_of};
-ghost use Rattle.pa_buckets.specs.Classes.{IsClassOf};
-ghost use Rattle.pa_direct.specs.Shapes.{shape_of};
+ghost use Rattle.pa_buckets.specs.Classes.{IsClassIn};
+ghost use Rattle.pa_direct.specs.Shapes.{greatest_in_class, shape_of};
 ghost use Rattle.pa_record.specs.Pool.{FoundNone};
 ghost use Rattle.pa_rules.specs.Roots.{AsksForClass, AsksForMap, IsFreeing, MakesEntry, MakesFull};
 
 use crate::pool_acts::found_none;
-use pa_buckets::{Class, class_of, raw_of};
+use pa_audit_records::{class_for, is_map_size};
+use pa_buckets::Class;
 use pa_dense::Act;
-use pa_direct::{GREATEST_IN_CLASS, GREATEST_SIZE, shape};
+use pa_direct::shape;
 use pa_record::PoolEntry;
+use pa_rules::Played;
 use pa_trace::Op;
 
-// Whether the op makes this entry of the partition's journal.
-pub(crate) fn makes_entry(pools: &[PoolEntry], partition: u32, act: Act<'_>, op: Op) -> bool
-    ensures { IsTrue result ↔ MakesEntry pools.now partition (act_of act.entry) op }
+// Whether the record makes this entry of the partition's journal.
+pub(crate) fn makes_entry(pools: &[PoolEntry], partition: u32, act: Act<'_>, told: Played) -> bool
+    ensures { IsTrue result ↔ MakesEntry pools.now partition (act_of act.entry) told }
 {
     match act {
-        Act::Fill { class, .. } => asks_for_class(op, partition, class),
-        Act::Map { len, .. } => makes_map(op, partition, len),
+        Act::Fill { class, .. } => asks_for_class(told, partition, class),
+        Act::Map { len, .. } => makes_map(told, partition, len),
         Act::Full { class, pool } => match class {
-            Some(class) => asks_for_class(op, partition, class),
-            None => makes_full_map(pools, op, partition, pool),
+            Some(class) => asks_for_class(told, partition, class),
+            None => makes_full_map(pools, told, partition, pool),
         },
-        Act::Give { .. } => is_freeing(op) || is_purge(op),
-        Act::Unmap { .. } => is_freeing(op),
-        Act::Purge => is_purge(op),
+        Act::Give { .. } => is_freeing(told.op) || is_purge(told.op),
+        Act::Unmap { .. } => is_freeing(told.op),
+        Act::Purge => is_purge(told.op),
     }
 }
 
-// Whether the op asks the partition for a slot of the class.
-fn asks_for_class(op: Op, partition: u32, class: Class) -> bool
-    ensures { IsTrue result ↔ AsksForClass op partition class }
+// Whether the record asks the partition for a slot of the class.
+fn asks_for_class(told: Played, partition: u32, class: Class) -> bool
+    ensures { IsTrue result ↔ AsksForClass told partition class }
 {
-    match op {
+    match told.op {
         Op::Alloc {
             partition: asked,
             size,
             ..
-        } => asked == partition && has_class(size, class),
+        } => asked == partition && has_class(told.rules.version, size, class),
         _ => false,
     }
 }
 
-// Whether a request of that many bytes is of the class.
-fn has_class(size: u32, class: Class) -> bool
-    ensures { IsTrue result ↔ IsClassOf (max size 1 + 8) class }
+// Whether a request of that many bytes is of the class in the version.
+fn has_class(version: u32, size: u32, class: Class) -> bool
+    ensures { IsTrue result ↔ IsClassIn version (max size 1 + 8) class }
 {
-    if size > GREATEST_SIZE {
-        return false;
-    }
-    match class_of(raw_of(size)) {
+    match class_for(version, size) {
         Some(found) => found.number() == class.number(),
         None => false,
     }
 }
 
-// The bytes of the direct map for which the op asks the partition.
-fn map_size(op: Op, partition: u32) -> Option<u32>
-    ensures some { IfSome result (AsksForMap op partition) }
-    ensures none { IfNone result ((size : ℕ) → AsksForMap op partition size → ⊥) }
+// The bytes of the direct map for which the record asks the partition.
+fn map_size(told: Played, partition: u32) -> Option<u32>
+    ensures some { IfSome result (AsksForMap told partition) }
+    ensures large { IfSome result (λ size. greatest_in_class < size) }
+    ensures none { IfNone result ((size : ℕ) → AsksForMap told partition size → ⊥) }
 {
-    match op {
+    match told.op {
         Op::Alloc {
             partition: asked,
             size,
             ..
         } => {
-            if asked == partition && GREATEST_IN_CLASS < size && size <= GREATEST_SIZE {
+            if asked == partition && is_map_size(told.rules.version, size) {
                 Some(size)
             } else {
                 None
@@ -77,11 +77,11 @@ fn map_size(op: Op, partition: u32) -> Option<u32>
     }
 }
 
-// Whether the op asks the partition for a direct map whose slot has that many bytes.
-fn makes_map(op: Op, partition: u32, len: u32) -> bool
-    ensures { IsTrue result ↔ ((size : ℕ) × AsksForMap op partition size × (len ≡ (shape_of size).slot)) }
+// Whether the record asks the partition for a direct map whose slot has that many bytes.
+fn makes_map(told: Played, partition: u32, len: u32) -> bool
+    ensures { IsTrue result ↔ ((size : ℕ) × AsksForMap told partition size × (len ≡ (shape_of size).slot)) }
 {
-    match map_size(op, partition) {
+    match map_size(told, partition) {
         Some(size) => match shape(size) {
             Some(shape) => shape.slot == len,
             None => false,
@@ -90,11 +90,11 @@ fn makes_map(op: Op, partition: u32, len: u32) -> bool
     }
 }
 
-// Whether the op asks the partition for a direct map for which the entry of the pool found no room.
-fn makes_full_map(pools: &[PoolEntry], op: Op, partition: u32, asked: u32) -> bool
-    ensures { IsTrue result ↔ MakesFull pools.now partition None asked op }
+// Whether the record asks the partition for a direct map for which the entry of the pool found no room.
+fn makes_full_map(pools: &[PoolEntry], told: Played, partition: u32, asked: u32) -> bool
+    ensures { IsTrue result ↔ MakesFull pools.now partition None asked told }
 {
-    match map_size(op, partition) {
+    match map_size(told, partition) {
         Some(size) => match shape(size) {
             Some(shape) => found_none(pools, asked, shape.supers),
             None => false,

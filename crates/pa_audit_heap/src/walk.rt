@@ -74,7 +74,7 @@ impl Walk {
         let Some(found) = record_of(records, entry.line()) else {
             return Ok(false);
         };
-        if partition >= partitions || !makes_entry(pools, partition, entry.act(), found.op) {
+        if partition >= partitions || !makes_entry(pools, partition, entry.act(), found) {
             return Ok(false);
         }
         let asked = asked_by(entry.act());

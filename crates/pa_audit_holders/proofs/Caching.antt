@@ -58,13 +58,13 @@ list_one roots line p class seen cache next other (xs, rest, filled, front, beco
 
 made_one : (roots : Journals) (x : Played) (seen : Seen) (cache next other : Cache) → MadeRow roots x seen cache next → MadeRow roots x seen cache other → next ≡ other
 made_one roots x seen cache next other (inl (p, class, xs, rest, asks, filled, front, becomes)) (inl (q, class', ys, rest', asks', filled', front', becomes')) =
-    let (e, f) = class_once x.op q p class' class asks' asks in
+    let (e, f) = class_once x q p class' class asks' asks in
     list_one roots x.line p class seen cache next other (xs, rest, filled, front, becomes)
     (subst (λ z. ListRow roots x.line seen cache other z class) e (subst (λ z. ListRow roots x.line seen cache other q z) f (ys, rest', filled', front', becomes')))
 made_one roots x seen cache next other (inl (p, class, xs, rest, asks, filled, front, becomes)) (inr (q, size, asked, len, asks', only', becomes')) =
-    absurd (class_or_map x.op p q class size asks asks')
+    absurd (class_or_map x p q class size asks asks')
 made_one roots x seen cache next other (inr (p, size, asked, len, asks, only, becomes)) (inl (q, class, ys, rest', asks', filled', front', becomes')) =
-    absurd (class_or_map x.op q p class size asks' asks)
+    absurd (class_or_map x q p class size asks' asks)
 made_one roots x seen cache next other (inr (p, size, asked, len, asks, only, becomes)) (inr (q, size', asked', len', asks', only', becomes')) =
     one_becomes next other cache becomes becomes'
 

@@ -37,16 +37,16 @@ row_same Row Other after false f g h = λ next row. h next (g next row)
 
 -- ---- a slot was made
 
-made_class : (roots : Journals) (x : Played) (seen : Seen) (cache next : Cache) (p class : ℕ) → AsksForClass x.op p class → MadeRow roots x seen cache next → ClassRow roots x.line p class seen cache next
+made_class : (roots : Journals) (x : Played) (seen : Seen) (cache next : Cache) (p class : ℕ) → AsksForClass x p class → MadeRow roots x seen cache next → ClassRow roots x.line p class seen cache next
 made_class roots x seen cache next p class asks (inl (q, d, xs, rest, asks', filled, front, becomes)) =
-    let (e, f) = class_once x.op q p d class asks' asks in
+    let (e, f) = class_once x q p d class asks' asks in
     subst (λ z. ClassRow roots x.line z class seen cache next) e (subst (λ z. ClassRow roots x.line q z seen cache next) f (xs, rest, filled, front, becomes))
-made_class roots x seen cache next p class asks (inr (q, size, asked, len, asks', only, becomes)) = absurd (class_or_map x.op p q class size asks asks')
+made_class roots x seen cache next p class asks (inr (q, size, asked, len, asks', only, becomes)) = absurd (class_or_map x p q class size asks asks')
 
-class_made : (roots : Journals) (x : Played) (seen : Seen) (cache next : Cache) (p class : ℕ) → AsksForClass x.op p class → ClassRow roots x.line p class seen cache next → MadeRow roots x seen cache next
+class_made : (roots : Journals) (x : Played) (seen : Seen) (cache next : Cache) (p class : ℕ) → AsksForClass x p class → ClassRow roots x.line p class seen cache next → MadeRow roots x seen cache next
 class_made roots x seen cache next p class asks (xs, rest, filled, front, becomes) = inl (p, class, xs, rest, asks, filled, front, becomes)
 
-pub made_by_class : (roots : Journals) (x : Played) (seen : Seen) (cache after : Cache) (p class : ℕ) (b : Bool) → AsksForClass x.op p class → TellsRow (ClassRow roots x.line p class seen cache) after b
+pub made_by_class : (roots : Journals) (x : Played) (seen : Seen) (cache after : Cache) (p class : ℕ) (b : Bool) → AsksForClass x p class → TellsRow (ClassRow roots x.line p class seen cache) after b
     → TellsRow (MadeRow roots x seen cache) after b
 made_by_class roots x seen cache after p class b asks h = row_same (ClassRow roots x.line p class seen cache) (MadeRow roots x seen cache) after b
     (λ next row. class_made roots x seen cache next p class asks row) (λ next row. made_class roots x seen cache next p class asks row) h
@@ -54,18 +54,18 @@ made_by_class roots x seen cache after p class b asks h = row_same (ClassRow roo
 abbrev pub IsMappedOnly : Journals → ℕ → ℕ → SlotName → Type 0
 IsMappedOnly roots line p s = (asked len : ℕ) × OnlyActs roots line p (Map asked s len ∷ [])
 
-pub made_by_map : (roots : Journals) (x : Played) (seen : Seen) (cache : Cache) (p size : ℕ) (b : Bool) → AsksForMap x.op p size → IsTrue b ↔ IsMappedOnly roots x.line p seen.slot
+pub made_by_map : (roots : Journals) (x : Played) (seen : Seen) (cache : Cache) (p size : ℕ) (b : Bool) → AsksForMap x p size → IsTrue b ↔ IsMappedOnly roots x.line p seen.slot
     → TellsRow (MadeRow roots x seen cache) cache b
 made_by_map roots x seen cache p size b asks test = row_stays (MadeRow roots x seen cache) (IsMappedOnly roots x.line p seen.slot) cache b test
     (λ (asked, len, only). inr (p, size, asked, len, asks, only, λ q c. refl)) back
   where
     back : (next : Cache) → MadeRow roots x seen cache next → IsMappedOnly roots x.line p seen.slot
-    back next (inl (q, d, xs, rest, asks', filled, front, becomes)) = absurd (class_or_map x.op q p d size asks' asks)
+    back next (inl (q, d, xs, rest, asks', filled, front, becomes)) = absurd (class_or_map x q p d size asks' asks)
     back next (inr (q, m, asked, len, asks', only, becomes)) =
-        let (e, f) = map_once x.op q p m size asks' asks in
+        let (e, f) = map_once x q p m size asks' asks in
         subst (λ z. IsMappedOnly roots x.line z seen.slot) e (asked, len, only)
 
-pub made_by_none : (roots : Journals) (x : Played) (seen : Seen) (cache : Cache) → ((p class : ℕ) → AsksForClass x.op p class → ⊥) → ((p size : ℕ) → AsksForMap x.op p size → ⊥)
+pub made_by_none : (roots : Journals) (x : Played) (seen : Seen) (cache : Cache) → ((p class : ℕ) → AsksForClass x p class → ⊥) → ((p size : ℕ) → AsksForMap x p size → ⊥)
     → TellsRow (MadeRow roots x seen cache) cache false
 made_by_none roots x seen cache class map next (inl (q, d, xs, rest, asks, filled, front, becomes)) = class q d asks
 made_by_none roots x seen cache class map next (inr (q, m, asked, len, asks, only, becomes)) = map q m asks
@@ -78,30 +78,30 @@ IsRoomless roots line p class = (asked : ℕ) × OnlyActs roots line p (Full (So
 abbrev pub IsClassFull : Journals → ℕ → ℕ → ℕ → Cache → Type 0
 IsClassFull roots line p class cache = (cache p class ≡ []) × IsRoomless roots line p class
 
-pub full_by_class : (roots : Journals) (x : Played) (cache : Cache) (p class : ℕ) (b : Bool) → AsksForClass x.op p class → IsTrue b ↔ IsClassFull roots x.line p class cache → TellsRow (FullRow roots x cache) cache b
+pub full_by_class : (roots : Journals) (x : Played) (cache : Cache) (p class : ℕ) (b : Bool) → AsksForClass x p class → IsTrue b ↔ IsClassFull roots x.line p class cache → TellsRow (FullRow roots x cache) cache b
 full_by_class roots x cache p class b asks test = row_stays (FullRow roots x cache) (IsClassFull roots x.line p class cache) cache b test
     (λ (empty, (asked, only)). inl (p, class, asked, asks, empty, only, λ q c. refl)) back
   where
     back : (next : Cache) → FullRow roots x cache next → IsClassFull roots x.line p class cache
     back next (inl (q, d, asked, asks', empty, only, row)) =
-        let (e, f) = class_once x.op q p d class asks' asks in
+        let (e, f) = class_once x q p d class asks' asks in
         subst (λ z. IsClassFull roots x.line z class cache) e (subst (λ z. IsClassFull roots x.line q z cache) f (empty, (asked, only)))
-    back next (inr (q, m, asked, asks', only, row)) = absurd (class_or_map x.op p q class m asks asks')
+    back next (inr (q, m, asked, asks', only, row)) = absurd (class_or_map x p q class m asks asks')
 
 abbrev pub IsMapFull : Journals → ℕ → ℕ → Type 0
 IsMapFull roots line p = (asked : ℕ) × OnlyActs roots line p (Full None asked ∷ [])
 
-pub full_by_map : (roots : Journals) (x : Played) (cache : Cache) (p size : ℕ) (b : Bool) → AsksForMap x.op p size → IsTrue b ↔ IsMapFull roots x.line p → TellsRow (FullRow roots x cache) cache b
+pub full_by_map : (roots : Journals) (x : Played) (cache : Cache) (p size : ℕ) (b : Bool) → AsksForMap x p size → IsTrue b ↔ IsMapFull roots x.line p → TellsRow (FullRow roots x cache) cache b
 full_by_map roots x cache p size b asks test = row_stays (FullRow roots x cache) (IsMapFull roots x.line p) cache b test
     (λ (asked, only). inr (p, size, asked, asks, only, λ q c. refl)) back
   where
     back : (next : Cache) → FullRow roots x cache next → IsMapFull roots x.line p
-    back next (inl (q, d, asked, asks', empty, only, row)) = absurd (class_or_map x.op q p d size asks' asks)
+    back next (inl (q, d, asked, asks', empty, only, row)) = absurd (class_or_map x q p d size asks' asks)
     back next (inr (q, m, asked, asks', only, row)) =
-        let (e, f) = map_once x.op q p m size asks' asks in
+        let (e, f) = map_once x q p m size asks' asks in
         subst (λ z. IsMapFull roots x.line z) e (asked, only)
 
-pub full_by_none : (roots : Journals) (x : Played) (cache : Cache) → ((p class : ℕ) → AsksForClass x.op p class → ⊥) → ((p size : ℕ) → AsksForMap x.op p size → ⊥) → TellsRow (FullRow roots x cache) cache false
+pub full_by_none : (roots : Journals) (x : Played) (cache : Cache) → ((p class : ℕ) → AsksForClass x p class → ⊥) → ((p size : ℕ) → AsksForMap x p size → ⊥) → TellsRow (FullRow roots x cache) cache false
 full_by_none roots x cache class map next (inl (q, d, asked, asks, empty, only, becomes)) = class q d asks
 full_by_none roots x cache class map next (inr (q, m, asked, asks, only, becomes)) = map q m asks
 

@@ -33,11 +33,12 @@ pub record HasOneHome (roots : Journals) (s : SlotName) : Type 0 where
   pub direct : (p q : ℕ) → IsDirect roots s p → IsDirect roots s q → p ≡ q
   pub either : (p q c : ℕ) → IsOfClass roots s p c → IsDirect roots s q → ⊥
 
--- each slot of the journals has one home, if the clauses of the pool and the roots hold
+-- each slot of the journals has one home, if the records are of version 1 and the clauses of the pool and the roots hold
 abbrev pub OneHome : Type 0
 OneHome =
     (supers partitions : ℕ) (ps : List Played) (pools : List PoolEntry) (roots : Journals) (s : SlotName) →
-    AreRoots partitions ps pools roots → IsPoolOf supers ps pools roots → HasOneHome roots s
+    ((x : Played) → Contains ps x → x.rules.version ≡ 1) → AreRoots partitions ps pools roots → IsPoolOf supers ps pools roots →
+    HasOneHome roots s
 
 -- no entry of a journal handed the slot out
 pub record IsHomeless (roots : Journals) (s : SlotName) : Type 0 where

@@ -1,10 +1,10 @@
-ghost use Rattle.std.specs.Prelude.{◌≡◌, ℕ, ◌+◌, max, IfNone, IfSome};
-ghost use Rattle.pa_buckets.specs.Classes.{IsClassOf};
+ghost use Rattle.std.specs.Prelude.{◌≡◌, ℕ, IfNone, IfSome};
 ghost use Rattle.pa_rules.specs.Played.{step_of};
 ghost use Rattle.pa_rules.specs.Roots.{AsksForClass, AsksForMap};
 
-use pa_buckets::{Class, class_of, raw_of};
-use pa_direct::{GREATEST_IN_CLASS, GREATEST_SIZE};
+use pa_audit_records::{class_for, is_map_size};
+use pa_buckets::Class;
+use pa_rules::Played;
 use pa_slot::Step;
 use pa_trace::Op;
 
@@ -15,17 +15,17 @@ pub(crate) struct Bin {
     pub(crate) class: Class,
 }
 
-// The partition and the class for which the op asks.
-pub(crate) fn class_asked(op: Op) -> Option<Bin>
-    ensures some { IfSome result (λ bin. AsksForClass op bin.partition bin.class) }
-    ensures none { IfNone result ((p class : ℕ) → AsksForClass op p class → ⊥) }
+// The partition and the class for which the record asks.
+pub(crate) fn class_asked(told: Played) -> Option<Bin>
+    ensures some { IfSome result (λ bin. AsksForClass told bin.partition bin.class) }
+    ensures none { IfNone result ((p class : ℕ) → AsksForClass told p class → ⊥) }
 {
-    match op {
+    match told.op {
         Op::Alloc {
             partition,
             size,
             ..
-        } => match class_for(size) {
+        } => match class_for(told.rules.version, size) {
             Some(class) => Some(Bin { partition, class }),
             None => None,
         },
@@ -33,32 +33,18 @@ pub(crate) fn class_asked(op: Op) -> Option<Bin>
     }
 }
 
-// The class of a request of that many bytes.
-fn class_for(size: u32) -> Option<Class>
-    ensures some { IfSome result (IsClassOf (max size 1 + 8)) }
-    ensures none { IfNone result ((class : ℕ) → IsClassOf (max size 1 + 8) class → ⊥) }
+// The partition that the record asks for a direct map.
+pub(crate) fn map_asked(told: Played) -> Option<u32>
+    ensures some { IfSome result (λ p. (size : ℕ) × AsksForMap told p size) }
+    ensures none { IfNone result ((p size : ℕ) → AsksForMap told p size → ⊥) }
 {
-    if size > GREATEST_SIZE {
-        return None;
-    }
-    match class_of(raw_of(size)) {
-        Some(class) => Some(class),
-        None => None,
-    }
-}
-
-// The partition that the op asks for a direct map.
-pub(crate) fn map_asked(op: Op) -> Option<u32>
-    ensures some { IfSome result (λ p. (size : ℕ) × AsksForMap op p size) }
-    ensures none { IfNone result ((p size : ℕ) → AsksForMap op p size → ⊥) }
-{
-    match op {
+    match told.op {
         Op::Alloc {
             partition,
             size,
             ..
         } => {
-            if GREATEST_IN_CLASS < size && size <= GREATEST_SIZE {
+            if is_map_size(told.rules.version, size) {
                 Some(partition)
             } else {
                 None

@@ -19,7 +19,6 @@ use pa_dense::{Act, DenseEntry, DenseJournal};
 use pa_record::Answer;
 use pa_rules::Played;
 use pa_slot::{OutOfMemory, SlotName};
-use pa_trace::Op;
 use std::alloc::Global;
 use std::marker::Model;
 
@@ -173,11 +172,12 @@ impl<'a> Page<'a> {
         self.told.thread
     }
 
-    pub(crate) fn op(&self) -> Op
-        ensures op { result ≡ self.now.told.op }
-        ensures partition { NamesPartition result }
+    pub(crate) fn told(&self) -> Played
+        ensures told { result ≡ self.now.told }
+        ensures partition { NamesPartition result.op }
+        ensures version { result.rules.version ≡ 1 }
     {
-        self.told.op
+        self.told
     }
 
     pub(crate) fn answer(&self) -> Answer

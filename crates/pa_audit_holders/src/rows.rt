@@ -32,7 +32,7 @@ pub(crate) fn plays(
 {
     match page.answer() {
         Answer::Made { seen, .. } => made(alloc, page, seen, cache),
-        Answer::Done { seen } => done(alloc, page, step_of(page.op()), seen, cache),
+        Answer::Done { seen } => done(alloc, page, step_of(page.told().op), seen, cache),
         Answer::Full { .. } => Ok(full(page, cache)),
         Answer::Purged { slots } => Ok(purged(page, slots, cache)),
         _ => Ok(page.has_none()),
@@ -48,13 +48,13 @@ fn made(
 ) -> Result<bool, OutOfMemory>
     ensures { IfOk result (TellsRow (MadeRow (journal_at page.now.roots) page.now.told seen (cache_in cache.old)) (cache_in cache.new)) }
 {
-    let op = page.op();
-    match class_asked(op) {
+    let told = page.told();
+    match class_asked(told) {
         Some(bin) => {
             let fits = made_of_class(alloc, page, &bin, seen, cache)?;
             Ok(fits)
         }
-        None => match map_asked(op) {
+        None => match map_asked(told) {
             Some(partition) => Ok(is_mapped(page, partition, seen.slot)),
             None => Ok(false),
         },
@@ -148,13 +148,13 @@ fn is_mapped(page: &Page<'_>, partition: u32, slot: SlotName) -> bool
 fn full(page: &Page<'_>, cache: &ThreadLists) -> bool
     ensures { TellsRow (FullRow (journal_at page.now.roots) page.now.told (cache_in cache.now)) (cache_in cache.now) result }
 {
-    let op = page.op();
-    match class_asked(op) {
+    let told = page.told();
+    match class_asked(told) {
         Some(bin) => {
             let list = cache.list(bin.partition, bin.class);
             is_class_full(page, &bin, list)
         }
-        None => match map_asked(op) {
+        None => match map_asked(told) {
             Some(partition) => is_map_full(page, partition),
             None => false,
         },

@@ -1,11 +1,11 @@
 -- A line at which a clause fails first is one of the run's text.
 use Rattle.std.proofs.Common.{◌≡◌, ℕ, ◌+◌, ◌<◌, ◌≤◌, List, length, map, zip, sym, ◌∙◌, arith, inl, inr}
-use Rattle.std.specs.Prelude.{slice_get}
 use Rattle.std.proofs.lemmas.Bool.{cases_lt}
 use Rattle.std.proofs.lemmas.List.{length-map}
-use Rattle.std.proofs.lemmas.Option.{slice_get_cases, slice_get_past, slice_get_within}
+use Rattle.std.proofs.lemmas.Option.{slice_get_past, slice_get_within}
 use Rattle.std.proofs.lemmas.Slice.Zip.{length-zip}
 use Rattle.pa_trace.specs.declared.script.Trace.{Trace}
+use Rattle.pa_trace.specs.Rules.{rules_of}
 use Rattle.pa_record.specs.declared.report.ReportLine.{ReportLine}
 use Rattle.pa_record.specs.declared.run.Run.{Run}
 use Rattle.pa_lists.proofs.Members.{not_some}
@@ -24,7 +24,7 @@ use Rattle.pa_rules.specs.Verdicts.{Demand, Holds, IsFirstFailing, turn}
 use Rattle.pa_verdict.proofs.Verdict.{titles_never_fail}
 use Rattle.pa_audit.specs.Placed.{IsThere}
 use Rattle.pa_audit.proofs.Granted.{cells_rest, pool_rest, roots_rest, holders_rest}
-use Rattle.pa_audit.proofs.Lining.{AsksRecords, asks_records}
+use Rattle.pa_audit.proofs.Lining.{AsksRecords, asks_records, same_beyond}
 use Rattle.pa_audit.proofs.Placing.{AsksThere, within_all}
 
 -- the line of the run's end, which is the last one
@@ -52,7 +52,7 @@ asked_within c t r place rest unmet = elim (cases_lt (last_line r) (line_at r pl
 
 no_record : (t : Trace) (r : Run) (i : ℕ) (x : Played) → (i < length r.entries.items → ⊥) → IsRecord (records_of t (told_by r)) i x → ⊥
 no_record t r i x none at =
-    let os = op_lines 2 1 t.lines in
+    let os = op_lines (rules_of t) 2 1 t.lines in
     let within = slice_get_within (records_of t (told_by r)) i x at in
     let long = length-map (zip os r.entries.items) beside in
     let few = length-zip os r.entries.items in
@@ -68,13 +68,6 @@ records_rest c t r rest none (places.Report i) absent = rest.report i
 
 -- ---- clauses that compare two lists: the first of them ends where both do, or it fails there
 
-same_beyond : {A : Type 0} (xs ys : List A) (k i : ℕ) → k ≡ length xs → k < i → slice_get xs k ≡ slice_get ys k
-    → slice_get xs i ≡ slice_get ys i
-same_beyond xs ys k i end past same = elim ((slice_get_cases ys k).1) [
-  | inl more ↦ absurd (not_some more.0 (sym (slice_get_past xs k (omega (arith, end))) ∙ same ∙ more.2))
-  | inr few ↦ slice_get_past xs i (omega (arith, end, past)) ∙ sym (slice_get_past ys i (omega (arith, few.0, past)))
-]
-
 -- each place of a line before meets its demand
 abbrev HoldsAbove : Clause → Trace → Run → Place → Type 0
 HoldsAbove c t r place = (other : Place) → line_at r other < line_at r place → Demand c t (told_by r) other
@@ -84,7 +77,7 @@ lines_within : (t : Trace) (r : Run) (place : Place) → (Demand clauses.Lines t
 lines_within t r (places.Record i) unmet above =
     let n = length r.entries.items in
     elim (cases_lt n i) [
-      | inl past ↦ absurd (unmet (same_beyond (map key_of_entry r.entries.items) (map key_of_line (op_lines 2 1 t.lines)) n i
+      | inl past ↦ absurd (unmet (same_beyond (map key_of_entry r.entries.items) (map key_of_line (op_lines (rules_of t) 2 1 t.lines)) n i
           (sym (length-map r.entries.items key_of_entry)) past (above (places.Record n) (omega (arith, past)))))
       | inr most ↦ omega (arith, most)
     ]

@@ -107,7 +107,8 @@ phases_rise ps i j x y never at at' less =
     let two = ap (λ (z : Played). z.phase) (of_some (get_or ps j x) y (sym (here_is ps j x below') ∙ at')) in
     omega (arith, both, one, two)
 
-pub steps_added : (cells : ℕ → List CellEntry) (ps : List Played) (table : List (Option ℕ)) (i : ℕ) (d : Played) (prev giver : Option ℕ) (old s1 s2 new : List ℕ) (low high : ℕ) → RiseByLine ps → RiseByPhase ps
+pub steps_added : (cells : ℕ → List CellEntry) (ps : List Played) (table : List (Option ℕ)) (i : ℕ) (d : Played) (prev giver : Option ℕ) (old s1 s2 new : List ℕ) (low high : ℕ)
+    → RiseByLine ps → RiseByPhase ps
     → ArePrevious ps table (length ps) → i < length ps → slice_get table i ≡ Some prev → IfSome giver (λ j. (x : Played) × IsRecord ps j x × HandsTo cells x (get_or ps i d))
     → ((j : ℕ) (x : Played) → IsRecord ps j x → HandsTo cells x (get_or ps i d) → giver ≡ Some j) → s1 ≡ old ++ as_list prev → s2 ≡ s1 ++ as_list giver
     → AddsAll ps (get_or ps i d).phase s2 low new high → AddsSteps cells ps i old low new high

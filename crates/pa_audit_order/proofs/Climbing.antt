@@ -48,7 +48,8 @@ phase_order ps i j x y phases at at' less =
 one_of : (ps : List Played) (i j : ℕ) (x y : Played) → IsRecord ps i x → IsRecord ps j y → i ≡ j → x ≡ y
 one_of ps i j x y at at' same = one_at ps j x y (ap (slice_get ps) (sym same) ∙ at) at'
 
-pub stands_above : (cells : ℕ → List CellEntry) (ps : List Played) (i j : ℕ) (x y : Played) → RiseByLine ps → RiseByPhase ps → HasNoExchange cells → IsRecord ps i x → IsRecord ps j y → IsBefore cells ps x y → i < j
+pub stands_above : (cells : ℕ → List CellEntry) (ps : List Played) (i j : ℕ) (x y : Played) → RiseByLine ps → RiseByPhase ps
+    → HasNoExchange cells → IsRecord ps i x → IsRecord ps j y → IsBefore cells ps x y → i < j
 stands_above cells ps i j x y rising phases none at at' (Standing (inl (thread, less))) = elim (cases_lt i j) [
   | inl before ↦ before
   | inr most ↦ elim (cases_lt j i) [
@@ -110,7 +111,9 @@ rises_quiet ps at k d below tells h =
       ];
     }
 
-pub rises_more : (ps : List Played) (f g : ℕ → Option ℕ) (k : ℕ) (d : Played) (m : Mark) → k < length ps → mark_of (get_or ps k d) ≡ Some m → Puts f g (word_key m.slot 0) (left_number m) → unwrap_or (f (word_key m.slot 0)) 0 ≤ number_of m.found
+pub rises_more : (ps : List Played) (f g : ℕ → Option ℕ) (k : ℕ) (d : Played) (m : Mark) → k < length ps
+    → mark_of (get_or ps k d) ≡ Some m → Puts f g (word_key m.slot 0) (left_number m)
+    → unwrap_or (f (word_key m.slot 0)) 0 ≤ number_of m.found
     → RisesSoFar ps f k → RisesSoFar ps g (k + 1)
 rises_more ps f g k d m below is puts enough h = record {
   rise = λ i j x y a b less within there there' tells tells' slot. elim (cases_lt j k) [
@@ -139,7 +142,8 @@ rises_more ps f g k d m below is puts enough h = record {
   ];
 }
 
-pub rises_told : (ps : List Played) (f g : ℕ → Option ℕ) (k q : ℕ) (d : Played) (l : Look) (old : Option ℕ) → k < length ps → Some l ≡ option_map look_by (mark_of (get_or ps k d)) → q ≡ word_key l.slot 0 → old ≡ f q → Puts f g q l.left
+pub rises_told : (ps : List Played) (f g : ℕ → Option ℕ) (k q : ℕ) (d : Played) (l : Look) (old : Option ℕ) → k < length ps
+    → Some l ≡ option_map look_by (mark_of (get_or ps k d)) → q ≡ word_key l.slot 0 → old ≡ f q → Puts f g q l.left
     → unwrap_or old 0 ≤ l.found → RisesSoFar ps f k → RisesSoFar ps g (k + 1)
 rises_told ps f g k q d l old below tells key was puts enough h =
     let (m, is, same) = look_told (mark_of (get_or ps k d)) l tells in

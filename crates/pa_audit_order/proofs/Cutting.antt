@@ -73,7 +73,8 @@ cut_weaker cells ps A B but marked stack floor left weaker h = record {
   numbers = h.numbers;
 }
 
-pub cut_start : (cells : ℕ → List CellEntry) (ps : List Played) (A : Played → Type 0) (left : ℕ → Option ℕ) → ((q : ℕ) → left q ≡ None) → IsGrown cells ps A (length ps) (replicate (length ps) false) [] 0 left
+pub cut_start : (cells : ℕ → List CellEntry) (ps : List Played) (A : Played → Type 0) (left : ℕ → Option ℕ) → ((q : ℕ) → left q ≡ None)
+    → IsGrown cells ps A (length ps) (replicate (length ps) false) [] 0 left
 cut_start cells ps A left none = record {
   long = length_of (length ps);
   ground = omega arith;
@@ -96,7 +97,8 @@ cut_start cells ps A left none = record {
     nothing i (inr among) = not_in_none i among
 
 -- the cut of which nothing is left out says as much but for one record
-pub cut_but : (cells : ℕ → List CellEntry) (ps : List Played) (A : Played → Type 0) (k : ℕ) (marked : List Bool) (stack : List ℕ) (floor : ℕ) (left : ℕ → Option ℕ) → IsGrown cells ps A (length ps) marked stack floor left
+pub cut_but : (cells : ℕ → List CellEntry) (ps : List Played) (A : Played → Type 0) (k : ℕ) (marked : List Bool) (stack : List ℕ) (floor : ℕ) (left : ℕ → Option ℕ)
+    → IsGrown cells ps A (length ps) marked stack floor left
     → IsGrown cells ps A k marked stack floor left
 cut_but cells ps A k marked stack floor left h = record {
   long = h.long;
@@ -109,7 +111,8 @@ cut_but cells ps A k marked stack floor left h = record {
 }
 
 -- if the nearest steps to the record that was left out come from records that are taken up, no record is left out any more
-pub cut_all : (cells : ℕ → List CellEntry) (ps : List Played) (A : Played → Type 0) (k : ℕ) (marked : List Bool) (stack : List ℕ) (floor : ℕ) (left : ℕ → Option ℕ) → ((j : ℕ) → IsNear cells ps j k → IsTakenUp marked stack j)
+pub cut_all : (cells : ℕ → List CellEntry) (ps : List Played) (A : Played → Type 0) (k : ℕ) (marked : List Bool) (stack : List ℕ) (floor : ℕ) (left : ℕ → Option ℕ)
+    → ((j : ℕ) → IsNear cells ps j k → IsTakenUp marked stack j)
     → IsGrown cells ps A k marked stack floor left → IsGrown cells ps A (length ps) marked stack floor left
 cut_all cells ps A k marked stack floor left steps h = record {
   long = h.long;
@@ -151,7 +154,8 @@ cut_steps cells ps A k marked old new low high left steps adds h = record {
       | inr (z, y, at', here, step) ↦ subst A (one_at ps i z x at' at) (steps z y here step)
     ]
 
-pub steps_in : (cells : ℕ → List CellEntry) (ps : List Played) (A : Played → Type 0) (k : ℕ) (marked : List Bool) (old new : List ℕ) (low high : ℕ) (left : ℕ → Option ℕ) → AddsSteps cells ps k old low new high
+pub steps_in : (cells : ℕ → List CellEntry) (ps : List Played) (A : Played → Type 0) (k : ℕ) (marked : List Bool) (old new : List ℕ) (low high : ℕ) (left : ℕ → Option ℕ)
+    → AddsSteps cells ps k old low new high
     → IsGrown cells ps A k marked old low left → (j : ℕ) → IsNear cells ps j k → IsTakenUp marked new j
 steps_in cells ps A k marked old new low high left adds h j (x, y, at, here, inl last) = inr (adds.previous j y here last)
 steps_in cells ps A k marked old new low high left adds h j (x, y, at, here, inr (inl hands)) = inr (adds.giver j x y at here hands)
@@ -197,7 +201,8 @@ in_mark marked rest k j below (inr among) = elim (Contains-push_cases rest k j a
 ]
 
 -- a record leaves the stack and is marked, and the steps to it are still to come
-pub cut_mark : (cells : ℕ → List CellEntry) (ps : List Played) (A : Played → Type 0) (k : ℕ) (marked : List Bool) (rest : List ℕ) (floor : ℕ) (left next : ℕ → Option ℕ) → AreLeft ps (set marked k true) next
+pub cut_mark : (cells : ℕ → List CellEntry) (ps : List Played) (A : Played → Type 0) (k : ℕ) (marked : List Bool) (rest : List ℕ) (floor : ℕ) (left next : ℕ → Option ℕ)
+    → AreLeft ps (set marked k true) next
     → IsGrown cells ps A (length ps) marked (rest ++ k ∷ []) floor left → IsGrown cells ps A k (set marked k true) rest floor next
 cut_mark cells ps A k marked rest floor left next has h =
     let long = h.long in
@@ -227,7 +232,8 @@ abbrev IsClosedAt : (ℕ → List CellEntry) → List Played → List Bool → �
 IsClosedAt cells ps marked i = (j : ℕ) → IsNear cells ps j i → IsMarked marked j
 
 -- the earlier records of a marked record's thread are marked, if the nearest steps to it come from marked ones
-thread_look : (n : ℕ) (cells : ℕ → List CellEntry) (ps : List Played) (marked : List Bool) (i j : ℕ) (x y : Played) (o : Option ℕ) → i < suc n → ((p : ℕ) (z : Played) → p < n → IsRecord ps p z → IsMarked marked p → x.thread ≡ z.thread → j < p → IsMarked marked j)
+thread_look : (n : ℕ) (cells : ℕ → List CellEntry) (ps : List Played) (marked : List Bool) (i j : ℕ) (x y : Played) (o : Option ℕ)
+    → i < suc n → ((p : ℕ) (z : Played) → p < n → IsRecord ps p z → IsMarked marked p → x.thread ≡ z.thread → j < p → IsMarked marked j)
     → IsLastOf ps y.thread i o → IsClosedAt cells ps marked i → IsRecord ps j x → IsRecord ps i y → x.thread ≡ y.thread → j < i → IsMarked marked j
 thread_look n cells ps marked i j x y None below again none closed at here same less = absurd (none j x less at same)
 thread_look n cells ps marked i j x y (Some p) below again last closed at here same less =

@@ -55,7 +55,8 @@ last_more ps f g k v d below same puts h t = elim (cases_eq t (get_or ps k d).th
   | inr other ↦ subst (IsLastOf ps t (k + 1)) (sym (puts.other t other)) (last_kept ps t k d (f t) below (λ e. other (sym e)) (h t))
 ]
 
-pub previous_more : (ps : List Played) (table : List (Option ℕ)) (f : ℕ → Option ℕ) (k : ℕ) (d : Played) (o : Option ℕ) → k < length ps → o ≡ f (get_or ps k d).thread → AreLast ps f k → ArePrevious ps table k
+pub previous_more : (ps : List Played) (table : List (Option ℕ)) (f : ℕ → Option ℕ) (k : ℕ) (d : Played) (o : Option ℕ) → k < length ps
+    → o ≡ f (get_or ps k d).thread → AreLast ps f k → ArePrevious ps table k
     → ArePrevious ps (table ++ o ∷ []) (k + 1)
 previous_more ps table f k d o below is last h = record {
   long = let long = h.long in let push = length_push table o in omega (arith, long, push);
@@ -75,7 +76,8 @@ previous_more ps table f k d o below is last h = record {
 pub givers_start : (cells : ℕ → List CellEntry) (ps : List Played) → AreGivers cells ps [] 0
 givers_start cells ps = record { long = refl; hands = λ i y o is here. absurd (not_some o is) }
 
-pub givers_more : (cells : ℕ → List CellEntry) (ps : List Played) (table : List (Option ℕ)) (k : ℕ) (d : Played) (o : Option ℕ) → k < length ps → IsGiverOf cells ps (get_or ps k d) o → AreGivers cells ps table k
+pub givers_more : (cells : ℕ → List CellEntry) (ps : List Played) (table : List (Option ℕ)) (k : ℕ) (d : Played) (o : Option ℕ)
+    → k < length ps → IsGiverOf cells ps (get_or ps k d) o → AreGivers cells ps table k
     → AreGivers cells ps (table ++ o ∷ []) (k + 1)
 givers_more cells ps table k d o below giver h = record {
   long = let long = h.long in let push = length_push table o in omega (arith, long, push);
@@ -117,7 +119,8 @@ record NamesIt (cells : ℕ → List CellEntry) (k j : ℕ) (told : Played) : Ty
   op : told.op ≡ Swap k reg
   answer : told.answer ≡ Swapped j
 
-names_it : (cells : ℕ → List CellEntry) (ps : List Played) (k j : ℕ) (f : CellEntry) (told : Played) → RiseByLine ps → AsksSwaps cells ps → AsksExchanges cells ps → Contains ps told → IsExchange cells k j f → f.line ≡ told.line
+names_it : (cells : ℕ → List CellEntry) (ps : List Played) (k j : ℕ) (f : CellEntry) (told : Played) → RiseByLine ps
+    → AsksSwaps cells ps → AsksExchanges cells ps → Contains ps told → IsExchange cells k j f → f.line ≡ told.line
     → NamesIt cells k j told
 names_it cells ps k j f told rising swaps exchanges among at line =
     let (p, reg, (member, mine), op) = (exchanges k j f at).line in
@@ -130,7 +133,8 @@ names_it cells ps k j f told rising swaps exchanges among at line =
     let one = one_exchange cells ps k i j e f exchanges at' at (line' ∙ sym line) in
     record { reg = reg; op = swap; answer = answer ∙ ap Swapped one }
 
-pub gives_to : (cells : ℕ → List CellEntry) (ps : List Played) (told x : Played) (k reg j l : ℕ) → RiseByLine ps → AsksSwaps cells ps → AsksExchanges cells ps → Contains ps told → told.op ≡ Swap k reg → told.answer ≡ Swapped j
+pub gives_to : (cells : ℕ → List CellEntry) (ps : List Played) (told x : Played) (k reg j l : ℕ) → RiseByLine ps → AsksSwaps cells ps
+    → AsksExchanges cells ps → Contains ps told → told.op ≡ Swap k reg → told.answer ≡ Swapped j
     → IsGiving cells k j l → x.line ≡ l → HandsTo cells x told
 gives_to cells ps told x k reg j l rising swaps exchanges among op answer (i, e, next, at, line, gave) mine =
     let (m, here) = in_at ps told among in
@@ -147,7 +151,8 @@ record IsGiven (cells : ℕ → List CellEntry) (told : Played) (l : ℕ) : Type
   answer : told.answer ≡ Swapped entry
   giving : IsGiving cells cell entry l
 
-handed : (cells : ℕ → List CellEntry) (ps : List Played) (told x : Played) → RiseByLine ps → AsksSwaps cells ps → AsksExchanges cells ps → Contains ps told → HandsTo cells x told → IsGiven cells told x.line
+handed : (cells : ℕ → List CellEntry) (ps : List Played) (told x : Played) → RiseByLine ps → AsksSwaps cells ps → AsksExchanges cells ps
+    → Contains ps told → HandsTo cells x told → IsGiven cells told x.line
 handed cells ps told x rising swaps exchanges among (k, i, e, f, at, at', line, line', gave) =
     let names = names_it cells ps k (i + 1) f told rising swaps exchanges among at' line' in
     record { cell = k; reg = names.reg; entry = i + 1; op = names.op; answer = names.answer; giving = (i, e, refl, at, line, gave) }

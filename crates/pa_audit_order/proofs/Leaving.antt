@@ -15,7 +15,8 @@ use Rattle.pa_audit_order.specs.declared.looks.Look.{Look}
 use Rattle.pa_audit_order.specs.Looks.{look_by, Raises, AreLeft}
 use Rattle.pa_audit_order.proofs.Cutting.{set_here, still_marked, was_marked}
 
-pub left_quiet : (ps : List Played) (marked : List Bool) (f : ℕ → Option ℕ) (k : ℕ) (d : Played) → k < length ps → mark_of (get_or ps k d) ≡ None → AreLeft ps marked f → AreLeft ps (set marked k true) f
+pub left_quiet : (ps : List Played) (marked : List Bool) (f : ℕ → Option ℕ) (k : ℕ) (d : Played) → k < length ps
+    → mark_of (get_or ps k d) ≡ None → AreLeft ps marked f → AreLeft ps (set marked k true) f
 left_quiet ps marked f k d below none h = record {
   hit = λ q n at. let (i, x, m, is, here, tells, start, key, left) = h.hit q n at in (i, x, m, still_marked marked k i is, here, tells, start, key, left);
   whole = λ i x m is here tells. elim (cases_eq i k) [
@@ -26,7 +27,8 @@ left_quiet ps marked f k d below none h = record {
   ];
 }
 
-pub left_more : (ps : List Played) (marked : List Bool) (f g : ℕ → Option ℕ) (k : ℕ) (d : Played) (m : Mark) → k < length ps → k < length marked → mark_of (get_or ps k d) ≡ Some m → m.slot.start < 4294967296
+pub left_more : (ps : List Played) (marked : List Bool) (f g : ℕ → Option ℕ) (k : ℕ) (d : Played) (m : Mark) → k < length ps
+    → k < length marked → mark_of (get_or ps k d) ≡ Some m → m.slot.start < 4294967296
     → Raises f g (word_key m.slot 0) (left_number m) → AreLeft ps marked f → AreLeft ps (set marked k true) g
 left_more ps marked f g k d m below within tells start raises h = record {
   hit = λ q n at. elim (cases_eq q (word_key m.slot 0)) [
@@ -68,7 +70,8 @@ pub look_none : (o : Option Mark) → None ≡ option_map look_by o → o ≡ No
 look_none None e = refl
 look_none (Some m) e = absurd (not_some (look_by m) e)
 
-pub left_looked : (ps : List Played) (marked : List Bool) (f g : ℕ → Option ℕ) (k q : ℕ) (d : Played) (l : Look) → k < length ps → k < length marked → Some l ≡ option_map look_by (mark_of (get_or ps k d))
+pub left_looked : (ps : List Played) (marked : List Bool) (f g : ℕ → Option ℕ) (k q : ℕ) (d : Played) (l : Look) → k < length ps
+    → k < length marked → Some l ≡ option_map look_by (mark_of (get_or ps k d))
     → l.slot.start < 4294967296 → q ≡ word_key l.slot 0 → Raises f g q l.left → AreLeft ps marked f → AreLeft ps (set marked k true) g
 left_looked ps marked f g k q d l below within tells start key raises h =
     let (m, is, same) = look_told (mark_of (get_or ps k d)) l tells in
@@ -78,5 +81,6 @@ left_looked ps marked f g k q d l below within tells start key raises h =
     let left = ap (λ (z : Look). z.left) same in
     left_more ps marked f g k d m below within is low (subst (λ z. Raises f g z (left_number m)) at (subst (λ z. Raises f g q z) left raises)) h
 
-pub left_unlooked : (ps : List Played) (marked : List Bool) (f : ℕ → Option ℕ) (k : ℕ) (d : Played) → k < length ps → None ≡ option_map look_by (mark_of (get_or ps k d)) → AreLeft ps marked f → AreLeft ps (set marked k true) f
+pub left_unlooked : (ps : List Played) (marked : List Bool) (f : ℕ → Option ℕ) (k : ℕ) (d : Played) → k < length ps
+    → None ≡ option_map look_by (mark_of (get_or ps k d)) → AreLeft ps marked f → AreLeft ps (set marked k true) f
 left_unlooked ps marked f k d below tells h = left_quiet ps marked f k d below (look_none (mark_of (get_or ps k d)) tells) h

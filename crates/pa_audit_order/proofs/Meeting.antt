@@ -73,7 +73,8 @@ closed cells ps A marked floor left h i is j near = only (h.near i j (λ e. let 
     only (inl there) = there
     only (inr among) = absurd (not_in_none j among)
 
-pub fresh_met : (cells : ℕ → List CellEntry) (ps : List Played) (A : Played → Type 0) (table : List (Option ℕ)) (marked : List Bool) (floor k : ℕ) (left : ℕ → Option ℕ) (y : Played) → RiseByLine ps → ArePrevious ps table (length ps)
+pub fresh_met : (cells : ℕ → List CellEntry) (ps : List Played) (A : Played → Type 0) (table : List (Option ℕ)) (marked : List Bool) (floor k : ℕ) (left : ℕ → Option ℕ) (y : Played)
+    → RiseByLine ps → ArePrevious ps table (length ps)
     → IsGrown cells ps A (length ps) marked [] floor left → ((j : ℕ) → IsNear cells ps j k → IsMarked marked j) → IsRecord ps k y → IsOrderly marked k left (mark_of y) → SeenDemand cells ps (places.Record k)
 fresh_met cells ps A table marked floor k left y rising tables h near here (new, enough) =
     let all = closed cells ps A marked floor left h in
@@ -92,7 +93,8 @@ fresh_met cells ps A table marked floor k left y rising tables h near here (new,
           omega (arith, least, most),
     )
 
-pub met_fresh : (cells : ℕ → List CellEntry) (ps : List Played) (marked : List Bool) (floor k : ℕ) (left : ℕ → Option ℕ) (y : Played) → IsGrown cells ps (IsAheadAt cells ps k) (length ps) marked [] floor left → IsRecord ps k y
+pub met_fresh : (cells : ℕ → List CellEntry) (ps : List Played) (marked : List Bool) (floor k : ℕ) (left : ℕ → Option ℕ) (y : Played)
+    → IsGrown cells ps (IsAheadAt cells ps k) (length ps) marked [] floor left → IsRecord ps k y
     → ((n : Mark) → mark_of y ≡ Some n → n.slot.start < 4294967296) → SeenDemand cells ps (places.Record k) → IsOrderly marked k left (mark_of y)
 met_fresh cells ps marked floor k left y h here sized demand =
     let (never, rising) = demand y here in (
@@ -139,6 +141,7 @@ thread_below ps i x within at =
     let one : get_or ps i x ≡ x = of_some (get_or ps i x) x (sym (here_is ps i x below) ∙ at) in
     subst (λ (z : Played). z.thread < 16) one (within i x below).0
 
-pub below_all : (cells : ℕ → List CellEntry) (ps : List Played) (first : Option ℕ) → All IsPlayedWithin ps → TellsBelow ps 16 (λ i. SeenDemand cells ps (places.Record i)) first → TellsFirst (λ i. SeenDemand cells ps (places.Record i)) first
+pub below_all : (cells : ℕ → List CellEntry) (ps : List Played) (first : Option ℕ) → All IsPlayedWithin ps
+    → TellsBelow ps 16 (λ i. SeenDemand cells ps (places.Record i)) first → TellsFirst (λ i. SeenDemand cells ps (places.Record i)) first
 below_all cells ps None within h = λ i y at. h i y at (thread_below ps i y within at) y at
 below_all cells ps (Some b) within (unmet, before) = (unmet, λ j less y at. before j y less at (thread_below ps j y within at) y at)

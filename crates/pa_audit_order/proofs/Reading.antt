@@ -33,7 +33,8 @@ knownis : (ps : List Played) (i : ℕ) (d x : Played) → IsRecord ps i x → ge
 knownis ps i d x at = of_some (get_or ps i d) x (sym (here_is ps i d (below_length ps i x at)) ∙ at)
 
 -- a key between two of slot s is one of it
-key_within : (s t : SlotName) (a b n : ℕ) → s.start < 4294967296 → t.start < 4294967296 → n < 18446744073709551616 → b ≤ 18446744073709551616 → word_key s a ≤ word_key t n → word_key t n < word_key s b
+key_within : (s t : SlotName) (a b n : ℕ) → s.start < 4294967296 → t.start < 4294967296 → n < 18446744073709551616
+    → b ≤ 18446744073709551616 → word_key s a ≤ word_key t n → word_key t n < word_key s b
     → (t ≡ s) × (a ≤ n) × (n < b)
 key_within s t a b n start start' low most from below =
     let names : name_key t ≡ name_key s = omega (arith, low, most, from, below) in
@@ -48,7 +49,8 @@ record IsFound (kind : Kind) (ps : List Played) (s : SlotName) (a b q i : ℕ) (
   does : DoesAt kind (get_or ps i d) s number
   here : IsRecord ps i (get_or ps i d)
 
-found_at : (kind : Kind) (ps : List Played) (f : ℕ → Option ℕ) (s : SlotName) (a b q i : ℕ) (d : Played) → s.start < 4294967296 → b ≤ 18446744073709551616 → AreByNumber kind ps f (length ps) → f q ≡ Some i
+found_at : (kind : Kind) (ps : List Played) (f : ℕ → Option ℕ) (s : SlotName) (a b q i : ℕ) (d : Played) → s.start < 4294967296
+    → b ≤ 18446744073709551616 → AreByNumber kind ps f (length ps) → f q ≡ Some i
     → word_key s a ≤ q → q < word_key s b → IsFound kind ps s a b q i d
 found_at kind ps f s a b q i d start most h at from below =
     let (x, t, n, less, here, does, key) = h.hit q i at in
@@ -66,7 +68,8 @@ found_at kind ps f s a b q i d start most h at from below =
     }
 
 -- if there is no key, no record did so
-none_at : (kind : Kind) (ps : List Played) (f : ℕ → Option ℕ) (s : SlotName) (low high m j : ℕ) (y : Played) → AreByNumber kind ps f (length ps) → HasNoKey f low high → low ≤ word_key s m → word_key s m < high → IsRecord ps j y
+none_at : (kind : Kind) (ps : List Played) (f : ℕ → Option ℕ) (s : SlotName) (low high m j : ℕ) (y : Played)
+    → AreByNumber kind ps f (length ps) → HasNoKey f low high → low ≤ word_key s m → word_key s m < high → IsRecord ps j y
     → DoesAt kind y s m → ⊥
 none_at kind ps f s low high m j y h none from below at does =
     let (start, small, there) = h.whole j y s m (below_length ps j y at) at does in
@@ -167,7 +170,8 @@ content_written ps s k n value i x here (seen, reg, op, answer, slot, number) be
       nothing m j y (omega (arith, after)) less at (writing_fills y s m other is),
 )
 
-content_of : (ps : List Played) (s : SlotName) (k n i : ℕ) (x : Played) → IsOneAt Fill ps → IsRecord ps i x → DoesAt Fill x s n → n < k → NoFill ps s (n + 1) k → IsContent ps s k (put_by x.op x.answer)
+content_of : (ps : List Played) (s : SlotName) (k n i : ℕ) (x : Played) → IsOneAt Fill ps → IsRecord ps i x → DoesAt Fill x s n → n < k
+    → NoFill ps s (n + 1) k → IsContent ps s k (put_by x.op x.answer)
 content_of ps s k n i x one here (seen, is, slot, number) below nothing = elim (either x.op x.answer seen is) [
   | inl (usable, answer, zero) ↦ subst (λ z. IsContent ps s k z) (sym zero) (content_made ps s k n i x one here (seen, usable, answer, slot, number) below nothing)
   | inr (reg, value, op, answer, puts) ↦ subst (λ z. IsContent ps s k z) (sym puts) (content_written ps s k n value i x here (seen, reg, op, answer, slot, number) below nothing)
@@ -209,7 +213,8 @@ free_least ps f s k q i d start h least =
       ],
     )
 
-pub free_none : (ps : List Played) (f : ℕ → Option ℕ) (s : SlotName) (k : ℕ) (y : Played) → AreByNumber Free ps f (length ps) → HasNoKey f (word_key s k) (word_key s 18446744073709551615 + 1) → IsNextFree ps s k y → ⊥
+pub free_none : (ps : List Played) (f : ℕ → Option ℕ) (s : SlotName) (k : ℕ) (y : Played) → AreByNumber Free ps f (length ps)
+    → HasNoKey f (word_key s k) (word_key s 18446744073709551615 + 1) → IsNextFree ps s k y → ⊥
 free_none ps f s k y h none (n, freed, from, least) =
     let (j, at, does) = frees_does ps s n y freed in
     let (start, low, there) = h.whole j y s n (below_length ps j y at) at does in

@@ -145,7 +145,8 @@ table_skip kind ps at k d below none h = record {
   ];
 }
 
-pub table_put : (kind : Kind) (ps : List Played) (f g : ℕ → Option ℕ) (k : ℕ) (d : Played) (seen : Seen) → IsOneAt kind ps → k < length ps → seen_by kind (get_or ps k d).op (get_or ps k d).answer ≡ Some seen
+pub table_put : (kind : Kind) (ps : List Played) (f g : ℕ → Option ℕ) (k : ℕ) (d : Played) (seen : Seen) → IsOneAt kind ps
+    → k < length ps → seen_by kind (get_or ps k d).op (get_or ps k d).answer ≡ Some seen
     → IsSized seen.slot (number_of seen.found.0) → Puts f g (word_key seen.slot (number_of seen.found.0)) k → AreByNumber kind ps f k → AreByNumber kind ps g (k + 1)
 table_put kind ps f g k d seen one below is sized puts h =
     let here = here_is ps k d below in

@@ -35,9 +35,9 @@ pub fn contents_meet(
     requires few { length records.now < 2 ^ 32 }
     requires rising { RiseByLine records.now }
     requires within { All IsPlayedWithin records.now }
-    requires registers { (i : ℕ) → RegistersDemand usable_of (history_at cells.now) records.now (places.Record i) }
+    requires registers { (i : ℕ) → RegistersDemand (usable_of 1) (history_at cells.now) records.now (places.Record i) }
     requires slots { (i : ℕ) → SlotsDemand records.now (places.Record i) }
-    ensures { IfOk result (TellsFirst (λ i. ContentsDemand usable_of (history_at cells.now) records.now (places.Record i))) }
+    ensures { IfOk result (TellsFirst (λ i. ContentsDemand (usable_of 1) (history_at cells.now) records.now (places.Record i))) }
 {
     if need_no_content(records) {
         return Ok(None);

@@ -21,7 +21,7 @@ use Rattle.pa_audit_records.proofs.Rowing.{row_may, may_row}
 
 -- Each record so far has the answer that its registers ask for, and the list has the registers after them.
 pub record RegsSoFar (cells : ℕ → List CellEntry) (ps : List Played) (list : List Reg) (i : ℕ) : Type 0 where
-  pub met : (j : ℕ) → j < i → RegistersDemand usable_of cells ps (places.Record j)
+  pub met : (j : ℕ) → j < i → RegistersDemand (usable_of 1) cells ps (places.Record j)
   pub rows : RowsTo (facts_by cells ps) no_regs (take i ps) (regs_in list)
 
 same_regs : (list : List Reg) (all : AllRegs) → AreRegsOf list all → regs_in list ≡ all
@@ -35,7 +35,7 @@ record_among ps i d below = at_in ps i (get_or ps i d) (here_is ps i d below)
 
 pub regs_not : (cells : ℕ → List CellEntry) (ps : List Played) (list : List Reg) (i : ℕ) (d : Played) → i < length ps → RegsSoFar cells ps list i
     → (MayAnswer (facts_by cells ps) (get_or ps i d).op (regs_in list (get_or ps i d).thread) (get_or ps i d).answer → ⊥)
-    → TellsFirst (λ k. RegistersDemand usable_of cells ps (places.Record k)) (Some i)
+    → TellsFirst (λ k. RegistersDemand (usable_of 1) cells ps (places.Record k)) (Some i)
 regs_not cells ps list i d below h other =
     let x = get_or ps i d in (
       λ met. let (all, next, rows, row) = met x (here_is ps i d below) in
@@ -60,7 +60,7 @@ regs_more cells ps list later i d below h may has =
         | inl before ↦ h.met j before
         | inr least ↦
             let same : i ≡ j = omega (arith, less, least) in
-            subst (λ k. RegistersDemand usable_of cells ps (places.Record k)) same
+            subst (λ k. RegistersDemand (usable_of 1) cells ps (places.Record k)) same
             (λ y at. let is : x ≡ y = of_some x y (sym (here_is ps i d below) ∙ at) in
             subst (λ (z : Played). (all : AllRegs) × (next : Regs) × RowsTo facts no_regs (take i ps) all × Row facts z.op (all z.thread) z.answer next) is
             (regs_in list, next, h.rows, row))
@@ -68,7 +68,7 @@ regs_more cells ps list later i d below h may has =
       rows = subst (λ (zs : List Played). RowsTo facts no_regs zs (regs_in later)) long (subst (λ (z : AllRegs). RowsTo facts no_regs (take i ps ++ x ∷ []) z) all to);
     }
 
-pub regs_all : (cells : ℕ → List CellEntry) (ps : List Played) (list : List Reg) (i : ℕ) → length ps ≤ i → RegsSoFar cells ps list i → TellsFirst (λ k. RegistersDemand usable_of cells ps (places.Record k)) None
+pub regs_all : (cells : ℕ → List CellEntry) (ps : List Played) (list : List Reg) (i : ℕ) → length ps ≤ i → RegsSoFar cells ps list i → TellsFirst (λ k. RegistersDemand (usable_of 1) cells ps (places.Record k)) None
 regs_all cells ps list i end h j = elim (cases_lt j i) [
   | inl before ↦ h.met j before
   | inr least ↦ λ x at. absurd (none_past ps j x (omega (arith, end, least)) at)

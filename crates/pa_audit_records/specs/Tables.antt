@@ -48,7 +48,7 @@ with_register all thread reg holds = with_thread all thread (with (all thread) r
 
 -- what the rows need besides the registers, by these records and cells
 abbrev pub facts_by : (ℕ → List CellEntry) → List Played → Facts
-facts_by cells ps = record { usable_of = usable_of; usable_at = usable_in ps; cells = cells }
+facts_by cells ps = record { usable_of = usable_of 1; usable_at = usable_in ps; cells = cells }
 
 -- the registers after a record, by its answer
 abbrev pub regs_next : (ℕ → List CellEntry) → AllRegs → Played → AllRegs

@@ -2,6 +2,7 @@
 #![tactic(auto)]
 
 mod along;
+mod asked;
 mod by_key;
 mod cells;
 mod changes;
@@ -19,6 +20,7 @@ mod steps;
 mod usable;
 mod walk;
 
+pub use asked::{class_for, is_map_size};
 pub use by_key::ByKey;
 pub use cells::{exchanges_meet, swaps_meet};
 pub use ends::ends_of;

@@ -1,4 +1,5 @@
 ghost use Rattle.std.specs.Prelude.{◌≡◌, ◌↔◌, ◌<◌, ◌-◌, ◌^◌, IsTrue, Some, length, map, slice_get};
+ghost use Rattle.pa_trace.specs.declared.script.Rules.{Rules};
 ghost use Rattle.pa_rules.specs.declared.verdict.Place.TheVariants as places;
 ghost use Rattle.pa_rules.specs.Played.{key_of_entry};
 ghost use Rattle.pa_rules.specs.RecordDemands.{LinesDemand};
@@ -11,7 +12,7 @@ use pa_trace::Line;
 /// or of another one. None if the records are those of the trace's op lines.
 pub fn lines_meet(lines: &[Line], records: &[Entry]) -> Option<u32>
     requires lines { length lines.now < 2 ^ 32 - 2 }
-    ensures { TellsFirst (λ i. LinesDemand lines.now records.now (places.Record i)) result }
+    ensures { (rules : Rules) → TellsFirst (λ i. LinesDemand rules lines.now records.now (places.Record i)) result }
 {
     let mut at: u32 = 0;
     let mut number: u32 = 2;

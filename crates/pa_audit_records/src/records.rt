@@ -8,28 +8,34 @@ ghost use Rattle.pa_rules.specs.Rising.{RiseByLine};
 use pa_record::Entry;
 use pa_rules::Played;
 use pa_slot::OutOfMemory;
-use pa_trace::Line;
+use pa_trace::{Line, Rules};
 use std::alloc::Global;
 
-/// The records paired with the ops of the trace's lines. If one list is longer, the rest of it is left out.
+/// The records paired with the ops of the lines of a trace with these rules. If one list is longer, the rest of it is left out.
 pub fn records_of(
     alloc: Global,
+    rules: Rules,
     lines: &[Line],
     records: &[Entry],
 ) -> Result<Vec<Played>, OutOfMemory>
     requires lines { length lines.now < 2 ^ 32 - 2 }
-    ensures records { IfOk result (λ all. all.items ≡ played lines.now records.now) }
+    ensures records { IfOk result (λ all. all.items ≡ played rules lines.now records.now) }
     ensures rising { IfOk result (λ all. RiseByLine all.items) }
     ensures phased { IfOk result (λ all. RiseByPhase all.items) }
     ensures few { IfOk result (λ all. length all.items ≤ length lines.now) }
 {
-    let all = gather(alloc, lines, records)?;
+    let all = gather(alloc, rules, lines, records)?;
     Ok(all)
 }
 
-fn gather(alloc: Global, lines: &[Line], records: &[Entry]) -> Result<Vec<Played>, OutOfMemory>
+fn gather(
+    alloc: Global,
+    rules: Rules,
+    lines: &[Line],
+    records: &[Entry],
+) -> Result<Vec<Played>, OutOfMemory>
     requires lines { length lines.now < 2 ^ 32 - 2 }
-    ensures records { IfOk result (λ all. all.items ≡ played lines.now records.now) }
+    ensures records { IfOk result (λ all. all.items ≡ played rules lines.now records.now) }
     ensures few { IfOk result (λ all. length all.items ≤ length lines.now) }
 {
     let mut all = Vec::with_capacity(alloc, records.len())?;
@@ -46,6 +52,7 @@ fn gather(alloc: Global, lines: &[Line], records: &[Entry]) -> Result<Vec<Played
                     line: number,
                     thread,
                     phase,
+                    rules,
                     op,
                     answer: entry.answer,
                 })?;

@@ -23,7 +23,7 @@ fn is_done(slot: SlotName, answer: Answer) -> bool
 
 // Whether a request of that many bytes may have this answer.
 fn may_request(size: u32, answer: Answer) -> bool
-    ensures { IsTrue result ↔ AnswersRequest (usable_of size) size answer }
+    ensures { IsTrue result ↔ AnswersRequest (usable_of 1 size) size answer }
 {
     if size > GREATEST_SIZE {
         return matches!(answer, Answer::TooLarge);
@@ -37,7 +37,7 @@ fn may_request(size: u32, answer: Answer) -> bool
 
 // Whether an allocation may have this answer, by what its register holds.
 pub(crate) fn may_alloc(holds: Register<SlotName>, size: u32, answer: Answer) -> bool
-    ensures { IsTrue result ↔ AnswersAlloc holds (usable_of size) size answer }
+    ensures { IsTrue result ↔ AnswersAlloc holds (usable_of 1 size) size answer }
 {
     if holds.has_handle() {
         matches!(answer, Answer::Filled)

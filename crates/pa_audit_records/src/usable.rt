@@ -17,10 +17,10 @@ use std::alloc::Global;
 // Bytes of a count word.
 const COUNT_WORD: u32 = 8;
 
-// How many bytes of the slot of a request for `size` bytes are usable.
+// How many bytes of the slot of a request for `size` bytes are usable in version 1.
 pub(crate) fn usable_for(size: u32) -> u32
     requires { size ≤ greatest_size }
-    ensures { result ≡ usable_of size }
+    ensures { result ≡ usable_of 1 size }
 {
     match class_of(raw_of(size)) {
         Some(class) => slot_size(class) - COUNT_WORD,

@@ -31,7 +31,7 @@ pub fn registers_meet(
 ) -> Result<Option<u32>, OutOfMemory>
     requires few { length records.now < 2 ^ 32 }
     requires within { All IsPlayedWithin records.now }
-    ensures { IfOk result (TellsFirst (λ i. RegistersDemand usable_of (history_at cells.now) records.now (places.Record i))) }
+    ensures { IfOk result (TellsFirst (λ i. RegistersDemand (usable_of 1) (history_at cells.now) records.now (places.Record i))) }
 {
     let usables = usables_to_read(alloc, salt, records)?;
     let mut registers = Registers::new(alloc)?;

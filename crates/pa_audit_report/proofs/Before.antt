@@ -5,6 +5,8 @@ use Rattle.pa_trace.specs.declared.script.Trace.{Trace}
 use Rattle.pa_trace.specs.declared.script.Op.{Op}
 use Rattle.pa_trace.specs.declared.script.Op.TheVariants as ops
 use Rattle.pa_trace.specs.Limits.{IsOpWithin, IsWithinLimits}
+use Rattle.pa_trace.specs.Rules.{rules_of}
+use Rattle.pa_rules.proofs.Ruling.{told_version}
 use Rattle.pa_record.specs.declared.run.Run.{Run}
 use Rattle.pa_lists.proofs.Members.{first_in, later_in}
 use Rattle.std.proofs.lemmas.List.Elements.{All-cons, All-nil}
@@ -44,23 +46,23 @@ all_of (x ∷ xs) h = All-cons IsOfThreads x xs (h x (first_in x xs)) (all_of xs
 -- ---- the clauses
 
 module _ (t : Trace) (r : Run) (limits : IsWithinLimits t) (before : HoldBefore t r) where
-  due : AreDue t.lines r.entries.items
+  due : AreDue (rules_of t) t.lines r.entries.items
   due = (lines_are_places t (told_by r)).1 (before clauses.Lines (omega arith))
 
-  lines : AreLines t.lines (records_of t (told_by r))
-  lines = records_are_lines.lines t.lines r.entries.items due
+  lines : AreLines (rules_of t) t.lines (records_of t (told_by r))
+  lines = records_are_lines.lines (rules_of t) t.lines r.entries.items due
 
   within : (x : Played) → Contains (records_of t (told_by r)) x → IsOfThreads x
   within x among =
       let (thread, op) = records_within t (records_of t (told_by r)) x limits lines among in
       let few = limits.head.1.1 in
       let many = limits.head.2.1 in
-      (omega (arith, thread, many), names_within t.partitions x.op few op)
+      (omega (arith, thread, many), names_within t.partitions x.op few op, told_version t (told_by r) x limits among)
 
   given_here : IsGiven t.region t.partitions (records_of t (told_by r)) r.pool.items (told_by r).roots
   given_here = record {
-    rising = lines_rise t.lines (records_of t (told_by r)) lines;
-    phased = phased_played t.lines r.entries.items;
+    rising = lines_rise (rules_of t) t.lines (records_of t (told_by r)) lines;
+    phased = phased_played (rules_of t) t.lines r.entries.items;
     within = all_of (records_of t (told_by r)) within;
     slots = (slots_are_places t (told_by r) due).1 (before clauses.Slots (omega arith));
     ordered = seen_in_phases (told_by r).cells (records_of t (told_by r)) ((seen_is_places t (told_by r)).1 (before clauses.Seen (omega arith)));

@@ -2,8 +2,10 @@
 use Rattle.std.proofs.Common.{◌≡◌, ◌≢◌, ℕ, zero, suc, ◌+◌, ◌<◌, List, [], ◌∷◌, ◌++◌, length, Option, Some, refl, sym, ◌∙◌, ap, subst, arith}
 use Rattle.std.specs.Prelude.{slice_get, slice_index_or}
 use Rattle.std.proofs.lemmas.List.{map-append, append-nil, append_assoc}
-use Rattle.std.proofs.lemmas.List.Elements.{All-nil, All-push}
+use Rattle.std.proofs.lemmas.List.Elements.{All-nil, All-push, All-contains}
 use Rattle.std.proofs.lemmas.List.Kept.{AllPairs-filter}
+use Rattle.pa_audit_holders.specs.Rows.{IsOfThreads}
+use Rattle.pa_rules.proofs.Versions.{real_first}
 use Rattle.pa_record.specs.declared.census.Census.{Census}
 use Rattle.pa_record.specs.declared.pool.PoolEntry.{PoolEntry}
 use Rattle.pa_record.specs.declared.report.ReportLine.{ReportLine}
@@ -35,9 +37,15 @@ use Rattle.pa_rules.proofs.ReportLines.{phases_push}
 pub kinds_given : (supers partitions : ℕ) (ps : List Played) (pools : List PoolEntry) (roots : Journals) → IsGiven supers partitions ps pools roots → HaveOneKind roots
 kinds_given supers partitions ps pools roots g s =
     let kind = one_kind supers partitions ps pools roots s g.journals g.pool in
-    record { class = kind.class; real = kind.real; direct = kind.direct; either = kind.either }
+    record {
+      class = kind.class;
+      real = λ p c of. let (x, among, has) = kind.real p c of in real_first x.rules.version c (All-contains IsOfThreads ps x g.within among).2 has;
+      direct = kind.direct;
+      either = kind.either;
+    }
 
-tallied_given : (supers partitions n : ℕ) (ps : List Played) (pools : List PoolEntry) (roots : Journals) → IsGiven supers partitions ps pools roots → IsTallied supers partitions ps (until n ps) pools roots
+tallied_given : (supers partitions n : ℕ) (ps : List Played) (pools : List PoolEntry) (roots : Journals)
+    → IsGiven supers partitions ps pools roots → IsTallied supers partitions ps (until n ps) pools roots
 tallied_given supers partitions n ps pools roots g =
     let differ = rising_differ ps g.rising in
     record {
@@ -67,7 +75,8 @@ line_due supers partitions threads p i ps pools roots at u tallies cached c l g 
 
 -- ---- columns
 
-pub columns_next : (phases partitions threads n : ℕ) (ps : List Played) (pools : List PoolEntry) (roots : Journals) (columns after : List (List ReportLine)) (lines : List ReportLine) → after ≡ columns ++ lines ∷ [] → length lines ≡ phases
+pub columns_next : (phases partitions threads n : ℕ) (ps : List Played) (pools : List PoolEntry) (roots : Journals) (columns after : List (List ReportLine)) (lines : List ReportLine)
+    → after ≡ columns ++ lines ∷ [] → length lines ≡ phases
     → IsColumn partitions threads ps pools roots n lines → AreColumns phases partitions threads ps pools roots n columns → AreColumns phases partitions threads ps pools roots (n + 1) after
 columns_next phases partitions threads n ps pools roots columns after lines is long here h = record {
   many = long_next columns after lines n is h.many;
@@ -86,7 +95,8 @@ pub gathers_none : (phases partitions : ℕ) (columns : List (List ReportLine)) 
 gathers_none phases partitions columns lines none threads ps pools roots are = subst (λ ls. IsReportTo partitions threads ps pools roots 0 0 ls) (sym none)
     (record { places = refl; right = All-nil (IsReportLine partitions threads ps pools roots) })
 
-pub gathers_line : (phases partitions i p : ℕ) (columns : List (List ReportLine)) (lines after column : List ReportLine) (l : ReportLine) → p < partitions → slice_get columns p ≡ Some column → slice_get column i ≡ Some l → after ≡ lines ++ l ∷ []
+pub gathers_line : (phases partitions i p : ℕ) (columns : List (List ReportLine)) (lines after column : List ReportLine) (l : ReportLine)
+    → p < partitions → slice_get columns p ≡ Some column → slice_get column i ≡ Some l → after ≡ lines ++ l ∷ []
     → GathersTo phases partitions columns i p lines → GathersTo phases partitions columns i (p + 1) after
 gathers_line phases partitions i p columns lines after column l low at there is h threads ps pools roots are =
     let so = h threads ps pools roots are in
@@ -103,7 +113,8 @@ gathers_line phases partitions i p columns lines after column l low at there is 
     plain : (n : ℕ) → 0 + n ≡ n
     plain n = omega arith
 
-pub gathers_phase : (phases partitions i p : ℕ) (columns : List (List ReportLine)) (lines : List ReportLine) → p ≡ partitions → GathersTo phases partitions columns i p lines → GathersTo phases partitions columns (i + 1) 0 lines
+pub gathers_phase : (phases partitions i p : ℕ) (columns : List (List ReportLine)) (lines : List ReportLine) → p ≡ partitions
+    → GathersTo phases partitions columns i p lines → GathersTo phases partitions columns (i + 1) 0 lines
 gathers_phase phases partitions i p columns lines end h threads ps pools roots are =
     let so = h threads ps pools roots are in
     let more : phases_of partitions 1 (i + 1) ≡ phases_of partitions 1 i ++ partitions_of (i + 1) 0 partitions =

@@ -110,7 +110,8 @@ same_more lines due i l at there same j less = elim (cases_lt j i) [
       ap (λ k. slice_get lines k) here ∙ at ∙ sym there ∙ ap (λ k. slice_get due k) (sym here)
 ]
 
-pub one_missing : (lines due : List ReportLine) (i : ℕ) → length lines ≤ i → i < length due → ((j : ℕ) → j < i → slice_get lines j ≡ slice_get due j) → TellsFirst (λ k. slice_get lines k ≡ slice_get due k) (Some i)
+pub one_missing : (lines due : List ReportLine) (i : ℕ) → length lines ≤ i → i < length due
+    → ((j : ℕ) → j < i → slice_get lines j ≡ slice_get due j) → TellsFirst (λ k. slice_get lines k ≡ slice_get due k) (Some i)
 one_missing lines due i end more same = (
   λ e. let inside = slice_get_within lines i _ (e ∙ slice_get-get_or due i blank more) in absurd (omega (arith, inside, end)),
   same,
@@ -132,7 +133,8 @@ one_missing lines due i end more same = (
       decommitted = 0;
     }
 
-pub all_same : (lines due : List ReportLine) (i : ℕ) → length lines ≤ i → length due ≤ length lines → ((j : ℕ) → j < i → slice_get lines j ≡ slice_get due j) → TellsFirst (λ k. slice_get lines k ≡ slice_get due k) None
+pub all_same : (lines due : List ReportLine) (i : ℕ) → length lines ≤ i → length due ≤ length lines
+    → ((j : ℕ) → j < i → slice_get lines j ≡ slice_get due j) → TellsFirst (λ k. slice_get lines k ≡ slice_get due k) None
 all_same lines due i end few same j = elim (cases_lt j i) [
   | inl before ↦ same j before
   | inr least ↦ slice_get_past lines j (omega (arith, end, least)) ∙ sym (slice_get_past due j (omega (arith, end, few, least)))

@@ -37,7 +37,8 @@ none_weighs : (test : Step → ℕ → Bool) (weight : SlotName → ℕ) (o : Op
 none_weighs test weight None e = refl
 none_weighs test weight (Some m) e = rw e refl
 
-slot_weighs : (test : Step → ℕ → Bool) (weight : SlotName → ℕ) (o : Option Mark) (m : Mark) (b : Bool) → o ≡ Some m → b ≡ mark_passes test o → one_weight test weight o ≡ (if b then weight m.slot else 0)
+slot_weighs : (test : Step → ℕ → Bool) (weight : SlotName → ℕ) (o : Option Mark) (m : Mark) (b : Bool) → o ≡ Some m
+    → b ≡ mark_passes test o → one_weight test weight o ≡ (if b then weight m.slot else 0)
 slot_weighs test weight o m b e passed =
     let here : b ≡ at_step test m.found m.step = passed ∙ ap (mark_passes test) e in
     rw e (rw here refl)
@@ -92,7 +93,8 @@ module _ (test : Step → ℕ → Bool) (at : ℕ → Option Home) (p : ℕ) (xs
 
 -- ---- the counts
 
-pub counted_quiet : (at : ℕ → Option Home) (p i : ℕ) (ps : List Played) (x : Played) (c : Count) → slice_get ps i ≡ Some x → MovesNothing x → HasCounted at p (take i ps) c → HasCounted at p (take (i + 1) ps) c
+pub counted_quiet : (at : ℕ → Option Home) (p i : ℕ) (ps : List Played) (x : Played) (c : Count) → slice_get ps i ≡ Some x
+    → MovesNothing x → HasCounted at p (take i ps) c → HasCounted at p (take (i + 1) ps) c
 counted_quiet at p i ps x c there none h = subst (λ zs. HasCounted at p zs c) (sym (front_more ps i x there)) (record {
   issued = quiet issues at p (take i ps) x c.issued h.issued none.issues_not;
   freed = quiet frees at p (take i ps) x c.freed h.freed none.frees_not;
@@ -100,7 +102,8 @@ counted_quiet at p i ps x c there none h = subst (λ zs. HasCounted at p zs c) (
   left = quiet leaves at p (take i ps) x c.left h.left none.leaves_not;
 })
 
-pub counted_other : (at : ℕ → Option Home) (p i : ℕ) (ps : List Played) (x : Played) (z : Stepped) (c : Count) → slice_get ps i ≡ Some x → IsStepOf x z → home_in at z.slot ≢ p → HasCounted at p (take i ps) c → HasCounted at p (take (i + 1) ps) c
+pub counted_other : (at : ℕ → Option Home) (p i : ℕ) (ps : List Played) (x : Played) (z : Stepped) (c : Count) → slice_get ps i ≡ Some x
+    → IsStepOf x z → home_in at z.slot ≢ p → HasCounted at p (take i ps) c → HasCounted at p (take (i + 1) ps) c
 counted_other at p i ps x z c there step away h =
     let m = step.mark in
     let far : home_in at step.mark.slot ≢ p = subst (λ s. home_in at s ≢ p) (sym step.slot) away in
@@ -111,7 +114,8 @@ counted_other at p i ps x z c there step away h =
       left = other leaves at p (take i ps) x c.left h.left m step.is far;
     })
 
-pub counted_more : (at : ℕ → Option Home) (p i n : ℕ) (ps : List Played) (x : Played) (z : Stepped) (c : Count) → slice_get ps i ≡ Some x → IsStepOf x z → IsBytesOf at p z.slot n → n < 4294967296 → HasCounted at p (take i ps) c
+pub counted_more : (at : ℕ → Option Home) (p i n : ℕ) (ps : List Played) (x : Played) (z : Stepped) (c : Count)
+    → slice_get ps i ≡ Some x → IsStepOf x z → IsBytesOf at p z.slot n → n < 4294967296 → HasCounted at p (take i ps) c
     → HasCounted at p (take (i + 1) ps) (raised_by c z n)
 counted_more at p i n ps x z c there step is few h =
     let m = step.mark in

@@ -31,7 +31,8 @@ some_is : (o : Option Home) → IsSome o → (h : Home) × (o ≡ Some h)
 some_is None some = absurd (false≢true some)
 some_is (Some h) some = (h, refl)
 
-left_sized : (roots : Journals) (f : ℕ → Option Home) (p : ℕ) (s : SlotName) (e : RootEntry) → KnowsHomes roots f → Contains (roots p) e → Contains (leaves_by e.act) s → (h : Home) × (home_at f s ≡ Some h)
+left_sized : (roots : Journals) (f : ℕ → Option Home) (p : ℕ) (s : SlotName) (e : RootEntry) → KnowsHomes roots f → Contains (roots p) e
+    → Contains (leaves_by e.act) s → (h : Home) × (home_at f s ≡ Some h)
 left_sized roots f p s e knows (i, below, is) leaves =
     let (some, low) = knows.all p i e (slice_get-get_or (roots p) i e below ∙ ap Some is) s leaves in
     let (h, at) = some_is (f (name_key s)) some in

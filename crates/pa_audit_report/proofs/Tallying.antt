@@ -108,7 +108,8 @@ slots_stay at xs slots s = by_home (homed at s) refl
 
 -- ---- what is left out weighs nothing
 
-weighs_none : (test : Step → ℕ → Bool) (weight : SlotName → ℕ) (at : ℕ → Option Home) (o : Option Mark) → ((s : SlotName) → homed at s ≡ false → weight s ≡ 0) → mark_homed at o ≡ false → one_weight test weight o ≡ 0
+weighs_none : (test : Step → ℕ → Bool) (weight : SlotName → ℕ) (at : ℕ → Option Home) (o : Option Mark)
+    → ((s : SlotName) → homed at s ≡ false → weight s ≡ 0) → mark_homed at o ≡ false → one_weight test weight o ≡ 0
 weighs_none test weight at None h away = absurd (false≢true (sym away))
 weighs_none test weight at (Some m) h away = by_test (at_step test m.found m.step)
   where

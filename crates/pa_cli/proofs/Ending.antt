@@ -1,7 +1,6 @@
 -- What a status and its cause imply if the input is good, if it is faulty, and if nothing is read.
 use Rattle.std.proofs.Common.{◌≡◌, ◌∙◌, ℕ, List, Option, Some, None, IfSome, inl, inr, refl, sym, ap, subst}
 use Rattle.pa_io.specs.Moves.{IsAllOf}
-use Rattle.pa_trace.specs.declared.script.Trace.{Trace}
 use Rattle.pa_trace.specs.declared.fault.TraceFault.{TraceFault}
 use Rattle.pa_trace.specs.declared.fault.TraceFault.TheVariants as faults
 use Rattle.pa_trace.specs.Limits.{IsInput}

@@ -108,11 +108,12 @@ module _ (a b : Run) (h : IsSameRun a b) where
 -- a text is of one trace
 same_trace : (s t : Trace) → IsSameTrace s t → s ≡ t
 same_trace s t h =
-    let first : ℕ → Trace = λ x. record s { region = x } in
-    let second : ℕ → Trace = λ x. record s { region = t.region; partitions = x } in
-    let third : ℕ → Trace = λ x. record t { threads = x; lines = s.lines } in
-    let fourth : List Line → Trace = λ x. record t { lines = x } in
-    ap first h.region ∙ (ap second h.partitions ∙ (ap third h.threads ∙ ap fourth h.lines))
+    let first : ℕ → Trace = λ x. record s { version = x } in
+    let second : ℕ → Trace = λ x. record s { version = t.version; region = x } in
+    let third : ℕ → Trace = λ x. record s { version = t.version; region = t.region; partitions = x } in
+    let fourth : ℕ → Trace = λ x. record t { threads = x; lines = s.lines } in
+    let fifth : List Line → Trace = λ x. record t { lines = x } in
+    ap first h.version ∙ (ap second h.region ∙ (ap third h.partitions ∙ (ap fourth h.threads ∙ ap fifth h.lines)))
 
 -- the verdict on a run after a number of other lines
 abbrev behind : ℕ → Verdict → Verdict

@@ -3,6 +3,7 @@ use Rattle.std.proofs.Common.{◌≡◌, ◌∙◌, ℕ, List, Some, refl, ap, �
 use Rattle.pa_trace.specs.declared.script.Trace.{Trace}
 use Rattle.std.specs.List.{flat_map}
 use Rattle.pa_trace.specs.Limits.{IsWithinLimits, most_bytes}
+use Rattle.pa_trace.specs.Rules.{rules_of}
 use Rattle.pa_record.specs.declared.report.ReportLine.{ReportLine}
 use Rattle.pa_record.specs.declared.run.Run.{Run}
 use Rattle.pa_rules.specs.Cells.{history_at}
@@ -77,7 +78,7 @@ run_summed rounds key t r words text generated played printed = record {
 -- what is written of the pairs of a run is their text, with the slots that the last lines of its report have in quarantine
 pub pairs_printed : (t : Trace) (r : Run) (report : List ReportLine) (pairs : List Pair) (freed slots left : ℕ) (text written : List ℕ)
     → report ≡ r.report.items → slots ≡ (sums_at_end (λ l. l.quarantined) report).slots
-    → AreFound (history_at r.cells.items) (played t.lines r.entries.items) pairs freed → left ≡ slots → text ≡ dangling_text pairs freed left
+    → AreFound (history_at r.cells.items) (played (rules_of t) t.lines r.entries.items) pairs freed → left ≡ slots → text ≡ dangling_text pairs freed left
     → written ≡ text → IsPairsText t r written
 pairs_printed t r report pairs freed slots left text written same sum found is printed whole = record {
   pairs = pairs;

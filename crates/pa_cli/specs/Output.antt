@@ -4,6 +4,7 @@ use Rattle.pa_trace.specs.declared.script.Trace.{Trace}
 use Rattle.pa_trace.specs.Grammar.{IsTraceText}
 use Rattle.pa_trace.specs.Limits.{IsInput, most_bytes}
 use Rattle.pa_trace.specs.Generated.{IsGenerated}
+use Rattle.pa_trace.specs.Rules.{rules_of}
 use Rattle.pa_record.specs.declared.run.Run.{Run}
 use Rattle.pa_record.specs.RunText.{IsRunText}
 use Rattle.pa_rules.specs.Cells.{history_at}
@@ -112,7 +113,7 @@ pub record IsAuditOutput (before after : Stream) (text : List ℕ) : Type 0 wher
 pub record IsPairsText (trace : Trace) (run : Run) (text : List ℕ) : Type 0 where
   pub pairs : List Pair
   pub freed : ℕ
-  pub found : AreFound (history_at run.cells.items) (played trace.lines run.entries.items) pairs freed
+  pub found : AreFound (history_at run.cells.items) (played (rules_of trace) trace.lines run.entries.items) pairs freed
   pub printed : text ≡ dangling_text pairs freed (sums_at_end (λ l. l.quarantined) run.report.items).slots
 
 -- the output of `dangling`: the source's bytes, all of which were read, are this trace followed by this legal run of it, and the text is

@@ -14,6 +14,7 @@ use Rattle.pa_machine.specs.Events.{State, Holds}
 use Rattle.pa_slot.proofs.Runs.{same_slot_yes}
 use Rattle.pa_machine.proofs.Amounts.{returned_cases}
 use Rattle.pa_trace.specs.declared.script.Op.TheVariants as ops
+use Rattle.pa_rules.proofs.Versions.{real_in}
 use Rattle.pa_record.specs.declared.entry.Seen.{Seen}
 use Rattle.pa_record.specs.declared.entry.Answer.TheVariants as answers
 use Rattle.pa_record.specs.Spans.{name_of}
@@ -99,7 +100,7 @@ module _ (a : Parts) (before rest : List Played) (x : Played) (h : IsFiled a) (p
       let content = with_slot st.content seen.slot 0 in
       let kept : (y : SlotName) → (y ≡ m.slot → ⊥) → content y ≡ st.content y = λ y ne. at_other_slot st.content seen.slot 0 y ne in
       let fall = lists_fall a.partitions a.roots x seen (st.caches x.thread) (cache_left a before rest x h parts st f)
-      (λ p class (r, n, asks, class_of). (let both : ops.Alloc reg part size ≡ ops.Alloc r p n = sym op ∙ asks in let e : part ≡ p = cc in (subst (λ z. z < a.partitions) e part_few, omega (arith, class_of.real)))) no_acts row in
+      (λ p class (r, n, asks, class_of). (let both : ops.Alloc reg part size ≡ ops.Alloc r p n = sym op ∙ asks in let e : part ≡ p = cc in (subst (λ z. z < a.partitions) e part_few, real_in x.rules.version class (class_of.from, class_of.real)))) no_acts row in
       let set = set_named a before rest x h parts st f s shown t m Issue reg Own content name (set_by a before rest x h parts st f m Issue reg (Own m.slot) content is refl reg_few other becomes kept) in
       let can = subst (λ y. CanStep Issue (st.word y)) (sym name) (can_step a before rest x h parts st f m Issue is refl) in
       let now : content seen.slot ≡ 0 = at_slot st.content seen.slot 0 in

@@ -7,6 +7,8 @@ use Rattle.pa_buckets.specs.Table.{slot_of}
 use Rattle.pa_buckets.proofs.Facts.{IsRow-of}
 use Rattle.pa_direct.specs.Shapes.{shape_of}
 use Rattle.pa_trace.specs.declared.script.Op.TheVariants as ops
+use Rattle.pa_trace.specs.declared.script.Rules.{Rules}
+use Rattle.pa_rules.proofs.Versions.{direct_in}
 use Rattle.pa_record.specs.declared.entry.Seen.{Seen}
 use Rattle.pa_record.specs.declared.entry.Answer.TheVariants as answers
 use Rattle.pa_record.specs.declared.root.RootAct.TheVariants.{Map}
@@ -51,7 +53,7 @@ row_usable Cleared facts regs after reg size usable seen row = request_usable fa
 
 module _ (a : Parts) (h : IsFiled a) where
   pub alloc_usable : (q : Played) (seen : Seen) (usable reg p size : ℕ) → Contains a.ps q → q.answer ≡ answers.Made seen usable →
-      q.op ≡ ops.Alloc reg p size → usable ≡ usable_of size
+      q.op ≡ ops.Alloc reg p size → usable ≡ usable_of a.rules.version size
   alloc_usable q seen usable reg p size among answer op =
       let (before, rest, parts) = parts_at a.ps q among in
       let at = row_at a before rest q h parts in
@@ -70,11 +72,11 @@ module _ (a : Parts) (h : IsFiled a) where
   made_long_as q seen usable t among answer made name = elim (made_class a q seen usable h among answer) [
     | inl (p, c, (reg, size, op, class), of) ↦
         let (real, len) = class_long seen.slot p c t of made name in
-        let fits = sizes_fit.class size c class in
+        let fits = subst (λ (k : Rules). slot_size_for k.version size ≡ slot_of c) (h.ruled q among) (sizes_fit.class q.rules.version size c class) in
         let told = alloc_usable q seen usable reg p size among answer op in
         let row = IsRow-of c real in
         let least = row.least_slot in
-        let u : usable_of size ≡ slot_size_for size - 8 = refl in
+        let u : usable_of a.rules.version size ≡ slot_size_for a.rules.version size - 8 = refl in
         omega arith
     | inr (p, size, asks, direct) ↦
         let (before, rest, parts) = parts_at a.ps q among in
@@ -82,21 +84,21 @@ module _ (a : Parts) (h : IsFiled a) where
         mapped p size asks (subst (λ z. CacheRow a.partitions a.roots q z (all q.thread) next) answer row)
   ]
     where
-      mapped : (p size : ℕ) → AsksForMap q.op p size → {cache after : _} → MadeRow a.roots q seen cache after → usable + 8 ≡ t.len
-      mapped p size asks (inl (r, class, xs, rest, others, filled, front, becomes)) = absurd (class_or_map q.op r p class size others asks)
+      mapped : (p size : ℕ) → AsksForMap q p size → {cache after : _} → MadeRow a.roots q seen cache after → usable + 8 ≡ t.len
+      mapped p size asks (inl (r, class, xs, rest, others, filled, front, becomes)) = absurd (class_or_map q r p class size others asks)
       mapped p size (reg, op, direct) (inr (r, other, asked, len, others, only, becomes)) =
           let (e, there, line, act) = line_entry a.roots q.line r (Map asked seen.slot len) only.0 in
           let (y, of, makes) = entry_made a r e h there in
-          let (size2, asks2, long) = subst (λ z. MakesEntry a.pools r z y.op) act makes in
+          let (size2, asks2, long) = subst (λ z. MakesEntry a.pools r z y) act makes in
           let same : y ≡ q = same_played a y q h of.0 among (of.1 ∙ line) in
-          let one = map_once q.op r p size2 size (subst (λ (z : Played). AsksForMap z.op r size2) same asks2) (reg, op, direct) in
+          let one = map_once q r p size2 size (subst (λ (z : Played). AsksForMap z r size2) same asks2) (reg, op, direct) in
           let (u, was, named, sized) = title_of a.pools (a.roots r) e seen.slot (h.journals.journals r) there (subst (λ z. Contains (leaves_by z) seen.slot) (sym act) (first_in seen.slot [])) in
           let len_is = subst (λ z. HasLen z u) act sized in
           let t_is = made_unique a h t u made (r, was) (name ∙ sym named) in
-          let fits = sizes_fit.direct size direct in
+          let fits = subst (λ (k : Rules). slot_size_for k.version size ≡ (shape_of size).slot) (h.ruled q among) (sizes_fit.direct q.rules.version size direct) in
           let told = alloc_usable q seen usable reg p size among answer op in
-          let v : usable_of size ≡ slot_size_for size - 8 = refl in
+          let v : usable_of a.rules.version size ≡ slot_size_for a.rules.version size - 8 = refl in
           let shape = ap (λ n. (shape_of n).slot) one.1 in
           let tl = ap (λ (z : Title). z.len) t_is in
-          let large = direct.0 in
+          let large = (direct_in q.rules.version size direct).0 in
           omega arith

@@ -4,6 +4,7 @@ use Rattle.std.specs.Prelude.{Contains}
 use Rattle.pa_slot.specs.declared.word.SlotName.{SlotName}
 use Rattle.pa_slot.specs.declared.title.Title.{Title}
 use Rattle.pa_buckets.proofs.Facts.{IsRow-of}
+use Rattle.pa_rules.proofs.Versions.{direct_in}
 use Rattle.pa_record.specs.Spans.{name_of}
 use Rattle.pa_record.specs.Laws.{leaves_by}
 use Rattle.pa_record.specs.Sound.{IsMadeBy}
@@ -33,8 +34,8 @@ made_long a t h (p, inl (span, among, number, below, is)) =
     omega arith
 made_long a t h (p, inr (e, asked, len, slot, among, act, is)) =
     let (x, of, makes) = entry_made a p e h among in
-    let (size, (reg, op, direct), long) = subst (λ z. MakesEntry a.pools p z x.op) act makes in
-    let large = direct.0 in
+    let (size, (reg, op, direct), long) = subst (λ z. MakesEntry a.pools p z x) act makes in
+    let large = (direct_in x.rules.version size direct).0 in
     let same = ap (λ (z : Title). z.len) is in
     omega arith
 

@@ -45,8 +45,8 @@ module _ (a : Parts) (before rest : List Played) (x : Played) (h : IsFiled a) (s
       let (e, member, line, is) = act_entry a.roots x.line 0 Purge (subst (λ acts. Contains acts Purge) (sym (row.0 0 some)) (purge_in (st.caches x.thread 0) 0 170)) in
       let (y, of, make) = entry_made a 0 e h member in
       let same : y ≡ x = same_played a y x h of.0 (among a before rest x h parts st f) (of.1 ∙ line) in
-      let P : RootAct → Type 0 = λ act. MakesEntry a.pools 0 act x.op in
-      subst P is (subst (λ (z : Played). MakesEntry a.pools 0 e.act z.op) same make)
+      let P : RootAct → Type 0 = λ act. MakesEntry a.pools 0 act x in
+      subst P is (subst (λ (z : Played). MakesEntry a.pools 0 e.act z) same make)
 
   unmarked : mark_of x ≡ None
   unmarked = ap (λ z. mark_of_answer x.line x.op z) answer

@@ -105,7 +105,7 @@ module _ (a : Parts) (before rest : List Played) (x : Played) (h : IsFiled a) (s
   request reg part size op within free (inl (large, is, becomes)) =
       quiet answers.TooLarge is refl (cache_as answers.TooLarge is).1 (λ k r e. (let both : ops.Alloc reg part size ≡ ops.Swap k r = sym op ∙ e in absurd cc)) becomes
   request reg part size op within free (inr (inl (fits, seen, is, becomes))) =
-      made_plays a before rest x h parts st f s shown reg part size (usable_of size) seen op is within.0 within.1 free becomes (cache_as (answers.Made seen (usable_of size)) is) none
+      made_plays a before rest x h parts st f s shown reg part size (usable_of a.rules.version size) seen op is within.0 within.1 free becomes (cache_as (answers.Made seen (usable_of a.rules.version size)) is) none
   request reg part size op within free (inr (inr (fits, entry, is, becomes))) = absurd (elim (cache_as (answers.Full entry) is) [
     | inl (p, class, asked, asks, empty, only, same) ↦ none_some a.roots x.line p _ [] none only.0
     | inr (p, n, asked, asks, only, same) ↦ none_some a.roots x.line p _ [] none only.0

@@ -6,6 +6,7 @@ use Rattle.pa_slot.specs.declared.word.SlotName.{SlotName}
 use Rattle.pa_machine.specs.Events.{State}
 use Rattle.pa_trace.specs.Limits.{IsOpWithin}
 use Rattle.pa_trace.specs.declared.script.Op.TheVariants as ops
+use Rattle.pa_rules.proofs.Versions.{real_in}
 use Rattle.pa_record.specs.declared.entry.Seen.{Seen}
 use Rattle.pa_record.specs.declared.entry.Answer.TheVariants as answers
 use Rattle.pa_record.specs.declared.numbered.Numbered.{Numbered}
@@ -74,22 +75,22 @@ module _ (a : Parts) (before rest : List Played) (x : Played) (h : IsFiled a) (p
   pub op_within : (reg p size : ℕ) → x.op ≡ ops.Alloc reg p size → IsOpWithin a.partitions (ops.Alloc reg p size)
   op_within reg p size op = subst (λ o. IsOpWithin a.partitions o) op (All-contains (λ (y : Played). IsOpWithin a.partitions y.op) a.ps x h.within (among a before rest x h parts st f))
 
-  fill_plays : (p class usable : ℕ) (seen : Seen) (asked : Option ℕ) (xs ys : List Numbered) → AsksForClass x.op p class → x.answer ≡ answers.Made seen usable → st.caches x.thread p class ≡ [] → OnlyActs a.roots x.line p (Fill class asked xs ∷ []) →
+  fill_plays : (p class usable : ℕ) (seen : Seen) (asked : Option ℕ) (xs ys : List Numbered) → AsksForClass x p class → x.answer ≡ answers.Made seen usable → st.caches x.thread p class ≡ [] → OnlyActs a.roots x.line p (Fill class asked xs ∷ []) →
       FrontIs seen xs ys → SameLists left (with_list (st.caches x.thread) p class ys) → Outcome a before rest x h parts st f s shown
   fill_plays p class usable seen asked xs ys (reg, size, op, class_of) answer empty only front becomes =
       let within = op_within reg p size op in
       let (none, sets) = made_sets reg p size usable seen op answer in
       let list = with_list (st.caches x.thread) p class xs in
-      let (mid, brought) = fill_brings a before rest x h parts st f s shown p class asked xs only (omega (arith, class_of.real)) empty in
+      let (mid, brought) = fill_brings a before rest x h parts st f s shown p class asked xs only (real_in x.rules.version class (class_of.from, class_of.real)) empty in
       let fall : (y : SlotName) → over a.partitions (λ q. listed_times y (left q) 0 170) + once y seen.slot ≤ over a.partitions (λ q. listed_times y (list q) 0 170) = λ y.
       (let one = times_cons y seen.slot (names ys) in
       let all = ap (stands y) (list_changed (st.caches x.thread) p class xs ∙ front) in
-      less_lists a.partitions p class y list left ys (once y seen.slot) (omega (arith, class_of.real)) within.1
+      less_lists a.partitions p class y list left ys (once y seen.slot) (real_in x.rules.version class (class_of.from, class_of.real)) within.1
       (λ q c. becomes q c ∙ list_twice (st.caches x.thread) p class xs ys q c) (omega arith)) in
       issue_plays a before rest x h parts st f s shown reg p size usable seen list mid op answer within.0 none sets fall brought
 
   -- by the thread's list
-  by_list : (p class usable : ℕ) (seen : Seen) (list xs ys : List Numbered) → 1 ≤ a.partitions → AsksForClass x.op p class → x.answer ≡ answers.Made seen usable → st.caches x.thread p class ≡ list → FilledFirst a.roots x.line p class list xs →
+  by_list : (p class usable : ℕ) (seen : Seen) (list xs ys : List Numbered) → 1 ≤ a.partitions → AsksForClass x p class → x.answer ≡ answers.Made seen usable → st.caches x.thread p class ≡ list → FilledFirst a.roots x.line p class list xs →
       FrontIs seen xs ys → SameLists left (with_list (st.caches x.thread) p class ys) → Outcome a before rest x h parts st f s shown
   by_list p class usable seen [] xs ys some asks answer is (asked, only) front becomes = fill_plays p class usable seen asked xs ys asks answer is only front becomes
   by_list p class usable seen (z ∷ zs) xs ys some asks answer is (same, no_acts) front becomes = quiet_plays a before rest x h some parts no_acts s (record { st = st; front = f; shown = shown })
@@ -106,7 +107,7 @@ list_back cache p class xs q c = elim (cases_eq q p) [
 
 module _ (a : Parts) (before rest : List Played) (x : Played) (h : IsFiled a) (parts : a.ps ≡ before ++ x ∷ rest) (st : Standing) (f : IsFrontOf a x.line before (x ∷ rest) st) (s : State)
     (shown : IsShown (titles_in a (root_at a x.line)) (a.threads + 1) (2097152 * a.supers) (ledger_of a.partitions st) s) where
-  map_plays : (p size asked len usable : ℕ) (seen : Seen) → AsksForMap x.op p size → x.answer ≡ answers.Made seen usable → OnlyActs a.roots x.line p (Map asked seen.slot len ∷ []) →
+  map_plays : (p size asked len usable : ℕ) (seen : Seen) → AsksForMap x p size → x.answer ≡ answers.Made seen usable → OnlyActs a.roots x.line p (Map asked seen.slot len ∷ []) →
       SameLists (left a before rest x h parts st f s shown) (st.caches x.thread) → Outcome a before rest x h parts st f s shown
   map_plays p size asked len usable seen (reg, op, direct) answer only same =
       let within = op_within a before rest x h parts st f s shown reg p size op in

@@ -125,7 +125,7 @@ last_put cells ps x y reg s put = record {
 
 -- ---- the way back
 
-module _ (cells : Cells) (ps : List Played) (h : HaveHandles cells ps) where
+module _ (version : ℕ) (cells : Cells) (ps : List Played) (h : HaveHandles version cells ps) where
   -- if the register that x's op names first holds a raw_ptr, it comes from a copy
   abbrev ComesFromCopy : Played → Type 0
   ComesFromCopy x =
@@ -138,7 +138,7 @@ module _ (cells : Cells) (ps : List Played) (h : HaveHandles cells ps) where
   back x y reg s earlier first put (ops.Copy from to) is left =
       (y.line, ByCopy y reg first (last_put cells ps x y reg s put) (from, to, is) refl)
   back x y reg s earlier first put (ops.Swap cell into) is left =
-      let (z, g) = gift cells ps h y cell into reg (Ref s) put.among is put.puts (λ e. cc) in
+      let (z, g) = gift version cells ps h y cell into reg (Ref s) put.among is put.puts (λ e. cc) in
       let before : IsBefore cells ps z x = Between y put.among (Handing g.hands) (Standing (inl (put.thread, put.before))) in
       let (line, origin) = earlier z g.among before g.from s g.put (ap first_register g.op) g.held in
       let given : IsGivenBy cells ps y z = record {
@@ -178,22 +178,22 @@ module _ (cells : Cells) (ps : List Played) (h : HaveHandles cells ps) where
   first_used (ops.Swap cell reg) = inr refl
   first_used ops.Purge = inl refl
 
-  purge_is_silent : (x : Played) (m : Mark) (regs next : Regs) → Row (facts_of cells ps) x.op regs x.answer next → x.op ≡ ops.Purge
+  purge_is_silent : (x : Played) (m : Mark) (regs next : Regs) → Row (facts_of version cells ps) x.op regs x.answer next → x.op ≡ ops.Purge
       → mark_of x ≡ Some m → ⊥
   purge_is_silent x m regs next row is mark =
-      let (slots, answer, becomes) = subst (λ op. Row (facts_of cells ps) op regs x.answer next) is row in
+      let (slots, answer, becomes) = subst (λ op. Row (facts_of version cells ps) op regs x.answer next) is row in
       not_some m (sym (ap (mark_of_answer x.line x.op) answer) ∙ mark)
 
   through : (x : Played) (m : Mark) (regs : Regs) (r : Reg) → Contains ps x → mark_of x ≡ Some m → IsQuarantined m.found
-      → HasRegs usable_of cells ps x regs
+      → HasRegs (usable_of version) cells ps x regs
       → first_register x.op ≡ Some (used_by x.op) → regs (used_by x.op) ≡ r → slot_in r ≡ Some m.slot →
       (line : ℕ) × HasOrigin cells ps x line
   through x m regs Empty among mark q has first is names = absurd (not_some m.slot names)
   through x m regs (Own s) among mark (free, refs) has first is names =
-      let bit = owners_find_the_bit cells ps x m regs (used_by x.op) h has (is ∙ ap Own (of_some s m.slot names)) mark in
+      let bit = owners_find_the_bit version cells ps x m regs (used_by x.op) h has (is ∙ ap Own (of_some s m.slot names)) mark in
       absurd (omega (arith, free, bit))
   through x m regs (Ref s) among mark q has first is names =
-      let (y, put) = was_put cells ps x regs (used_by x.op) h.rising has (λ empty. let none : Ref s ≡ Empty = sym is ∙ empty in cc) in
+      let (y, put) = was_put version cells ps x regs (used_by x.op) h.rising has (λ empty. let none : Ref s ≡ Empty = sym is ∙ empty in cc) in
       comes_from_copy x among (used_by x.op) s y first (subst (λ (r : Reg). WasPut cells ps x (used_by x.op) r y) is put)
   through x m regs Freed among mark q has first is names = absurd (not_some m.slot names)
   through x m regs Cleared among mark q has first is names = absurd (not_some m.slot names)
@@ -201,8 +201,8 @@ module _ (cells : Cells) (ps : List Played) (h : HaveHandles cells ps) where
   pub use_has_origin : (x : Played) (m : Mark) → Contains ps x → mark_of x ≡ Some m → IsQuarantined m.found
       → (line : ℕ) × HasOrigin cells ps x line
   use_has_origin x m among mark (free, refs) =
-      let (regs, next, has, row) = row_of cells ps x h.registers among in
-      elim (mark_named (facts_of cells ps) x.line x.op regs next x.answer m row mark) [
+      let (regs, next, has, row) = row_of version cells ps x h.registers among in
+      elim (mark_named (facts_of version cells ps) x.line x.op regs next x.answer m row mark) [
         | inl issue ↦
             let (vs, run, one) = h.slots m.slot in
             let (first, can) = one.used m Issue (mark_in ps x m among mark) refl issue in
@@ -215,10 +215,10 @@ module _ (cells : Cells) (ps : List Played) (h : HaveHandles cells ps) where
       ]
 
 -- the record at a place has an origin, if it saw a slot in quarantine
-pub saw_origin : (cells : Cells) (ps : List Played) (i : ℕ) (told : Played) (seen : Seen) → HaveHandles cells ps → IsRecord ps i told
+pub saw_origin : (version : ℕ) (cells : Cells) (ps : List Played) (i : ℕ) (told : Played) (seen : Seen) → HaveHandles version cells ps → IsRecord ps i told
     → SawUse told seen → (x : Played) → IsRecord ps i x → (line : ℕ) × HasOrigin cells ps x line
-saw_origin cells ps i told seen h at ((m, saw), q) x here =
-    let has = use_has_origin cells ps h told m (at_in ps i told at) saw.mark (subst IsQuarantined (sym saw.found) q) in
+saw_origin version cells ps i told seen h at ((m, saw), q) x here =
+    let has = use_has_origin version cells ps h told m (at_in ps i told at) saw.mark (subst IsQuarantined (sym saw.found) q) in
     subst (λ (p : Played). (line : ℕ) × HasOrigin cells ps p line) (one_at ps i told x at here) has
 
 -- ---- there is one
@@ -246,6 +246,6 @@ one_origin cells ps x line other rising (ByExchange y w reg first last given res
 
 pub uses_have_origins : UsesHaveOrigins
 uses_have_origins = record {
-  each = λ cells ps x m h among mark q. use_has_origin cells ps h x m among mark q;
-  one = λ cells ps x line other h. one_origin cells ps x line other h.rising;
+  each = λ version cells ps x m h among mark q. use_has_origin version cells ps h x m among mark q;
+  one = λ version cells ps x line other h. one_origin cells ps x line other h.rising;
 }

@@ -78,7 +78,8 @@ pub data HasOrigin (cells : ℕ → List CellEntry) (ps : List Played) : Played 
 --   each: the raw_ptr through which a record used a slot in quarantine has one
 --   one: and no other
 pub record UsesHaveOrigins : Type 0 where
-  pub each : (cells : ℕ → List CellEntry) (ps : List Played) (x : Played) (m : Mark) → HaveHandles cells ps → Contains ps x →
-      mark_of x ≡ Some m → IsQuarantined m.found → (line : ℕ) × HasOrigin cells ps x line
-  pub one : (cells : ℕ → List CellEntry) (ps : List Played) (x : Played) (line other : ℕ) → HaveHandles cells ps →
+  pub each : (version : ℕ) (cells : ℕ → List CellEntry) (ps : List Played) (x : Played) (m : Mark) →
+      HaveHandles version cells ps → Contains ps x → mark_of x ≡ Some m → IsQuarantined m.found → (line : ℕ) × HasOrigin cells ps x line
+  pub one : (version : ℕ) (cells : ℕ → List CellEntry) (ps : List Played) (x : Played) (line other : ℕ) →
+      HaveHandles version cells ps →
       HasOrigin cells ps x line → HasOrigin cells ps x other → line ≡ other

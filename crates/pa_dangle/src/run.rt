@@ -1,5 +1,6 @@
 ghost use Rattle.std.specs.Prelude.{◌≡◌, IfOk};
 ghost use Rattle.pa_trace.specs.Limits.{IsWithinLimits};
+ghost use Rattle.pa_trace.specs.Rules.{rules_of};
 ghost use Rattle.pa_rules.specs.Cells.{history_at};
 ghost use Rattle.pa_rules.specs.Legal.{IsLegal};
 ghost use Rattle.pa_rules.specs.Played.{played};
@@ -22,11 +23,11 @@ pub fn pairs_dense(
 ) -> Result<Found, OutOfMemory>
     requires limits { IsWithinLimits trace.now }
     requires legal { IsLegal trace.now run.now }
-    ensures found { IfOk result (λ f. AreFound (history_at run.now.cells.items) (played trace.now.lines run.now.entries.items)
+    ensures found { IfOk result (λ f. AreFound (history_at run.now.cells.items) (played (rules_of trace.now) trace.now.lines run.now.entries.items)
         f.pairs.items f.freed) }
     ensures left { IfOk result (λ f. f.left ≡ left) }
 {
-    let records = records_of(alloc, trace.lines.as_slice(), run.entries())?;
+    let records = records_of(alloc, trace.rules(), trace.lines.as_slice(), run.entries())?;
     records_are_within();
     pairs_of(alloc, records.as_slice(), run.cells(), left)
 }

@@ -3,6 +3,7 @@ use Rattle.std.specs.Prelude.{◌≡◌, ℕ, zero, suc, ◌+◌, ◌==◌, if�
 use Rattle.pa_slot.specs.Run.{Slots, IsLive, IsQuarantined}
 use Rattle.pa_buckets.specs.Table.{slot_of}
 use Rattle.pa_trace.specs.declared.script.Trace.{Trace}
+use Rattle.pa_trace.specs.Rules.{rules_of}
 use Rattle.pa_record.specs.declared.run.Run.{Run}
 use Rattle.pa_record.specs.declared.pool.PoolEntry.{PoolEntry}
 use Rattle.pa_record.specs.declared.numbered.Numbered.{Numbered}
@@ -65,11 +66,11 @@ AreDelayed bytes partitions roots ps =
 
 -- The clauses of a legal run, with delayed rows in place of those of the caches.
 pub record IsDelayedBy (bytes : ℕ) (t : Trace) (r : Told) (ps : List Played) : Type 0 where
-  pub lines : AreDue t.lines r.entries
+  pub lines : AreDue (rules_of t) t.lines r.entries
   pub cells : AreCells r.cells ps
-  pub registers : AreRegisters usable_of r.cells ps
+  pub registers : AreRegisters (usable_of t.version) r.cells ps
   pub slots : Slots (marks_of ps)
-  pub contents : AreContents usable_of r.cells ps
+  pub contents : AreContents (usable_of t.version) r.cells ps
   pub pool : IsPoolOf t.region ps r.pools r.roots
   pub roots : AreRoots t.partitions ps r.pools r.roots
   pub titles : AreAllTitles r.pools r.roots

@@ -6,6 +6,7 @@ use Rattle.pa_trace.specs.declared.script.Trace.{Trace}
 use Rattle.pa_trace.specs.Limits.{IsWithinLimits}
 use Rattle.pa_trace.specs.declared.script.Line.TheVariants.{Phase, Do}
 use Rattle.pa_trace.specs.declared.script.Op.TheVariants as ops
+use Rattle.pa_trace.specs.Rules.{first_rules}
 use Rattle.pa_record.specs.declared.entry.Entry.{Entry}
 use Rattle.pa_record.specs.declared.entry.Seen.{Seen}
 use Rattle.pa_record.specs.declared.entry.Answer.TheVariants as answers
@@ -65,11 +66,16 @@ report_line phase live quarantined cached c =
       decommitted = c.decommitted;
     }
 
+-- a record of a trace of one partition, of which all else is to be said
+abbrev pub of_one : Played
+of_one = record { line = 0; thread = 0; phase = 0; rules = first_rules 1; op = ops.Purge; answer = answers.Purged 0 }
+
 -- One thread asks for direct maps: one goes back as it is freed, one is quarantined and goes back with the reset of its
 -- raw_ptr, and while it is mapped there is no room for another.
 abbrev pub direct_map_trace : Trace
 direct_map_trace =
     record {
+      version = 1;
       region = 1;
       partitions = 1;
       threads = 1;
@@ -88,14 +94,14 @@ direct_map_trace =
 -- the records of the run of direct maps, beside their ops
 abbrev pub direct_map_records : List Played
 direct_map_records =
-    record { line = 2; thread = 0; phase = 1; op = ops.Alloc 0 0 2000000; answer = answers.Made (seen_at 16384 0 0) 2002936 }
-    ∷ record { line = 3; thread = 0; phase = 1; op = ops.Free 0; answer = answers.Done (seen_at 16384 0 0x1000001) }
-    ∷ record { line = 4; thread = 0; phase = 1; op = ops.Alloc 0 0 2000000; answer = answers.Made (seen_at 16384 2 0) 2002936 }
-    ∷ record { line = 5; thread = 0; phase = 1; op = ops.Copy 0 1; answer = answers.Done (seen_at 16384 2 0x1000001) }
-    ∷ record { line = 6; thread = 0; phase = 1; op = ops.Free 0; answer = answers.Done (seen_at 16384 2 0x2000003) }
-    ∷ record { line = 7; thread = 0; phase = 1; op = ops.Alloc 2 0 2000000; answer = answers.Full 3 }
-    ∷ record { line = 8; thread = 0; phase = 1; op = ops.Reset 1; answer = answers.Done (seen_at 16384 2 0x3000002) }
-    ∷ record { line = 9; thread = 0; phase = 1; op = ops.Alloc 2 0 2000000; answer = answers.Made (seen_at 16384 5 0) 2002936 }
+    record of_one { line = 2; thread = 0; phase = 1; op = ops.Alloc 0 0 2000000; answer = answers.Made (seen_at 16384 0 0) 2002936 }
+    ∷ record of_one { line = 3; thread = 0; phase = 1; op = ops.Free 0; answer = answers.Done (seen_at 16384 0 0x1000001) }
+    ∷ record of_one { line = 4; thread = 0; phase = 1; op = ops.Alloc 0 0 2000000; answer = answers.Made (seen_at 16384 2 0) 2002936 }
+    ∷ record of_one { line = 5; thread = 0; phase = 1; op = ops.Copy 0 1; answer = answers.Done (seen_at 16384 2 0x1000001) }
+    ∷ record of_one { line = 6; thread = 0; phase = 1; op = ops.Free 0; answer = answers.Done (seen_at 16384 2 0x2000003) }
+    ∷ record of_one { line = 7; thread = 0; phase = 1; op = ops.Alloc 2 0 2000000; answer = answers.Full 3 }
+    ∷ record of_one { line = 8; thread = 0; phase = 1; op = ops.Reset 1; answer = answers.Done (seen_at 16384 2 0x3000002) }
+    ∷ record of_one { line = 9; thread = 0; phase = 1; op = ops.Alloc 2 0 2000000; answer = answers.Made (seen_at 16384 5 0) 2002936 }
     ∷ []
 
 -- the report of the run of direct maps: one line, with a live map of 2002944 bytes, nothing quarantined and nothing cached
@@ -119,6 +125,7 @@ DirectMapIsFiled =
 abbrev pub two_threads_trace : Trace
 two_threads_trace =
     record {
+      version = 1;
       region = 1;
       partitions = 1;
       threads = 2;
@@ -139,14 +146,14 @@ two_threads_trace =
 -- the eight records of the run of two threads, beside their ops
 abbrev pub two_threads_records : List Played
 two_threads_records =
-    record { line = 2; thread = 0; phase = 1; op = ops.Alloc 0 0 8; answer = answers.Made (seen_at 16384 0 0) 8 }
-    ∷ record { line = 3; thread = 0; phase = 1; op = ops.Copy 0 1; answer = answers.Done (seen_at 16384 0 0x1000001) }
-    ∷ record { line = 4; thread = 0; phase = 1; op = ops.Swap 0 1; answer = answers.Swapped 0 }
-    ∷ record { line = 6; thread = 0; phase = 2; op = ops.Free 0; answer = answers.Done (seen_at 16384 0 0x2000003) }
-    ∷ record { line = 7; thread = 1; phase = 2; op = ops.Swap 0 0; answer = answers.Swapped 1 }
-    ∷ record { line = 8; thread = 1; phase = 2; op = ops.Read 0 0; answer = answers.Value (seen_at 16384 0 0x2000003) poison }
-    ∷ record { line = 10; thread = 1; phase = 3; op = ops.Read 0 0; answer = answers.Dangling (seen_at 16384 0 0x3000002) poison }
-    ∷ record { line = 11; thread = 1; phase = 3; op = ops.Reset 0; answer = answers.Done (seen_at 16384 0 0x3000002) }
+    record of_one { line = 2; thread = 0; phase = 1; op = ops.Alloc 0 0 8; answer = answers.Made (seen_at 16384 0 0) 8 }
+    ∷ record of_one { line = 3; thread = 0; phase = 1; op = ops.Copy 0 1; answer = answers.Done (seen_at 16384 0 0x1000001) }
+    ∷ record of_one { line = 4; thread = 0; phase = 1; op = ops.Swap 0 1; answer = answers.Swapped 0 }
+    ∷ record of_one { line = 6; thread = 0; phase = 2; op = ops.Free 0; answer = answers.Done (seen_at 16384 0 0x2000003) }
+    ∷ record of_one { line = 7; thread = 1; phase = 2; op = ops.Swap 0 0; answer = answers.Swapped 1 }
+    ∷ record of_one { line = 8; thread = 1; phase = 2; op = ops.Read 0 0; answer = answers.Value (seen_at 16384 0 0x2000003) poison }
+    ∷ record of_one { line = 10; thread = 1; phase = 3; op = ops.Read 0 0; answer = answers.Dangling (seen_at 16384 0 0x3000002) poison }
+    ∷ record of_one { line = 11; thread = 1; phase = 3; op = ops.Reset 0; answer = answers.Done (seen_at 16384 0 0x3000002) }
     ∷ []
 
 -- the root's journal in the run of two threads: on line 2 a fill of eight slots, 16 bytes apart from byte 16384 on

@@ -13,7 +13,7 @@ use Rattle.pa_record.specs.declared.run.Run.{Run}
 use Rattle.pa_rules.specs.declared.played.Played.{Played}
 use Rattle.pa_rules.specs.Played.{entry_of}
 use Rattle.pa_rules.specs.Legal.{IsLegal}
-use Rattle.pa_examples.specs.Worked.{IsRunOf, IsTold, seen_at, tally, report_line, two_threads_journal, two_threads_pool, two_threads_census}
+use Rattle.pa_examples.specs.Worked.{IsRunOf, IsTold, seen_at, tally, report_line, two_threads_journal, two_threads_pool, two_threads_census, of_one}
 
 -- Two threads: one gives the other a raw_ptr through a cell. The other reads the slot, gives the raw_ptr back through another
 -- cell, and only then does the first one free the slot. Yet the read finds poison: the clause of contents requires a free by
@@ -21,6 +21,7 @@ use Rattle.pa_examples.specs.Worked.{IsRunOf, IsTold, seen_at, tally, report_lin
 abbrev pub early_read_trace : Trace
 early_read_trace =
     record {
+      version = 1;
       region = 1;
       partitions = 1;
       threads = 2;
@@ -40,14 +41,14 @@ early_read_trace =
 -- the eight records of the run with an early read, beside their ops
 abbrev pub early_read_records : List Played
 early_read_records =
-    record { line = 2; thread = 0; phase = 1; op = ops.Alloc 0 0 8; answer = answers.Made (seen_at 16384 0 0) 8 }
-    ∷ record { line = 3; thread = 0; phase = 1; op = ops.Copy 0 1; answer = answers.Done (seen_at 16384 0 0x1000001) }
-    ∷ record { line = 4; thread = 0; phase = 1; op = ops.Swap 0 1; answer = answers.Swapped 0 }
-    ∷ record { line = 6; thread = 1; phase = 2; op = ops.Swap 0 0; answer = answers.Swapped 1 }
-    ∷ record { line = 7; thread = 1; phase = 2; op = ops.Read 0 0; answer = answers.Value (seen_at 16384 0 0x2000003) poison }
-    ∷ record { line = 8; thread = 1; phase = 2; op = ops.Swap 1 0; answer = answers.Swapped 0 }
-    ∷ record { line = 9; thread = 0; phase = 2; op = ops.Swap 1 2; answer = answers.Swapped 1 }
-    ∷ record { line = 10; thread = 0; phase = 2; op = ops.Free 0; answer = answers.Done (seen_at 16384 0 0x2000003) }
+    record of_one { line = 2; thread = 0; phase = 1; op = ops.Alloc 0 0 8; answer = answers.Made (seen_at 16384 0 0) 8 }
+    ∷ record of_one { line = 3; thread = 0; phase = 1; op = ops.Copy 0 1; answer = answers.Done (seen_at 16384 0 0x1000001) }
+    ∷ record of_one { line = 4; thread = 0; phase = 1; op = ops.Swap 0 1; answer = answers.Swapped 0 }
+    ∷ record of_one { line = 6; thread = 1; phase = 2; op = ops.Swap 0 0; answer = answers.Swapped 1 }
+    ∷ record of_one { line = 7; thread = 1; phase = 2; op = ops.Read 0 0; answer = answers.Value (seen_at 16384 0 0x2000003) poison }
+    ∷ record of_one { line = 8; thread = 1; phase = 2; op = ops.Swap 1 0; answer = answers.Swapped 0 }
+    ∷ record of_one { line = 9; thread = 0; phase = 2; op = ops.Swap 1 2; answer = answers.Swapped 1 }
+    ∷ record of_one { line = 10; thread = 0; phase = 2; op = ops.Free 0; answer = answers.Done (seen_at 16384 0 0x2000003) }
     ∷ []
 
 -- the first cell's history: on line 4 the raw_ptr is put in, on line 6 it is taken out

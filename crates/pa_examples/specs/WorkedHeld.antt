@@ -20,6 +20,7 @@ use Rattle.pa_examples.specs.Worked.{direct_map_trace, direct_map_records, direc
 abbrev pub held_trace : Trace
 held_trace =
     record {
+      version = 1;
       region = 1;
       partitions = 1;
       threads = 1;

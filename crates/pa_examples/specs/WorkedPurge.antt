@@ -15,6 +15,7 @@ use Rattle.pa_examples.specs.Worked.{IsRunOf, IsTold, tally, report_line}
 abbrev pub purge_trace : Trace
 purge_trace =
     record {
+      version = 1;
       region = 1;
       partitions = 1;
       threads = 1;

@@ -12,13 +12,14 @@ use Rattle.pa_record.specs.Worked.{census_of}
 use Rattle.pa_rules.specs.declared.played.Played.{Played}
 use Rattle.pa_rules.specs.Played.{entry_of}
 use Rattle.pa_rules.specs.Legal.{IsFileRun}
-use Rattle.pa_examples.specs.Worked.{IsRunOf, IsTold, seen_at, tally, report_line, two_threads_journal, two_threads_pool}
+use Rattle.pa_examples.specs.Worked.{IsRunOf, IsTold, seen_at, tally, report_line, two_threads_journal, two_threads_pool, of_one}
 
 -- One thread writes to a slot that it owns, but not while a raw_ptr points to it. Through the raw_ptr it reads what it
 -- wrote. A word that isn't inside the usable bytes is out of range.
 abbrev pub writes_trace : Trace
 writes_trace =
     record {
+      version = 1;
       region = 1;
       partitions = 1;
       threads = 1;
@@ -37,14 +38,14 @@ writes_trace =
 -- the records of the run with writes, beside their ops
 abbrev pub writes_records : List Played
 writes_records =
-    record { line = 2; thread = 0; phase = 1; op = ops.Alloc 0 0 8; answer = answers.Made (seen_at 16384 0 0) 8 }
-    ∷ record { line = 3; thread = 0; phase = 1; op = ops.Write 0 5; answer = answers.Done (seen_at 16384 0 0x1000001) }
-    ∷ record { line = 4; thread = 0; phase = 1; op = ops.Copy 0 1; answer = answers.Done (seen_at 16384 0 0x2000001) }
-    ∷ record { line = 5; thread = 0; phase = 1; op = ops.Write 0 6; answer = answers.Shared (seen_at 16384 0 0x3000003) }
-    ∷ record { line = 6; thread = 0; phase = 1; op = ops.Read 1 0; answer = answers.Value (seen_at 16384 0 0x3000003) 5 }
-    ∷ record { line = 7; thread = 0; phase = 1; op = ops.Reset 1; answer = answers.Done (seen_at 16384 0 0x3000003) }
-    ∷ record { line = 8; thread = 0; phase = 1; op = ops.Write 0 6; answer = answers.Done (seen_at 16384 0 0x4000001) }
-    ∷ record { line = 9; thread = 0; phase = 1; op = ops.Read 0 1; answer = answers.OutOfRange }
+    record of_one { line = 2; thread = 0; phase = 1; op = ops.Alloc 0 0 8; answer = answers.Made (seen_at 16384 0 0) 8 }
+    ∷ record of_one { line = 3; thread = 0; phase = 1; op = ops.Write 0 5; answer = answers.Done (seen_at 16384 0 0x1000001) }
+    ∷ record of_one { line = 4; thread = 0; phase = 1; op = ops.Copy 0 1; answer = answers.Done (seen_at 16384 0 0x2000001) }
+    ∷ record of_one { line = 5; thread = 0; phase = 1; op = ops.Write 0 6; answer = answers.Shared (seen_at 16384 0 0x3000003) }
+    ∷ record of_one { line = 6; thread = 0; phase = 1; op = ops.Read 1 0; answer = answers.Value (seen_at 16384 0 0x3000003) 5 }
+    ∷ record of_one { line = 7; thread = 0; phase = 1; op = ops.Reset 1; answer = answers.Done (seen_at 16384 0 0x3000003) }
+    ∷ record of_one { line = 8; thread = 0; phase = 1; op = ops.Write 0 6; answer = answers.Done (seen_at 16384 0 0x4000001) }
+    ∷ record of_one { line = 9; thread = 0; phase = 1; op = ops.Read 0 1; answer = answers.OutOfRange }
     ∷ []
 
 -- the root's journal: the fill of eight slots of the worked run of two threads

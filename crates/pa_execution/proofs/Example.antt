@@ -4,6 +4,7 @@ use Rattle.std.specs.Prelude.{◌+◌, Contains}
 use Rattle.std.proofs.lemmas.Bool.{cases_Bool, cases_lt, cases_eq}
 use Rattle.pa_buckets.specs.Table.{rows, row_of, slot_of}
 use Rattle.pa_trace.specs.Limits.{IsWithinLimits}
+use Rattle.pa_trace.specs.Rules.{first_rules, rules_of}
 use Rattle.pa_record.specs.declared.root.RootEntry.{RootEntry}
 use Rattle.pa_record.specs.declared.report.ReportLine.{ReportLine}
 use Rattle.pa_lists.proofs.Members.{not_in_none, in_cases}
@@ -139,11 +140,11 @@ plays = two_phases (λ n. PlaysAll (small_worker (small_before n)) (small_record
     (small_worker (small_until 1), record { records = refl; does = does 1; counts = λ o fits. no_counts o 1; bytes = λ o fits. no_bytes o 1 }, refl)
     (small_worker (small_until 2), record { records = refl; does = does 2; counts = λ o fits. no_counts o 2; bytes = λ o fits. no_bytes o 2 }, refl)
 
-lines : (n k : ℕ) → 1 ≤ n → n ≤ 2 → k < 1 → record { line = small_line n; thread = 0; phase = n; op = (small_record n).played.op } ∷ [] ≡ lines_in small_trace.lines n k
+lines : (n k : ℕ) → 1 ≤ n → n ≤ 2 → k < 1 → record { line = small_line n; thread = 0; phase = n; rules = first_rules 1; op = (small_record n).played.op } ∷ [] ≡ lines_in (rules_of small_trace) small_trace.lines n k
 lines n k low high few =
     let first : 0 ≡ k = omega arith in
-    subst (λ j. record { line = small_line n; thread = 0; phase = n; op = (small_record n).played.op } ∷ [] ≡ lines_in small_trace.lines n j) first
-    (two_phases (λ m. record { line = small_line m; thread = 0; phase = m; op = (small_record m).played.op } ∷ [] ≡ lines_in small_trace.lines m 0) refl refl n low high)
+    subst (λ j. record { line = small_line n; thread = 0; phase = n; rules = first_rules 1; op = (small_record n).played.op } ∷ [] ≡ lines_in (rules_of small_trace) small_trace.lines n j) first
+    (two_phases (λ m. record { line = small_line m; thread = 0; phase = m; rules = first_rules 1; op = (small_record m).played.op } ∷ [] ≡ lines_in (rules_of small_trace) small_trace.lines m 0) refl refl n low high)
 
 tells : (n : ℕ) → HasHeardAll 1 (λ k. small_worker (small_until n)) small_seat
 tells n = record {
@@ -176,6 +177,7 @@ closes = record { aware = seat_aware; every = every; logs = λ k. refl; sees = s
 
 limits : IsWithinLimits small_trace
 limits = record {
+  version = refl;
   head = ((omega arith, omega arith), (omega arith, omega arith), (omega arith, omega arith));
   lines = ((omega arith, (omega arith, omega arith)), (tt, ((omega arith, (omega arith, omega arith)), tt)));
   few = omega arith;

@@ -5,6 +5,7 @@ use Rattle.std.proofs.lemmas.Bool.{cases_lt, cases_eq, eq-eqb, ne_eqb, eqb-true,
 use Rattle.std.proofs.lemmas.List.Elements.{filter-append}
 use Rattle.pa_trace.specs.declared.script.Trace.{Trace}
 use Rattle.pa_trace.specs.Limits.{IsWithinLimits}
+use Rattle.pa_trace.specs.Rules.{rules_of}
 use Rattle.pa_record.specs.declared.entry.Answer.TheVariants.{Nothing}
 use Rattle.pa_lists.proofs.Joined.{map_in, filter_cases, filter_in}
 use Rattle.pa_lists.proofs.Members.{first_in, later_in}
@@ -23,7 +24,7 @@ use Rattle.pa_execution.proofs.Merging.{is_told_in, merged_lines, merged_groups}
 
 -- a record of the line, whatever its answer
 abbrev some_record : OpLine → Played
-some_record o = record { line = o.line; thread = o.thread; phase = o.phase; op = o.op; answer = Nothing }
+some_record o = record { line = o.line; thread = o.thread; phase = o.phase; rules = o.rules; op = o.op; answer = Nothing }
 
 lines_again : (os : List OpLine) → map op_line_of (map some_record os) ≡ os
 lines_again [] = refl
@@ -74,16 +75,16 @@ module _ (t : Trace) (c : Course) (limits : IsWithinLimits t) (course : IsCourse
   abbrev IsThere : ℕ → ℕ → Type 0
   IsThere n k = (1 ≤ n) × (n ≤ phases_in t.lines) × (k < t.threads)
 
-  lines_there : (o : OpLine) → Contains (op_lines 2 1 t.lines) o → IsThere o.phase o.thread
+  lines_there : (o : OpLine) → Contains (op_lines (rules_of t) 2 1 t.lines) o → IsThere o.phase o.thread
   lines_there o among =
-      let is = records_due t (map some_record (op_lines 2 1 t.lines)) (some_record o) limits (lines_again (op_lines 2 1 t.lines)) (map_in some_record (op_lines 2 1 t.lines) o among) in
+      let is = records_due t (map some_record (op_lines (rules_of t) 2 1 t.lines)) (some_record o) limits (lines_again (op_lines (rules_of t) 2 1 t.lines)) (map_in some_record (op_lines (rules_of t) 2 1 t.lines) o among) in
       (is.low, is.high, is.thread)
 
-  pub are_lines : AreLines t.lines (played_in (told_in t c))
-  are_lines = merged_lines IsThere c.plays (op_lines 2 1 t.lines) lines_there (λ n k there. course.lines n k there.0 there.1 there.2)
+  pub are_lines : AreLines (rules_of t) t.lines (played_in (told_in t c))
+  are_lines = merged_lines IsThere c.plays (op_lines (rules_of t) 2 1 t.lines) lines_there (λ n k there. course.lines n k there.0 there.1 there.2)
 
   pub group : (n k : ℕ) → 1 ≤ n → n ≤ phases_in t.lines → k < t.threads → filter (is_told_in n k) (told_in t c) ≡ c.plays n k
-  group n k low high few = merged_groups IsThere c.plays (op_lines 2 1 t.lines) lines_there (λ m j there. course.lines m j there.0 there.1 there.2) n k (low, high, few)
+  group n k low high few = merged_groups IsThere c.plays (op_lines (rules_of t) 2 1 t.lines) lines_there (λ m j there. course.lines m j there.0 there.1 there.2) n k (low, high, few)
 
   pub rising : AreRising (told_in t c)
   rising = told_rise t (told_in t c) are_lines
@@ -107,7 +108,7 @@ module _ (t : Trace) (c : Course) (limits : IsWithinLimits t) (course : IsCourse
   -- a record of an earlier phase is of an earlier line
   pub earlier : (x y : ToldRecord) → Contains (told_in t c) x → Contains (told_in t c) y → x.played.phase < y.played.phase → x.played.line < y.played.line
   earlier x y first second late =
-      phases_rise t.lines (played_in (told_in t c)) are_lines x.played y.played (map_in (λ (z : ToldRecord). z.played) (told_in t c) x first)
+      phases_rise (rules_of t) t.lines (played_in (told_in t c)) are_lines x.played y.played (map_in (λ (z : ToldRecord). z.played) (told_in t c) x first)
       (map_in (λ (z : ToldRecord). z.played) (told_in t c) y second) late
 
   pub all_until : told_until (phases_in t.lines) (told_in t c) ≡ told_in t c

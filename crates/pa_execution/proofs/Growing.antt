@@ -2,6 +2,7 @@
 use Rattle.std.proofs.Common.{◌≡◌, ℕ, zero, suc, ◌+◌, ◌<◌, ◌≤◌, List, [], map, refl, sym, ◌∙◌, ap, subst, arith, inl, inr, eqb}
 use Rattle.std.specs.Prelude.{if◌then◌else◌}
 use Rattle.std.proofs.lemmas.Bool.{cases_eq, eq-eqb, ne_eqb}
+use Rattle.pa_trace.specs.Rules.{rules_of}
 use Rattle.pa_region.specs.declared.view.View.{View}
 use Rattle.pa_trace.specs.declared.script.Trace.{Trace}
 use Rattle.pa_rules.specs.Played.{op_line_of}
@@ -111,7 +112,7 @@ module _ (t : Trace) (n : ℕ) (c : Course) (starts ends : ℕ → WorkerValue) 
         | inr ne ↦ subst (λ v. HasSeenAll (c.seats m) v) (sym (agree.seats (m + 1) (omega arith) (omega arith))) (begun.course.keeps m low (omega arith))
       ])
 
-  module _ (played : (k : ℕ) → k < t.threads → PlaysAll (starts k) (plays k) (ends k) × (map op_line_of (played_in (plays k)) ≡ lines_in t.lines (suc n) k))
+  module _ (played : (k : ℕ) → k < t.threads → PlaysAll (starts k) (plays k) (ends k) × (map op_line_of (played_in (plays k)) ≡ lines_in (rules_of t) t.lines (suc n) k))
       (settles : (k : ℕ) → k < t.threads → (ends k).owed ≡ none_owed) (tells : HasHeardAll t.threads ends seat) where
     all_played : (m k : ℕ) → 1 ≤ m → m ≤ suc n → k < t.threads → PlaysAll (d.starts m k) (d.plays m k) (d.ends m k)
     all_played m k low high few = elim (cases_eq m (suc n)) [
@@ -119,9 +120,9 @@ module _ (t : Trace) (n : ℕ) (c : Course) (starts ends : ℕ → WorkerValue) 
       | inr ne ↦ rw (ne_eqb m (suc n) ne) (begun.course.plays m k low (omega arith) few)
     ]
 
-    all_lines : (m k : ℕ) → 1 ≤ m → m ≤ suc n → k < t.threads → map op_line_of (played_in (d.plays m k)) ≡ lines_in t.lines m k
+    all_lines : (m k : ℕ) → 1 ≤ m → m ≤ suc n → k < t.threads → map op_line_of (played_in (d.plays m k)) ≡ lines_in (rules_of t) t.lines m k
     all_lines m k low high few = elim (cases_eq m (suc n)) [
-      | inl e ↦ ap (λ xs. map op_line_of (played_in xs)) (last_plays m k e) ∙ ((played k few).1 ∙ ap (λ j. lines_in t.lines j k) (sym e))
+      | inl e ↦ ap (λ xs. map op_line_of (played_in xs)) (last_plays m k e) ∙ ((played k few).1 ∙ ap (λ j. lines_in (rules_of t) t.lines j k) (sym e))
       | inr ne ↦ ap (λ xs. map op_line_of (played_in xs)) (agree.plays m k low (omega arith)) ∙ begun.course.lines m k low (omega arith) few
     ]
 
@@ -150,7 +151,7 @@ phase_ends : (t : Trace) (n : ℕ) (c : Course) (starts ends : ℕ → WorkerVal
     ((k : ℕ) → k < t.threads → PlaysPhase t (suc n) k (starts k) (ends k)) → HasHeardAll t.threads ends seat →
     (1 ≤ n → HasSeenAll (c.seats n) seat) → (d : Course) × Agree n c d × HasEnded t (suc n) d ends seat
 phase_ends t n c starts ends seat begun each tells more =
-    let chosen = choose (λ k xs. PlaysAll (starts k) xs (ends k) × (map op_line_of (played_in xs) ≡ lines_in t.lines (suc n) k)) t.threads
+    let chosen = choose (λ k xs. PlaysAll (starts k) xs (ends k) × (map op_line_of (played_in xs) ≡ lines_in (rules_of t) t.lines (suc n) k)) t.threads
     (λ k few. let (xs, all, lines, settled) = each k few in (xs, (all, lines))) in
     let settles : (k : ℕ) → k < t.threads → (ends k).owed ≡ none_owed = λ k few. let (xs, all, lines, settled) = each k few in settled in
     (d t n c starts ends seat chosen.0 begun, agree t n c starts ends seat chosen.0 begun, ended t n c starts ends seat chosen.0 begun chosen.1 settles tells more)

@@ -4,6 +4,10 @@ use Rattle.std.specs.Prelude.{Contains}
 use Rattle.std.proofs.lemmas.Bool.{cases_Bool, cases_lt, lt-ltb, le-ltb}
 use mathlib.Core.Path.{fun_ext}
 use Rattle.pa_slot.specs.declared.title.Title.{Title}
+use Rattle.pa_trace.specs.Rules.{rules_of}
+use Rattle.pa_op_specs.specs.Following.{FitsAll}
+use Rattle.pa_op_specs.specs.Plays.{PlaysAll}
+use Rattle.pa_rules.specs.Sizes.{usable_of}
 use Rattle.pa_region.specs.declared.view.View.{View}
 use Rattle.pa_region.specs.Views.{seen_of}
 use Rattle.pa_trace.specs.declared.script.Trace.{Trace}
@@ -54,19 +58,26 @@ module _ (t : Trace) (r : Told) (c : Course) (v : View) (xs : List Exchange) (ru
 
   -- ---- rows of registers and of lists
 
+  -- the trace is of version 1, by which the ops of workers have their rows
+  rows_of_trace : (w u : WorkerValue) (ys : List ToldRecord) → PlaysAll w ys u → FitsAll (outcome_of t r) w.stock.partitions u.stock.view ys →
+      RowsLead (sizes_in t r) (facts_in t r) (regs_of w.stock.registers) ys (regs_of u.stock.registers)
+  rows_of_trace w u ys plays fit =
+      subst (λ n. RowsLead (sizes_in t r) (record { usable_of = usable_of n; usable_at = λ s. sizes_in t r s - 8; cells = r.cells }) (regs_of w.stock.registers) ys (regs_of u.stock.registers))
+      (sym run.left.limits.version) (rows_lead (outcome_of t r) w u ys plays fit)
+
   rows_until : (k n : ℕ) → suc n ≤ phases t r c v xs run → k < t.threads →
       RowsLead (sizes_in t r) (facts_in t r) (no_regs k) (so_far c.plays k (suc n)) (regs_of (c.ends (suc n) k).stock.registers)
   rows_until k zero high few =
       let new = (run.course.begins k few).new in
       let none : regs_of (c.starts 1 k).stock.registers ≡ no_regs k = fun_ext (λ i. ap as_reg (new.stock.registers i)) in
       subst (λ regs. RowsLead (sizes_in t r) (facts_in t r) regs (c.plays 1 k) (regs_of (c.ends 1 k).stock.registers)) none
-      (rows_lead (outcome_of t r) (c.starts 1 k) (c.ends 1 k) (c.plays 1 k) (run.course.plays 1 k (omega arith) high few) (fits t r c v xs run 1 k (omega arith) high few))
+      (rows_of_trace (c.starts 1 k) (c.ends 1 k) (c.plays 1 k) (run.course.plays 1 k (omega arith) high few) (fits t r c v xs run 1 k (omega arith) high few))
   rows_until k (suc n) high few =
       let m = suc (suc n) in
       let again = rows_until k n (omega arith) few in
       let heard = heard_next t c run.left.limits run.course (suc n) k (omega arith) (omega arith) few in
       let same : regs_of (c.starts m k).stock.registers ≡ regs_of (c.ends (suc n) k).stock.registers = ap (λ (w : WorkerValue). regs_of w.stock.registers) heard.same in
-      let next = rows_lead (outcome_of t r) (c.starts m k) (c.ends m k) (c.plays m k) (run.course.plays m k (omega arith) high few) (fits t r c v xs run m k (omega arith) high few) in
+      let next = rows_of_trace (c.starts m k) (c.ends m k) (c.plays m k) (run.course.plays m k (omega arith) high few) (fits t r c v xs run m k (omega arith) high few) in
       rows_append (sizes_in t r) (facts_in t r) (no_regs k) (regs_of (c.ends (suc n) k).stock.registers) (regs_of (c.ends m k).stock.registers) (so_far c.plays k (suc n)) (c.plays m k) again
       (subst (λ regs. RowsLead (sizes_in t r) (facts_in t r) regs (c.plays m k) (regs_of (c.ends m k).stock.registers)) same next)
 
@@ -190,8 +201,8 @@ module _ (t : Trace) (r : Told) (c : Course) (v : View) (xs : List Exchange) (ru
       let are = are_lines t c run.left.limits run.course in
       record {
         limits = run.left.limits;
-        due = subst (AreDue t.lines) (sym run.left.entries) (records_are_lines.due t.lines (played_in all_told) are);
-        records = sym (ap (played t.lines) run.left.entries ∙ records_are_lines.same t.lines (played_in all_told) are);
+        due = subst (AreDue (rules_of t) t.lines) (sym run.left.entries) (records_are_lines.due (rules_of t) t.lines (played_in all_told) are);
+        records = sym (ap (played (rules_of t) t.lines) run.left.entries ∙ records_are_lines.same (rules_of t) t.lines (played_in all_told) are);
         has = has_last t c run.left.limits run.course v run.closes;
         ends = ends_phase t c run.left.limits run.course v run.closes;
         heard = heard;

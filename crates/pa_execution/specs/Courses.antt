@@ -1,6 +1,8 @@
 -- How a run of several workers went, phase after phase: what they played, and when they lent their stakes and got them back.
 use Rattle.std.specs.Prelude.{◌≡◌, ℕ, ◌+◌, ◌<◌, ◌≤◌, ◌==◌, ◌&&◌, Bool, List, [], map, filter}
 use Rattle.pa_slot.specs.declared.title.Title.{Title}
+use Rattle.pa_trace.specs.declared.script.Rules.{Rules}
+use Rattle.pa_trace.specs.Rules.{rules_of}
 use Rattle.pa_region.specs.declared.view.View.{View}
 use Rattle.pa_region.specs.Views.{seen_of, HasEveryStake}
 use Rattle.pa_region.specs.Lists.{list_of, IsBeginning}
@@ -28,9 +30,9 @@ pub record Course : Type 0 where
 abbrev pub is_line_of : ℕ → ℕ → OpLine → Bool
 is_line_of n k o = (o.phase == n) && (o.thread == k)
 
--- The ops of thread k in phase n, in order. The trace's ops are on lines from 2 on, in phases from 1 on.
-abbrev pub lines_in : List Line → ℕ → ℕ → List OpLine
-lines_in ls n k = filter (is_line_of n k) (op_lines 2 1 ls)
+-- The ops of thread k in phase n, in order, by the trace's rules. The trace's ops are on lines from 2 on, in phases from 1 on.
+abbrev pub lines_in : Rules → List Line → ℕ → ℕ → List OpLine
+lines_in rules ls n k = filter (is_line_of n k) (op_lines rules 2 1 ls)
 
 -- a seat later on, or another one: it has seen of each list and each title what the first has
 pub record HasSeenAll (first second : View) : Type 0 where
@@ -71,7 +73,7 @@ pub record Hears (k : ℕ) (seat : View) (before after : WorkerValue) : Type 0 w
 pub record IsCourse (t : Trace) (phases : ℕ) (c : Course) : Type 0 where
   pub begins : (k : ℕ) → k < t.threads → BeginsNew k t.partitions (c.starts 1 k)
   pub plays : (n k : ℕ) → 1 ≤ n → n ≤ phases → k < t.threads → PlaysAll (c.starts n k) (c.plays n k) (c.ends n k)
-  pub lines : (n k : ℕ) → 1 ≤ n → n ≤ phases → k < t.threads → map op_line_of (played_in (c.plays n k)) ≡ lines_in t.lines n k
+  pub lines : (n k : ℕ) → 1 ≤ n → n ≤ phases → k < t.threads → map op_line_of (played_in (c.plays n k)) ≡ lines_in (rules_of t) t.lines n k
   pub settled : (n k : ℕ) → 1 ≤ n → n ≤ phases → k < t.threads → (c.ends n k).owed ≡ none_owed
   pub tells : (n : ℕ) → 1 ≤ n → n ≤ phases → HasHeardAll t.threads (c.ends n) (c.seats n)
   pub hears : (n k : ℕ) → 1 ≤ n → n < phases → k < t.threads → Hears k (c.seats n) (c.ends n k) (c.starts (n + 1) k)

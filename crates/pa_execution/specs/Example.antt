@@ -3,6 +3,7 @@ use Rattle.std.specs.Prelude.{ℕ, List, [], ◌∷◌, false, ◌==◌, if◌th
 use Rattle.pa_trace.specs.declared.script.Trace.{Trace}
 use Rattle.pa_trace.specs.declared.script.Line.TheVariants.{Phase, Do}
 use Rattle.pa_trace.specs.declared.script.Op.TheVariants.{Copy}
+use Rattle.pa_trace.specs.Rules.{first_rules}
 use Rattle.pa_record.specs.declared.entry.Entry.{Entry}
 use Rattle.pa_record.specs.declared.entry.Answer.TheVariants.{Nothing}
 use Rattle.pa_record.specs.declared.report.ReportLine.{ReportLine}
@@ -25,6 +26,7 @@ use Rattle.pa_execution.specs.Lines.{IsLineBy}
 -- the trace of the small run: one super page, one partition and one thread, with a copy in each of two phases
 abbrev pub small_trace : Trace
 small_trace = record {
+  version = 1;
   region = 1;
   partitions = 1;
   threads = 1;
@@ -68,7 +70,7 @@ small_entry n = record { line = small_line n; thread = 0; answer = Nothing }
 -- the record of phase n with its op: its log segment is empty, and nothing was seen before it or handed on
 abbrev pub small_record : ℕ → ToldRecord
 small_record n = record {
-  played = record { line = small_line n; thread = 0; phase = n; op = Copy 0 1; answer = Nothing };
+  played = record { line = small_line n; thread = 0; phase = n; rules = first_rules 1; op = Copy 0 1; answer = Nothing };
   stretch = [];
   saw = λ u. seen_of small_view u;
   gives = λ u. seen_of small_view u;

@@ -1,5 +1,6 @@
 -- How an execution grows, a phase at a time, so that a loop over phases can keep it.
 use Rattle.std.specs.Prelude.{◌≡◌, ℕ, ◌+◌, ◌<◌, ◌≤◌, List, map}
+use Rattle.pa_trace.specs.Rules.{rules_of}
 use Rattle.pa_region.specs.declared.view.View.{View}
 use Rattle.pa_trace.specs.declared.script.Trace.{Trace}
 use Rattle.pa_rules.specs.Played.{op_line_of}
@@ -31,7 +32,8 @@ pub record HasEnded (t : Trace) (phases : ℕ) (c : Course) (workers : ℕ → W
 -- the worker of thread k played its lines of phase n, in order, and owes nothing to the totals words at the end
 abbrev pub PlaysPhase : Trace → ℕ → ℕ → (before after : WorkerValue) → Type 0
 PlaysPhase t n k before after =
-    (xs : List ToldRecord) × PlaysAll before xs after × (map op_line_of (played_in xs) ≡ lines_in t.lines n k) × (after.owed ≡ none_owed)
+    (xs : List ToldRecord) × PlaysAll before xs after × (map op_line_of (played_in xs) ≡ lines_in (rules_of t) t.lines n k)
+    × (after.owed ≡ none_owed)
 
 -- How executions grow.
 --   begins: at the start no phase is over

@@ -2,6 +2,7 @@
 use Rattle.std.specs.Prelude.{◌≡◌, ℕ, ◌<◌, ◌≤◌, List, [], ◌∷◌, ◌++◌, map, take, drop, nat_lt, if◌then◌else◌}
 use Rattle.pa_trace.specs.declared.script.Trace.{Trace}
 use Rattle.pa_trace.specs.Limits.{IsWithinLimits, most_partitions}
+use Rattle.pa_trace.specs.Rules.{rules_of}
 use Rattle.pa_record.specs.declared.history.Held.TheVariants.{Nothing}
 use Rattle.pa_record.specs.declared.report.ReportLine.{ReportLine}
 use Rattle.pa_record.specs.Pool.{IsPool}
@@ -36,7 +37,7 @@ merged_by_lines plays (o ∷ os) = take 1 (plays o.phase o.thread) ++ merged_by_
 
 -- the records of all threads and phases, in the order of the trace's lines
 abbrev pub told_in : Trace → Course → List ToldRecord
-told_in t c = merged_by_lines c.plays (op_lines 2 1 t.lines)
+told_in t c = merged_by_lines c.plays (op_lines (rules_of t) 2 1 t.lines)
 
 -- The threads' lists at the end of a phase. A thread that the run doesn't have has none.
 abbrev pub lists_at : Trace → Course → ℕ → Caches

@@ -34,7 +34,7 @@ use Rattle.pa_cells.specs.Handles.{ParkedHandle, GiversLackHandles, held_as}
 use Rattle.pa_cells.specs.Cells.{exchange_entry}
 use Rattle.pa_rules.specs.declared.register.Register.TheVariants.{Empty, Own, Ref, Freed, Cleared}
 use Rattle.pa_step_order.proofs.Shaping.{shapes_have_signs}
-use Rattle.pa_op_specs.specs.Stocks.{StockRegister, StockValue, IsStock, HasNoHandle, register_in, as_reg, regs_of, titles_in, listed_in}
+use Rattle.pa_op_specs.specs.Stocks.{StockRegister, StockValue, IsStock, HasNoHandle, register_in, as_reg, regs_of, titles_in, listed_in, rules_at}
 use Rattle.pa_op_specs.specs.Workers.{HasItsStake}
 use Rattle.pa_op_specs.specs.Outcomes.{Outcome, IsOutcome, ActsAreOf}
 use Rattle.pa_thread_state.specs.Exchanging.{Parks, SwapsHandles, TakesIn, handle_register, register_of, found_register, handle_parcel}
@@ -207,7 +207,7 @@ swap_does line cell reg index given found s a b d is phase = (
 
     x : ToldRecord
     x = record {
-      played = record { line = line; thread = s.thread; phase = phase; op = ops.Swap cell reg; answer = answers.Swapped index };
+      played = record { line = line; thread = s.thread; phase = phase; rules = rules_at s; op = ops.Swap cell reg; answer = answers.Swapped index };
       stretch = Entered 5 is.swap.made ∷ [];
       saw = λ t. seen_of s.view t;
       gives = λ t. seen_among t is.swap.made.seen;

@@ -7,6 +7,7 @@ use Rattle.pa_buckets.specs.Classes.{IsClassOf}
 use Rattle.pa_buckets.specs.Table.{slot_of}
 use Rattle.pa_buckets.specs.Bands.{fill_of}
 use Rattle.pa_direct.specs.Shapes.{shape_of, IsDirectSize}
+use Rattle.pa_rules.proofs.Versions.{class_first, map_first}
 use Rattle.pa_record.specs.declared.root.RootAct.TheVariants as act
 use Rattle.pa_record.specs.Spans.{name_of}
 use Rattle.pa_lists.proofs.Members.{in_cases, not_in_none, first_in, later_in}
@@ -16,7 +17,6 @@ use Rattle.pa_region.specs.Aware.{IsAware}
 use Rattle.pa_rules.specs.Caches.{FilledFirst, OnlyActs}
 use Rattle.pa_rules.specs.Roots.{MakesEntry}
 use Rattle.pa_rules.proofs.Sizes.{sizes_fit}
-use Rattle.pa_trace.specs.declared.script.Op.TheVariants as ops
 use Rattle.pa_root.specs.Handing.{FillGives, MapGives, numbered_by}
 use Rattle.pa_op_specs.specs.Stocks.{StockValue, IsStock, titles_in, listed_slot}
 use Rattle.pa_thread_state.specs.Changes.{IsBack}
@@ -59,17 +59,17 @@ fill_brings line size p c s u n t rest gives is awares long low small empty clas
       quiet = asking.quiet;
       uncut = asking.uncut;
       asks = asking.asks;
-      makes = λ pools a r among. elim (in_cases (act.Fill c gives.asked (numbered_by n (t ∷ rest))) a [] among) [
-        | inl same ↦ subst (λ b. MakesEntry pools p b (ops.Alloc r p size)) same (r, size, refl, class)
+      makes = λ pools a x r is_op first among. elim (in_cases (act.Fill c gives.asked (numbered_by n (t ∷ rest))) a [] among) [
+        | inl same ↦ subst (λ b. MakesEntry pools p b x) same (r, size, is_op, class_first x.rules.version (max size 1 + 8) c first class)
         | inr none ↦ absurd (not_in_none a none)
       ];
-      usable = ap (λ k. k - 8) (sized ∙ sym (sizes_fit.class size c class));
-      rows = λ roots x r seen later is_op only slot number same. inl (
+      usable = ap (λ k. k - 8) (sized ∙ sym (sizes_fit.class 1 size c class));
+      rows = λ roots x r seen later is_op first only slot number same. inl (
         p,
         c,
         numbered_by n (t ∷ rest),
         numbered_by n rest,
-        (r, size, is_op, class),
+        (r, size, is_op, class_first x.rules.version (max size 1 + 8) c first class),
         subst (λ xs. FilledFirst roots x.line p c (numbered_by s.view xs) (numbered_by n (t ∷ rest))) (sym empty) (gives.asked, only),
         front_is n t seen (numbered_by n rest) slot (number ∙ took_number s u n (t ∷ rest) is took words t well (first_in t rest)),
         λ q d. same q d ∙ relisted s w p c rest (numbered_by n rest) is low small
@@ -95,17 +95,17 @@ map_brings line size p len s u n t gives is awares long low direct shape =
       quiet = asking.quiet;
       uncut = asking.uncut;
       asks = asking.asks;
-      makes = λ pools a r among. elim (in_cases (act.Map t.born (name_of t) len) a [] among) [
-        | inl same ↦ subst (λ b. MakesEntry pools p b (ops.Alloc r p size)) same (size, (r, refl, direct), shape)
+      makes = λ pools a x r is_op first among. elim (in_cases (act.Map t.born (name_of t) len) a [] among) [
+        | inl same ↦ subst (λ b. MakesEntry pools p b x) same (size, (r, is_op, map_first x.rules.version size first direct), shape)
         | inr none ↦ absurd (not_in_none a none)
       ];
-      usable = ap (λ k. k - 8) (gives.long ∙ (shape ∙ sym (sizes_fit.direct size direct)));
-      rows = λ roots x r seen later is_op only slot number same. inr (
+      usable = ap (λ k. k - 8) (gives.long ∙ (shape ∙ sym (sizes_fit.direct 1 size direct)));
+      rows = λ roots x r seen later is_op first only slot number same. inr (
         p,
         size,
         t.born,
         len,
-        (r, is_op, direct),
+        (r, is_op, map_first x.rules.version size first direct),
         subst (λ k. OnlyActs roots x.line p (act.Map t.born k len ∷ [])) (sym slot) only,
         λ q d. same q d ∙ same_titles s.view (united u n) (titles_in s.caches q d) (took_same s u n (t ∷ []) is took q d),
       );

@@ -6,6 +6,7 @@ use Rattle.pa_buckets.specs.Classes.{IsClassOf}
 use Rattle.pa_direct.specs.Shapes.{greatest_size, shape_of, IsDirectSize}
 use Rattle.pa_trace.specs.declared.script.Op.{Op}
 use Rattle.pa_trace.specs.declared.script.Op.TheVariants as ops
+use Rattle.pa_rules.proofs.Versions.{class_first, map_first}
 use Rattle.pa_record.specs.declared.entry.Answer.{Answer}
 use Rattle.pa_record.specs.declared.entry.Answer.TheVariants as answers
 use Rattle.pa_record.specs.declared.entry.Seen.{Seen}
@@ -79,8 +80,9 @@ one_partition r p n s q m e = cc
 -- The op that found no room, for a class or a direct map, if the entry says so and the row is that.
 pub full_does : (line size r p j count : ℕ) (class : Option ℕ) (s : StockValue) (w : View) (full : IsFullFor j s.thread p line count class s.view w) → IsStock s → IsAware s.view →
     IsAware w → p < s.partitions → HasNoHandle (register_in s.registers r) → size ≤ greatest_size →
-    ((o : Outcome) → slice_get o.pools full.asked ≡ Some (take_entry line p count None) → MakesEntry o.pools p (act.Full class full.asked) (ops.Alloc r p size)) →
-    ((roots : Journals) (x : Played) (after : Cache) → x.op ≡ ops.Alloc r p size → OnlyActs roots x.line p (act.Full class full.asked ∷ []) → SameLists after (listed_in s) →
+    ((o : Outcome) (x : Played) → x.op ≡ ops.Alloc r p size → x.rules.version ≡ 1 → slice_get o.pools full.asked ≡ Some (take_entry line p count None) →
+    MakesEntry o.pools p (act.Full class full.asked) x) →
+    ((roots : Journals) (x : Played) (after : Cache) → x.op ≡ ops.Alloc r p size → x.rules.version ≡ 1 → OnlyActs roots x.line p (act.Full class full.asked ∷ []) → SameLists after (listed_in s) →
     FullRow roots x (listed_in s) after) →
     DoesOp line (ops.Alloc r p size) (answers.Full j) s (record s { view = w })
 full_does line size r p j count class s w full is aware now inner bare few makes row =
@@ -110,7 +112,7 @@ full_does line size r p j count class s w full is aware now inner bare few makes
       answers = λ o run many sees line_acts. record {
         told = refl;
         row = alloc_row (register_in s.registers r) (row_facts o) (regs_of s.registers) r size (answers.Full j) (regs_of s.registers) bare (inr (inr (few, j, refl, λ k. refl)));
-        lists = row o.roots x.played (listed_in (record s { view = w })) refl (only_acts o x it line p (a ∷ []) line_acts low refl)
+        lists = row o.roots x.played (listed_in (record s { view = w })) refl refl (only_acts o x it line p (a ∷ []) line_acts low refl)
             (λ q d. same_titles s.view w (titles_in s.caches q d) (λ t among.
             let well = is.lists.well q d t among in kept_number s.view w well.0 t aware now two.lends.keeps well.1 (is.lists.free q d t among)));
         reader = tt;
@@ -118,7 +120,7 @@ full_does line size r p j count class s w full is aware now inner bare few makes
         makes = makes_each x it o.pools (λ q e small among.
             let at = act_at line p q (a ∷ []) e among in
             elim (in_cases a e.act [] at.1) [
-              | inl same ↦ subst (λ k. MakesEntry o.pools k e.act op) (sym at.0) (subst (λ b. MakesEntry o.pools p b op) same (makes o (stands o sees)))
+              | inl same ↦ subst (λ k. MakesEntry o.pools k e.act x.played) (sym at.0) (subst (λ b. MakesEntry o.pools p b x.played) same (makes o x.played refl refl (stands o sees)))
               | inr none ↦ absurd (not_in_none e.act none)
             ]);
         home = λ m e. absurd (not_some m e);
@@ -160,8 +162,8 @@ pub full_class_does : (line size r p j c : ℕ) (s after : StockValue) → Finds
     DoesOp line (ops.Alloc r p size) (answers.Full j) s after
 full_class_does line size r p j c s after (full, same) is aware now inner bare few class empty =
     subst (λ (z : StockValue). DoesOp line (ops.Alloc r p size) (answers.Full j) s z) (sym same)
-    (full_does line size r p j 1 (Some c) s after.view full is aware now inner bare few (λ o stands. (r, size, refl, class))
-    (λ roots x later is_op only lists. inl (p, c, full.asked, (r, size, is_op, class), ap (numbered_by s.view) empty, only, lists)))
+    (full_does line size r p j 1 (Some c) s after.view full is aware now inner bare few (λ o x is_op first stands. (r, size, is_op, class_first x.rules.version (max size 1 + 8) c first class))
+    (λ roots x later is_op first only lists. inl (p, c, full.asked, (r, size, is_op, class_first x.rules.version (max size 1 + 8) c first class), ap (numbered_by s.view) empty, only, lists)))
 
 -- what a refusal does for a direct map
 pub full_map_does : (line size r p j : ℕ) (s after : StockValue) → FindsNone line p (shape_of size).supers None s after (Full j) → IsStock s → IsAware s.view → IsAware after.view →
@@ -169,5 +171,5 @@ pub full_map_does : (line size r p j : ℕ) (s after : StockValue) → FindsNone
 full_map_does line size r p j s after (full, same) is aware now inner bare direct =
     subst (λ (z : StockValue). DoesOp line (ops.Alloc r p size) (answers.Full j) s z) (sym same)
     (full_does line size r p j (shape_of size).supers None s after.view full is aware now inner bare direct.1
-    (λ o stands. (size, (r, refl, direct), ap (option_map (λ (e : PoolEntry). e.act)) stands))
-    (λ roots x later is_op only lists. inr (p, size, full.asked, (r, is_op, direct), only, lists)))
+    (λ o x is_op first stands. (size, (r, is_op, map_first x.rules.version size first direct), ap (option_map (λ (e : PoolEntry). e.act)) stands))
+    (λ roots x later is_op first only lists. inr (p, size, full.asked, (r, is_op, map_first x.rules.version size first direct), only, lists)))

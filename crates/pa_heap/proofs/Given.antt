@@ -38,7 +38,7 @@ use Rattle.pa_step_order.specs.Shapes.{numbers_on}
 use Rattle.pa_step_order.proofs.Shaping.{shapes_have_signs}
 use Rattle.pa_cells.specs.declared.handle.Handle.{Handle}
 use Rattle.pa_cells.specs.Handles.{HasSeenMade, SlotsStaySeen}
-use Rattle.pa_op_specs.specs.Stocks.{StockRegister, StockValue, regs_of, listed_in}
+use Rattle.pa_op_specs.specs.Stocks.{StockRegister, StockValue, regs_of, listed_in, rules_at}
 use Rattle.pa_op_specs.specs.Outcomes.{Outcome, IsOutcome, IsSeenOf, row_facts}
 use Rattle.pa_op_specs.specs.Entering.{EntersCells, HasSeenSome}
 use Rattle.pa_op_specs.specs.Plays.{DoesOp, AnswersIn}
@@ -64,8 +64,8 @@ pub record HasReturned (op : Op) (step : Step) (h : Handle) (word : ℕ) (s : St
   pub long : bytes_through s.registers op ≡ h.title.len
   pub row : (o : Outcome) → Row (row_facts o) op (regs_of s.registers) (answers.Done (seen_at h word)) (regs_of rs)
   pub lists : (partitions line phase : ℕ) (roots : Journals) (cache after : Cache) →
-      ReturnRow roots (record { line = line; thread = s.thread; phase = phase; op = op; answer = answers.Done (seen_at h word) }) (left_at h word) cache after →
-      CacheRow partitions roots (record { line = line; thread = s.thread; phase = phase; op = op; answer = answers.Done (seen_at h word) })
+      ReturnRow roots (record { line = line; thread = s.thread; phase = phase; rules = rules_at s; op = op; answer = answers.Done (seen_at h word) }) (left_at h word) cache after →
+      CacheRow partitions roots (record { line = line; thread = s.thread; phase = phase; rules = rules_at s; op = op; answer = answers.Done (seen_at h word) })
       (answers.Done (seen_at h word)) cache after
   pub reader : (o : Outcome) (x : ToldRecord) → ReadsIts o.sizes (regs_of s.registers) op x
   pub mark : (line : ℕ) → mark_of_answer line op (answers.Done (seen_at h word)) ≡ Some (mark_at line (seen_at h word) (Some step))
@@ -234,7 +234,7 @@ gives_does stays op step h class word line s after w rs ms is of thread partitio
           reader = is.reader o (x phase);
           unmaps = unmaps_next o.roots (x phase).played (λ q asked slot among seen done. absurd (none_unmaps phase o line_acts q asked slot among));
           makes = makes_each (x phase) (it phase) o.pools
-              (λ q e lower among. let (slots, give) = give_all q (q == h.partition) e among in subst (λ act. MakesEntry o.pools q act op) (sym give) (inl is.freeing));
+              (λ q e lower among. let (slots, give) = give_all q (q == h.partition) e among in subst (λ act. MakesEntry o.pools q act (x phase).played) (sym give) (inl is.freeing));
           home = λ m e. (h.partition, home_of o h.partition (mark_at line (seen_at h word) (Some step)) m (sym (is.mark line) ∙ e) slot.size);
           signs = ap (λ ys. Stepped ∷ ys)
               (shapes_have_signs.entries line h.partition ms (gives gone) low (says ∙ numbers_again line (gives gone)) (gives_name_none gone)

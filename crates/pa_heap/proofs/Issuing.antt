@@ -106,9 +106,10 @@ pub record Bringing (line size : ℕ) (h : Handle) (acts : List RootAct) (es : L
   pub quiet : touches es ≡ []
   pub uncut : (t : Title) → Contains es (Uncut t) → ⊥
   pub asks : Asks line h.partition acts es v
-  pub makes : (pools : List PoolEntry) (a : RootAct) (r : ℕ) → Contains acts a → MakesEntry pools h.partition a (ops.Alloc r h.partition size)
-  pub usable : h.title.len - 8 ≡ usable_of size
-  pub rows : (roots : Journals) (x : Played) (r : ℕ) (seen : Seen) (after : Cache) → x.op ≡ ops.Alloc r h.partition size → OnlyActs roots x.line h.partition acts →
+  pub makes : (pools : List PoolEntry) (a : RootAct) (x : Played) (r : ℕ) → x.op ≡ ops.Alloc r h.partition size → x.rules.version ≡ 1 → Contains acts a →
+      MakesEntry pools h.partition a x
+  pub usable : h.title.len - 8 ≡ usable_of 1 size
+  pub rows : (roots : Journals) (x : Played) (r : ℕ) (seen : Seen) (after : Cache) → x.op ≡ ops.Alloc r h.partition size → x.rules.version ≡ 1 → OnlyActs roots x.line h.partition acts →
       seen.slot ≡ name_of h.title → number_of seen.found.0 ≡ seen_of v h.title → SameLists after (listed_in (record s { view = v; caches = cs })) →
       MadeRow roots x seen (listed_in s) after
 
@@ -154,12 +155,12 @@ made_does counts line size r word h acts es s v cs before is stake can found num
             row = alloc_row (register_in s.registers r) (row_facts o) (regs_of s.registers) r size answer (regs_of (slice_set s.registers r (Own h))) bare
                 (request_row (row_facts o) (regs_of s.registers) r size (seen_at h word) (h.title.len - 8) (regs_of (slice_set s.registers r (Own h))) few before.usable
                 (λ k. regs_set s.registers r (Own h) k inside));
-            lists = before.rows o.roots x.played r (seen_at h word) (listed_in (issued mid h r word)) refl only refl number (issued_lists counts mid r word h can back);
+            lists = before.rows o.roots x.played r (seen_at h word) (listed_in (issued mid h r word)) refl refl only refl number (issued_lists counts mid r word h can back);
             reader = tt;
             unmaps = λ seen p asked n e done among on act. absurd (not_done (seen_at h word) (h.title.len - 8) seen done);
             makes = makes_each x it o.pools (λ p e low among.
                 let at = act_at line h.partition p acts e among in
-                subst (λ q. MakesEntry o.pools q e.act op) (sym at.0) (before.makes o.pools e.act r at.1));
+                subst (λ q. MakesEntry o.pools q e.act x.played) (sym at.0) (before.makes o.pools e.act x.played r refl refl at.1));
             home = λ m e. (h.partition, home_of o h.partition (mark_at line (seen_at h word) (Some steps.Issue)) m e slot.size);
             signs = filter_map-append sign_of es (Counted t steps.Issue word 0 ∷ [])
                 ∙ ap (λ ys. ys ++ Stepped ∷ []) (before.asks.signs ∙ shapes_have_signs.only o.partitions line h.partition o.roots acts run.past only);

@@ -9,6 +9,7 @@ use Rattle.std.proofs.lemmas.Bool.Decides.{nat_tests, eqb_tells}
 use Rattle.pa_slot.specs.declared.title.Title.{Title}
 use Rattle.pa_slot.specs.Titles.{IsWellFormed}
 use Rattle.pa_trace.specs.declared.script.Op.TheVariants as ops
+use Rattle.pa_rules.specs.declared.played.Played.{Played}
 use Rattle.pa_record.specs.declared.entry.Answer.TheVariants as answers
 use Rattle.pa_record.specs.declared.entry.Seen.{Seen}
 use Rattle.pa_record.specs.declared.numbered.Numbered.{Numbered}
@@ -212,14 +213,14 @@ purging_more line n slots more s now next is some (more_is, given) below low = r
 -- ---- the op
 
 -- what a purge enters it makes, and it names no entry of the pool
-made_by_purge : (lists : ℕ → List Numbered) (i n : ℕ) (pools : List PoolEntry) (p : ℕ) (act : RootAct) → Contains (purge_acts lists i n) act → MakesEntry pools p act ops.Purge
-made_by_purge lists i zero pools p act among = elim (in_cases Purge act [] among) [
-  | inl same ↦ subst (λ a. MakesEntry pools p a ops.Purge) same refl
+made_by_purge : (lists : ℕ → List Numbered) (i n : ℕ) (pools : List PoolEntry) (p : ℕ) (act : RootAct) (x : Played) → x.op ≡ ops.Purge → Contains (purge_acts lists i n) act → MakesEntry pools p act x
+made_by_purge lists i zero pools p act x op among = elim (in_cases Purge act [] among) [
+  | inl same ↦ subst (λ a. MakesEntry pools p a x) same op
   | inr none ↦ absurd (not_in_none act none)
 ]
-made_by_purge lists i (suc n) pools p act among = elim (Contains-append_cases (gives (lists i)) (purge_acts lists (i + 1) n) act among) [
-  | inl first ↦ (let (slots, is) = in_gives (lists i) act first in subst (λ a. MakesEntry pools p a ops.Purge) (sym is) (inr refl))
-  | inr later ↦ made_by_purge lists (i + 1) n pools p act later
+made_by_purge lists i (suc n) pools p act x op among = elim (Contains-append_cases (gives (lists i)) (purge_acts lists (i + 1) n) act among) [
+  | inl first ↦ (let (slots, is) = in_gives (lists i) act first in subst (λ a. MakesEntry pools p a x) (sym is) (inr op))
+  | inr later ↦ made_by_purge lists (i + 1) n pools p act x op later
 ]
 
 purge_asks_none : (line : ℕ) (lists : ℕ → List Numbered) (i n : ℕ) → filter asks (map (root_entry line) (purge_acts lists i n)) ≡ []
@@ -266,7 +267,7 @@ purge_does line slots s now is still some =
             );
             reader = tt;
             unmaps = λ seen p asked slot e done among on act. absurd (not_done seen done);
-            makes = makes_each (quiet_record s now.view line phase ops.Purge (answers.Purged slots) some.stretch) (it phase) o.pools (λ p e low among. makes p e o.pools among);
+            makes = makes_each (quiet_record s now.view line phase ops.Purge (answers.Purged slots) some.stretch) (it phase) o.pools (λ p e low among. makes p e o.pools (quiet_record s now.view line phase ops.Purge (answers.Purged slots) some.stretch).played refl among);
             home = λ m e. absurd (not_some m e);
             signs = some.signs ∙ ap (λ n. flat_map (λ p. flat_map (act_signs line p) (purge_acts (listed_in s p) 0 170)) (range_with_len 0 n)) (sym many)
                 ∙ range_same (λ p. flat_map (act_signs line p) (purge_acts (listed_in s p) 0 170)) (λ p. flat_map (act_signs line p) (acts_of o.roots line p)) 0 o.partitions
@@ -330,11 +331,11 @@ purge_does line slots s now is still some =
         go true is kept = kept
         go false is kept = none_past o now p c run sees still (let high : s.partitions ≤ p = grind (arith, nat_tests) in omega arith)
 
-    makes : (p : ℕ) (e : RootEntry) (pools : List PoolEntry) → Contains (roots p) e → MakesEntry pools p e.act ops.Purge
-    makes p e pools among = go (nat_lt p s.partitions) among
+    makes : (p : ℕ) (e : RootEntry) (pools : List PoolEntry) (x : Played) → x.op ≡ ops.Purge → Contains (roots p) e → MakesEntry pools p e.act x
+    makes p e pools x op among = go (nat_lt p s.partitions) among
       where
-        go : (b : Bool) → Contains (if b then map (root_entry line) (purge_acts (listed_in s p) 0 170) else []) e → MakesEntry pools p e.act ops.Purge
-        go true among = made_by_purge (listed_in s p) 0 170 pools p e.act (act_among line (purge_acts (listed_in s p) 0 170) e among)
+        go : (b : Bool) → Contains (if b then map (root_entry line) (purge_acts (listed_in s p) 0 170) else []) e → MakesEntry pools p e.act x
+        go true among = made_by_purge (listed_in s p) 0 170 pools p e.act x op (act_among line (purge_acts (listed_in s p) 0 170) e among)
         go false none = absurd (not_in_none e none)
 
     not_full : (j : ℕ) → answers.Purged slots ≡ answers.Full j → ⊥

@@ -1,9 +1,9 @@
 -- Ops that run out of memory: an allocation that asks a root, a purge that purged the first partitions, and what the worker is then.
-use Rattle.std.proofs.Common.{◌≡◌, ℕ, ◌+◌, ◌≤◌, List, [], true, max, refl, sym, ◌∙◌, ap, subst, add-one}
+use Rattle.std.proofs.Common.{◌≡◌, ℕ, ◌+◌, ◌≤◌, List, [], true, max, sym, ◌∙◌, ap, subst, add-one}
 use Rattle.pa_buckets.specs.Classes.{IsClassOf}
 use Rattle.pa_direct.specs.Shapes.{greatest_size, IsDirectSize}
-use Rattle.pa_trace.specs.declared.script.Op.TheVariants as ops
-use Rattle.pa_rules.proofs.Asking.{class_once, class_or_map}
+use Rattle.pa_rules.proofs.Versions.{has_no_class}
+use Rattle.pa_rules.proofs.Asking.{class_of_size}
 use Rattle.pa_totals.specs.declared.owed.Owed.{Owed}
 use Rattle.pa_totals.specs.Settled.{none_owed}
 use Rattle.pa_op_specs.specs.Stocks.{StockValue, HasNoHandle, register_in, titles_in}
@@ -18,7 +18,7 @@ class_asks reg p size class s bare few of empty = record {
   bare = bare;
   small = few;
   empty = λ other is. subst (λ c. titles_in s.caches p c ≡ [])
-      (class_once (ops.Alloc reg p size) p p class other (reg, size, refl, of) (reg, size, refl, is)).1 empty;
+      (class_of_size 1 (max size 1 + 8) class other of is) empty;
 }
 
 -- the size has no class
@@ -26,7 +26,7 @@ pub map_asks : (reg p size : ℕ) (s : StockValue) → HasNoHandle (register_in 
 map_asks reg p size s bare direct = record {
   bare = bare;
   small = direct.1;
-  empty = λ class is. absurd (class_or_map (ops.Alloc reg p size) p p class size (reg, size, refl, is) (reg, refl, direct));
+  empty = λ class is. absurd (has_no_class 1 size class direct is);
 }
 
 -- one partition more was purged

@@ -5,6 +5,7 @@ use Rattle.std.proofs.lemmas.Bool.Decides.{eqb_tells}
 use Rattle.pa_slot.specs.declared.title.Title.{Title}
 use Rattle.pa_slot.specs.Count.{number_of}
 use Rattle.pa_buckets.specs.Classes.{IsClassOf}
+use Rattle.pa_rules.proofs.Versions.{class_first}
 use Rattle.pa_record.specs.declared.entry.Seen.{Seen}
 use Rattle.pa_record.specs.declared.numbered.Numbered.{Numbered}
 use Rattle.pa_record.specs.Spans.{name_of}
@@ -65,14 +66,14 @@ front_brings line size p c t s mid front is low class = record {
   quiet = refl;
   uncut = λ u among. not_in_none (Uncut u) among;
   asks = asks_none line p s.view;
-  makes = λ pools a r among. absurd (not_in_none a among);
-  usable = ap (λ n. n - 8) (front.long ∙ sym (sizes_fit.class size c class));
-  rows = λ roots x r seen after is_op only slot number same. inl (
+  makes = λ pools a x r is_op first among. absurd (not_in_none a among);
+  usable = ap (λ n. n - 8) (front.long ∙ sym (sizes_fit.class 1 size c class));
+  rows = λ roots x r seen after is_op first only slot number same. inl (
     p,
     c,
     numbered_by s.view (t ∷ front.rest),
     numbered_by s.view front.rest,
-    (r, size, is_op, class),
+    (r, size, is_op, class_first x.rules.version (max size 1 + 8) c first class),
     subst (λ ts. FilledFirst roots x.line p c (numbered_by s.view ts) (numbered_by s.view (t ∷ front.rest))) (sym front.was) (refl, no_acts roots x.line p only),
     front_is s.view t seen (numbered_by s.view front.rest) slot number,
     λ q d. same q d ∙ relisted s s.view p c front.rest (numbered_by s.view front.rest) is low front.small refl (λ k e u among. refl) q d,

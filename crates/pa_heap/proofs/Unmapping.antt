@@ -250,7 +250,7 @@ unmap_does stays op step h word line s after w rs y note is direct thread partit
           unmaps = unmaps_next o.roots (x phase).played
               (λ q asked slot among seen done. at_step phase o line_acts q asked slot among ∙ ap (λ n. number_of n + 1) (same_found h word seen done));
           makes = makes_each (x phase) (it phase) o.pools
-              (λ q e lower among. subst (λ (f : RootEntry). MakesEntry o.pools q f.act op) (in_one q (q == h.partition) e among) is.freeing);
+              (λ q e lower among. subst (λ (f : RootEntry). MakesEntry o.pools q f.act (x phase).played) (in_one q (q == h.partition) e among) is.freeing);
           home = λ m e. (h.partition, home_of o h.partition (mark_at line (seen_at h word) (Some step)) m (sym (is.mark line) ∙ e) slot.size);
           signs = ap (λ ys. Stepped ∷ ys)
               (shapes_have_signs.asked line h.partition takes.asked unmap pool made low takes.enters.is_made.says refl

@@ -50,7 +50,7 @@ pub record IsActed (partitions n p : ℕ) (x : Played) (pools more : List PoolEn
   pub line : x.line ≡ n
   pub below : p < partitions
   pub fits : ActsFit (pools ++ more) (least_after_all 0 (roots p)) acts (root_at pools roots p)
-  pub makes : (a : RootAct) → Contains acts a → MakesEntry (pools ++ more) p a x.op
+  pub makes : (a : RootAct) → Contains acts a → MakesEntry (pools ++ more) p a x
   pub refusal : (j reg q size : ℕ) → x.answer ≡ answers.Full j → x.op ≡ ops.Alloc reg q size
       → (e : RootEntry) × IsEntry (grown roots n (only_in p acts)) q j e × (e.line ≡ n) × IsFull e.act
   pub row : OnlyActs (grown roots n (only_in p acts)) x.line p acts → CacheRow partitions (grown roots n (only_in p acts)) x x.answer cache next
@@ -73,7 +73,7 @@ pub acted_deed : (partitions n p : ℕ) (ps : List Played) (x : Played) (pools m
 acted_deed partitions n p ps x pools more roots acts all next h a = record {
   line = a.line;
   fits = by_place (λ q bs. ActsFit (pools ++ more) (least_after_all 0 (roots q)) bs (root_at pools roots q)) p acts a.fits (λ q ne. tt);
-  makes = by_place (λ q bs. (b : RootAct) → Contains bs b → MakesEntry (pools ++ more) q b x.op) p acts a.makes (λ q ne b among. absurd (not_in_none b among));
+  makes = by_place (λ q bs. (b : RootAct) → Contains bs b → MakesEntry (pools ++ more) q b x) p acts a.makes (λ q ne b among. absurd (not_in_none b among));
   none_past = λ q past. only_else p q acts (λ e. let low = a.below in omega arith);
   refusal = a.refusal;
   row = a.row (only_acts partitions n p ps x pools roots acts all h a.line);

@@ -8,6 +8,7 @@ use Rattle.pa_layout.specs.Pages.{super_page_at}
 use Rattle.pa_buckets.specs.Bands.{fill_of}
 use Rattle.pa_buckets.proofs.Facts.{IsRow-of}
 use Rattle.pa_trace.specs.declared.script.Op.TheVariants as ops
+use Rattle.pa_rules.proofs.Versions.{real_in}
 use Rattle.pa_record.specs.declared.entry.Seen.{Seen}
 use Rattle.pa_record.specs.declared.entry.Answer.TheVariants as answers
 use Rattle.pa_record.specs.declared.numbered.Numbered.{Numbered}
@@ -52,7 +53,7 @@ filled_empty : (roots : Journals) (line p class : ℕ) (asked : Option ℕ) (old
 filled_empty roots line p class asked old xs e only = subst (λ z. FilledFirst roots line p class z xs) (sym e) (asked, only)
 
 module _ (supers partitions n p class usable : ℕ) (ps : List Played) (x : Played) (pools : List PoolEntry) (roots : Journals) (all : Caches) (seen : Seen) (xs rest : List Numbered)
-    (h : IsPlacedTo partitions n ps pools roots all) (line : x.line ≡ n) (made : x.answer ≡ answers.Made seen usable) (asks : AsksForClass x.op p class)
+    (h : IsPlacedTo partitions n ps pools roots all) (line : x.line ≡ n) (made : x.answer ≡ answers.Made seen usable) (asks : AsksForClass x p class)
     (below : p < partitions) (empty : all x.thread p class ≡ []) (has : HasNumbers roots p xs) (front : FrontIs seen xs rest) where
   fill_act : (more : List PoolEntry) (asked : Option ℕ) → RootActFits (pools ++ more) (Fill class asked xs) (root_at pools roots p) → AsksFrom (least_after_all 0 (roots p)) asked →
       IsOneAct partitions n p x pools more roots (Fill class asked xs) (all x.thread) (with_list (all x.thread) p class rest)
@@ -70,7 +71,7 @@ module _ (supers partitions n p class usable : ℕ) (ps : List Played) (x : Play
   }
 
   real : class < 170
-  real = let (reg, size, is, of) = asks in omega (arith, of.real)
+  real = let (reg, size, is, of) = asks in real_in x.rules.version class (of.from, of.real)
 
   -- without asking the pool
   filled_without : (after : Root) (plan : PoolState) (titles : List Title) → Fills class (fill_of class) (pool_at supers pools) plan (root_at pools roots p) (record { root = after; titles = titles }) None →
@@ -137,7 +138,7 @@ fill_is_done supers partitions n p class usable ps x pools roots all seen xs res
 module _ (supers partitions n p j : ℕ) (ps : List Played) (x : Played) (pools : List PoolEntry) (roots : Journals) (all : Caches)
     (h : IsPlacedTo partitions n ps pools roots all) (line : x.line ≡ n) (full : x.answer ≡ answers.Full j) (index : j ≡ length (roots p)) (below : p < partitions) where
   full_act : (more : List PoolEntry) (class : Option ℕ) (asked reg size : ℕ) → x.op ≡ ops.Alloc reg p size → RootActFits (pools ++ more) (Full class asked) (root_at pools roots p) →
-      least_after_all 0 (roots p) ≤ asked → MakesEntry (pools ++ more) p (Full class asked) x.op →
+      least_after_all 0 (roots p) ≤ asked → MakesEntry (pools ++ more) p (Full class asked) x →
       (OnlyActs (grown roots n (only_in p (Full class asked ∷ []))) x.line p (Full class asked ∷ []) → FullRow (grown roots n (only_in p (Full class asked ∷ []))) x (all x.thread) (all x.thread)) →
       IsOneAct partitions n p x pools more roots (Full class asked) (all x.thread) (all x.thread)
   full_act more class asked reg size op fits from makes row = record {
@@ -153,7 +154,7 @@ module _ (supers partitions n p j : ℕ) (ps : List Played) (x : Played) (pools 
   }
 
   pub full_called : (class : Option ℕ) (count asked reg size : ℕ) (after : Root) (plan : PoolState) → x.op ≡ ops.Alloc reg p size →
-      RootActFits (pools ++ asked_for n p count [] (Some asked)) (Full class asked) (root_at pools roots p) → MakesEntry (pools ++ asked_for n p count [] (Some asked)) p (Full class asked) x.op →
+      RootActFits (pools ++ asked_for n p count [] (Some asked)) (Full class asked) (root_at pools roots p) → MakesEntry (pools ++ asked_for n p count [] (Some asked)) p (Full class asked) x →
       (OnlyActs (grown roots n (only_in p (Full class asked ∷ []))) x.line p (Full class asked ∷ []) → FullRow (grown roots n (only_in p (Full class asked ∷ []))) x (all x.thread) (all x.thread)) →
       asked ≡ length pools → 1 ≤ count → IsLowest (pool_at supers pools) count None → plan ≡ took count None (pool_at supers pools) → after ≡ root_at pools roots p →
       IsCalled supers partitions n x pools (asked_for n p count [] (Some asked)) roots p (Full class asked ∷ []) (all x.thread) (all x.thread) after plan
@@ -181,7 +182,7 @@ full_is_done supers partitions n p class asked j ps x pools roots all plan after
     r = root_at pools roots p
 
     real : class < 170
-    real = let (reg, size, is, of) = asks in omega (arith, of.real)
+    real = let (reg, size, is, of) = asks in real_in x.rules.version class (of.from, of.real)
 
     by_found : (titles : List Title) (found : Option ℕ) → IsNone (span_for class (root_at pools roots p)) → IsAsked 1 asked found (pool_at supers pools) plan →
         record { root = after; titles = titles } ≡ filled_by class (fill_of class) asked found (root_at pools roots p) → titles ≡ [] →

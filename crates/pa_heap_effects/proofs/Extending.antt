@@ -2,7 +2,6 @@
 use Rattle.std.proofs.Common.{◌≡◌, ℕ, ◌+◌, ◌<◌, List, [], ◌∷◌, ◌++◌, Option, Some, None, sym, ◌∙◌, ap, subst, arith, inl, inr}
 use Rattle.std.specs.Prelude.{Contains}
 use Rattle.std.proofs.lemmas.List.Elements.{Contains-append_left, Contains-push, Contains-push_cases}
-use Rattle.pa_trace.specs.declared.script.Op.{Op}
 use Rattle.pa_trace.specs.declared.script.Op.TheVariants as ops
 use Rattle.pa_record.specs.declared.entry.Answer.TheVariants as answers
 use Rattle.pa_record.specs.declared.pool.PoolEntry.{PoolEntry}
@@ -27,17 +26,17 @@ use Rattle.pa_legal.proofs.Growing.{moves_append, numbered_append}
 
 -- ---- what makes an entry, over a longer pool
 
-full_more : (pools more : List PoolEntry) (p : ℕ) (class : Option ℕ) (asked : ℕ) (op : Op) → MakesFull pools p class asked op → MakesFull (pools ++ more) p class asked op
-full_more pools more p None asked op (size, asks, none) = (size, asks, act_at_more pools more asked _ none)
-full_more pools more p (Some class) asked op h = h
+full_more : (pools more : List PoolEntry) (p : ℕ) (class : Option ℕ) (asked : ℕ) (x : Played) → MakesFull pools p class asked x → MakesFull (pools ++ more) p class asked x
+full_more pools more p None asked x (size, asks, none) = (size, asks, act_at_more pools more asked _ none)
+full_more pools more p (Some class) asked x h = h
 
-makes_more : (pools more : List PoolEntry) (p : ℕ) (act : RootAct) (op : Op) → MakesEntry pools p act op → MakesEntry (pools ++ more) p act op
-makes_more pools more p (Fill class asked slots) op h = h
-makes_more pools more p (Map asked slot len) op h = h
-makes_more pools more p (Full class asked) op h = full_more pools more p class asked op h
-makes_more pools more p (Give slots) op h = h
-makes_more pools more p (Unmap asked slot) op h = h
-makes_more pools more p Purge op h = h
+makes_more : (pools more : List PoolEntry) (p : ℕ) (act : RootAct) (x : Played) → MakesEntry pools p act x → MakesEntry (pools ++ more) p act x
+makes_more pools more p (Fill class asked slots) x h = h
+makes_more pools more p (Map asked slot len) x h = h
+makes_more pools more p (Full class asked) x h = full_more pools more p class asked x h
+makes_more pools more p (Give slots) x h = h
+makes_more pools more p (Unmap asked slot) x h = h
+makes_more pools more p Purge x h = h
 
 -- ---- a line more
 
@@ -85,7 +84,7 @@ module _ (partitions n : ℕ) (ps : List Played) (x : Played) (pools more : List
     lines = λ p e among. elim (grown_cases roots n acts p e among) [
       | inl old ↦
           let (y, of, makes) = h.lines p e old in
-          (y, (Contains-append_left ps (x ∷ []) y of.0, of.1), makes_more pools more p e.act y.op makes)
+          (y, (Contains-append_left ps (x ∷ []) y of.0, of.1), makes_more pools more p e.act y makes)
       | inr new ↦ (x, (Contains-push ps x, d.line ∙ sym new.1), d.makes p e.act new.0)
     ];
     none_past = λ p past. ap (λ es. es ++ entries_at n (acts p)) (h.none_past p past) ∙ ap (entries_at n) (d.none_past p past);

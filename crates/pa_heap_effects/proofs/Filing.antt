@@ -7,6 +7,8 @@ use Rattle.std.proofs.lemmas.Bool.{cases_lt}
 use Rattle.std.proofs.lemmas.Option.{slice_get_within, get_or_from_slice_get}
 use Rattle.std.proofs.lemmas.List.Sorted.{IsNonDecreasingBy-short}
 use Rattle.pa_trace.specs.declared.script.Line.{Line}
+use Rattle.pa_trace.specs.declared.script.Rules.{Rules}
+use Rattle.pa_rules.proofs.Ruling.{record_rules, one_rules}
 use Rattle.pa_record.specs.declared.pool.PoolEntry.{PoolEntry}
 use Rattle.pa_record.specs.declared.root.RootEntry.{RootEntry}
 use Rattle.pa_lists.proofs.Members.{not_in_none, not_some}
@@ -77,15 +79,15 @@ line_passes = record {
 
 -- ---- the order of the lines is that of the phases
 
-pub phases_rise : (ls : List Line) (ps : List Played) (x y : Played) → AreLines ls ps → Contains ps x → Contains ps y → x.phase < y.phase → x.line < y.line
-phases_rise ls ps x y lines first second less =
-    lines_phases 2 1 ls (op_line_of x) (op_line_of y)
+pub phases_rise : (rules : Rules) (ls : List Line) (ps : List Played) (x y : Played) → AreLines rules ls ps → Contains ps x → Contains ps y → x.phase < y.phase → x.line < y.line
+phases_rise rules ls ps x y lines first second less =
+    lines_phases rules 2 1 ls (op_line_of x) (op_line_of y)
     (subst (λ z. Contains z (op_line_of x)) lines (map_in op_line_of ps x first))
     (subst (λ z. Contains z (op_line_of y)) lines (map_in op_line_of ps y second)) less
 
-before_is_less : (ls : List Line) (ps : List Played) (x y : Played) → AreLines ls ps → Contains ps x → Contains ps y → StandsBefore x y → x.line < y.line
-before_is_less ls ps x y lines first second (inl same) = same.1
-before_is_less ls ps x y lines first second (inr earlier) = phases_rise ls ps x y lines first second earlier
+before_is_less : (rules : Rules) (ls : List Line) (ps : List Played) (x y : Played) → AreLines rules ls ps → Contains ps x → Contains ps y → StandsBefore x y → x.line < y.line
+before_is_less rules ls ps x y lines first second (inl same) = same.1
+before_is_less rules ls ps x y lines first second (inr earlier) = phases_rise rules ls ps x y lines first second earlier
 
 -- if the lines are in order, the lesser line comes before
 sorted_before : {A : Type 0} (line : A → ℕ) (xs : List A) (i j : ℕ) (a b : A) → IsNonDecreasingBy line xs → slice_get xs i ≡ Some a → slice_get xs j ≡ Some b → line a < line b → i < j
@@ -101,12 +103,13 @@ sorted_before line xs i j a b h first second less = elim (cases_lt i j) [
 -- ---- the journals and the pool are those of the records
 
 pub placed_are_roots : PlacedAreRoots
-placed_are_roots supers partitions n ls ps pools roots all filed h g = (
+placed_are_roots supers partitions n rules ls ps pools roots all filed h g = (
   record {
+    one = one_rules rules ps (λ x. record_rules rules ls ps x filed);
     journals = h.journals;
     lines = λ p j e there. h.lines p e (at_in (roots p) j e there);
     order = λ p i j e f x y first second of of' before.
-        let less = before_is_less ls ps x y filed of.0 of'.0 before in
+        let less = before_is_less rules ls ps x y filed of.0 of'.0 before in
         let a = of.1 in
         let b = of'.1 in
         sorted_before (λ (z : RootEntry). z.line) (roots p) i j e f (h.sorted p) first second (omega arith);
@@ -118,7 +121,7 @@ placed_are_roots supers partitions n ls ps pools roots all filed h g = (
     named = g.named;
     once = λ j p q i k e there first second. g.once j p q i k first second;
     order = λ i j e f x y first second of of' before.
-        let less = before_is_less ls ps x y filed of.0 of'.0 before in
+        let less = before_is_less rules ls ps x y filed of.0 of'.0 before in
         let a = of.1 in
         let b = of'.1 in
         sorted_before (λ (z : PoolEntry). z.line) pools i j e f g.sorted first second (omega arith);

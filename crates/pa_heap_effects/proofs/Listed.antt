@@ -92,10 +92,10 @@ cached_least s all p (suc u) t below = elim (cases_eq u t) [
 
 module _ (supers partitions n : ℕ) (ls : List Line) (ps : List Played) (pools : List PoolEntry) (roots : Journals) (all : Caches) (h : IsSoFar supers partitions n ls ps pools roots all) where
   are_roots : AreRoots partitions ps pools roots
-  are_roots = (placed_are_roots supers partitions n ls ps pools roots all h.lines h.placed h.pooled).0
+  are_roots = (placed_are_roots supers partitions n h.rules ls ps pools roots all h.lines h.placed h.pooled).0
 
   are_pool : IsPoolOf supers ps pools roots
-  are_pool = (placed_are_roots supers partitions n ls ps pools roots all h.lines h.placed h.pooled).1
+  are_pool = (placed_are_roots supers partitions n h.rules ls ps pools roots all h.lines h.placed h.pooled).1
 
   -- a slot that left a root is in the lists or is in use, once, or it is in the root
   pub stands_once : (p t : ℕ) (s : SlotName) (w : ℕ) → p < partitions → HasLeft roots p s → HasWord ps s w →

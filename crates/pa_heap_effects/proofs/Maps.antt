@@ -34,7 +34,7 @@ use Rattle.pa_lists.proofs.Indexed.{slice_get_at}
 use Rattle.pa_lists.proofs.Elements.{in_one}
 
 module _ (supers partitions n p size usable asked : ℕ) (ps : List Played) (x : Played) (pools : List PoolEntry) (roots : Journals) (all : Caches) (seen : Seen) (t : Title)
-    (h : IsPlacedTo partitions n ps pools roots all) (line : x.line ≡ n) (made : x.answer ≡ answers.Made seen usable) (asks : AsksForMap x.op p size) (below : p < partitions)
+    (h : IsPlacedTo partitions n ps pools roots all) (line : x.line ≡ n) (made : x.answer ≡ answers.Made seen usable) (asks : AsksForMap x p size) (below : p < partitions)
     (named : name_of t ≡ seen.slot) where
   -- its name is new: no entry of the journal let it out
   map_leaves : (s : SlotName) → asked ≡ length pools → seen.slot.born ≡ asked → LeavesAt (roots p) (Map asked seen.slot (shape_of size).slot) s
@@ -112,7 +112,7 @@ full_map_is_done supers partitions n p size asked j ps x pools roots all plan af
         let none_found = calls_fit.full_map pools e (shape_of size).supers (root_at pools roots p) refl in
         full_called supers partitions n p j ps x pools roots all h line full index below None (shape_of size).supers asked reg size after plan op
         (subst (λ z. RootActFits (pools ++ e ∷ []) (Full None z) (root_at pools roots p)) (sym at) none_found)
-        (subst (λ z. MakesEntry (pools ++ e ∷ []) p (Full None z) x.op) (sym at) (size, asks, ap (λ o. option_map (λ (z : PoolEntry). z.act) o) (slice_get_at pools [] e)))
+        (subst (λ z. MakesEntry (pools ++ e ∷ []) p (Full None z) x) (sym at) (size, asks, ap (λ o. option_map (λ (z : PoolEntry). z.act) o) (slice_get_at pools [] e)))
         (λ only. inr (p, size, asked, asks, only, λ q c. refl))
         at (omega arith) ask.lowest ask.took (ap (λ (f : Filled). f.root) is)
     by_found (Some first) ask is = absurd (not_cons (map_in first (shape_of size).slot asked) [] (ap (λ (f : Filled). f.titles) is))

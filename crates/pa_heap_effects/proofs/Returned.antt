@@ -56,8 +56,8 @@ frees_by (ops.Read reg place) step w is returning = absurd (not_some step is)
 frees_by (ops.Swap cell reg) step w is returning = absurd (not_some step is)
 frees_by ops.Purge step w is returning = absurd (not_some step is)
 
-give_makes : (pools : List PoolEntry) (p : ℕ) (op : Op) (a : RootAct) → IsFreeing op ⊎ (op ≡ ops.Purge) → IsGive a → MakesEntry pools p a op
-give_makes pools p op a frees (slots, is) = subst (λ z. MakesEntry pools p z op) (sym is) frees
+give_makes : (pools : List PoolEntry) (p : ℕ) (x : Played) (a : RootAct) → IsFreeing x.op ⊎ (x.op ≡ ops.Purge) → IsGive a → MakesEntry pools p a x
+give_makes pools p x a frees (slots, is) = subst (λ z. MakesEntry pools p z x) (sym is) frees
 
 -- the list of what is out, with the slot at the start
 front_out : (r : Root) (slot : Numbered) (xs : List Numbered) → IsOut r slot.slot → times slot.slot (names xs) ≡ 0 → AreOut r xs → AreOut r (slot ∷ xs)
@@ -98,7 +98,7 @@ module _ (supers partitions n p class : ℕ) (ls : List Line) (ps : List Played)
         line = line;
         below = below;
         fits = gives_alone (pools ++ []) (least_after_all 0 (roots p)) xs (root_at pools roots p) sound are_out;
-        makes = λ a among. give_makes (pools ++ []) p x.op a (inl frees) (give_is xs a among);
+        makes = λ a among. give_makes (pools ++ []) p x a (inl frees) (give_is xs a among);
         refusal = λ j reg q size full. absurd (not_full_done x.answer seen j returns.answer full);
         row = λ only. subst (λ a. CacheRow partitions (grown roots n (only_in p (gives xs))) x a (all x.thread) (with_list (all x.thread) p class (kept class (returned_by seen ∷ all x.thread p class)))) (sym returns.answer)
             (done_row _ x (step_of x.op) returns.step seen (all x.thread) _ returns.makes returns.returning
@@ -161,9 +161,9 @@ module _ (supers partitions n : ℕ) (ls : List Line) (ps : List Played) (x : Pl
       purge_fits more (least_after_all 0 (roots q)) 0 170 (all x.thread q) (root_at pools roots q) (journal_leaves pools (roots q) (h.placed.journals q)).sound
       (lists_are_out supers partitions n q x.thread ls ps pools roots all h)
 
-  act_makes : (q : ℕ) (a : RootAct) → IsGive a ⊎ (a ≡ Purge) → MakesEntry (pools ++ []) q a x.op
-  act_makes q a (inl give) = give_makes (pools ++ []) q x.op a (inr op) give
-  act_makes q a (inr is) = subst (λ z. MakesEntry (pools ++ []) q z x.op) (sym is) op
+  act_makes : (q : ℕ) (a : RootAct) → IsGive a ⊎ (a ≡ Purge) → MakesEntry (pools ++ []) q a x
+  act_makes q a (inl give) = give_makes (pools ++ []) q x a (inr op) give
+  act_makes q a (inr is) = subst (λ z. MakesEntry (pools ++ []) q z x) (sym is) op
 
   not_purged_full : (j : ℕ) → x.answer ≡ answers.Full j → ⊥
   not_purged_full j full = let is = answer in cc
@@ -176,7 +176,7 @@ module _ (supers partitions n : ℕ) (ls : List Line) (ps : List Played) (x : Pl
     deed = record {
       line = line;
       fits = each_partition (λ q bs. ActsFit (pools ++ []) (least_after_all 0 (roots q)) bs (root_at pools roots q)) (λ q low. fit (pools ++ []) q) (λ q. tt);
-      makes = each_partition (λ q bs. (a : RootAct) → Contains bs a → MakesEntry (pools ++ []) q a x.op) (λ q low a among. act_makes q a (purge_is (all x.thread q) 0 170 a among))
+      makes = each_partition (λ q bs. (a : RootAct) → Contains bs a → MakesEntry (pools ++ []) q a x) (λ q low a among. act_makes q a (purge_is (all x.thread q) 0 170 a among))
           (λ q a among. absurd (not_in_none a among));
       none_past = λ q past. rw (le-ltb q partitions past) refl;
       refusal = λ j reg q size full. absurd (not_purged_full j full);

@@ -39,7 +39,7 @@ pub record IsOneAct (partitions n p : ℕ) (x : Played) (pools more : List PoolE
   pub below : p < partitions
   pub fits : RootActFits (pools ++ more) act (root_at pools roots p)
   pub asks : AsksFrom (least_after_all 0 (roots p)) (asked_by act)
-  pub makes : MakesEntry (pools ++ more) p act x.op
+  pub makes : MakesEntry (pools ++ more) p act x
   pub refusal : (j reg q size : ℕ) → x.answer ≡ answers.Full j → x.op ≡ ops.Alloc reg q size → (q ≡ p) × (j ≡ length (roots p)) × IsFull act
   pub row : OnlyActs (grown roots n (only_in p (act ∷ []))) x.line p (act ∷ []) → CacheRow partitions (grown roots n (only_in p (act ∷ []))) x x.answer cache next
   pub leaves : (s : SlotName) → LeavesAt (roots p) act s
@@ -60,7 +60,7 @@ module _ (supers partitions n p : ℕ) (ps : List Played) (x : Played) (pools mo
         line = a.line;
         below = a.below;
         fits = (a.fits, a.asks, tt);
-        makes = λ b among. subst (λ z. MakesEntry (pools ++ more) p z x.op) (in_one act b among) a.makes;
+        makes = λ b among. subst (λ z. MakesEntry (pools ++ more) p z x) (in_one act b among) a.makes;
         refusal = λ j reg q size full op.
             let (place, at, is) = a.refusal j reg q size full op in (
               record { line = n; act = act },

@@ -55,7 +55,7 @@ pub record IsPlacedTo (partitions n : ℕ) (ps : List Played) (pools : List Pool
   pub entered : (p : ℕ) (e : RootEntry) → Contains (roots p) e → e.line < n
   pub sorted : (p : ℕ) → IsNonDecreasingBy (λ (e : RootEntry). e.line) (roots p)
   pub journals : (p : ℕ) → IsJournal pools (roots p)
-  pub lines : (p : ℕ) (e : RootEntry) → Contains (roots p) e → (x : Played) × IsOfLine ps e.line x × MakesEntry pools p e.act x.op
+  pub lines : (p : ℕ) (e : RootEntry) → Contains (roots p) e → (x : Played) × IsOfLine ps e.line x × MakesEntry pools p e.act x
   pub none_past : (p : ℕ) → partitions ≤ p → roots p ≡ []
   pub refusals : (x : Played) (j reg p size : ℕ) → Contains ps x → x.answer ≡ answers.Full j → x.op ≡ ops.Alloc reg p size
       → (e : RootEntry) × IsEntry roots p j e × (e.line ≡ x.line) × IsFull e.act
@@ -69,7 +69,7 @@ pub record IsDeed (partitions n : ℕ) (x : Played) (pools more : List PoolEntry
     Type 0 where
   pub line : x.line ≡ n
   pub fits : (p : ℕ) → ActsFit (pools ++ more) (least_after_all 0 (roots p)) (acts p) (root_at pools roots p)
-  pub makes : (p : ℕ) (a : RootAct) → Contains (acts p) a → MakesEntry (pools ++ more) p a x.op
+  pub makes : (p : ℕ) (a : RootAct) → Contains (acts p) a → MakesEntry (pools ++ more) p a x
   pub none_past : (p : ℕ) → partitions ≤ p → acts p ≡ []
   pub refusal : (j reg p size : ℕ) → x.answer ≡ answers.Full j → x.op ≡ ops.Alloc reg p size
       → (e : RootEntry) × IsEntry (grown roots n acts) p j e × (e.line ≡ n) × IsFull e.act

@@ -1,6 +1,7 @@
 -- The laws of lines: the run with one more line, and what the run so far says of journals and pool.
 use Rattle.std.specs.Prelude.{◌≡◌, ℕ, ◌+◌, List, [], ◌∷◌, ◌++◌}
 use Rattle.pa_trace.specs.declared.script.Line.{Line}
+use Rattle.pa_trace.specs.declared.script.Rules.{Rules}
 use Rattle.pa_record.specs.declared.pool.PoolEntry.{PoolEntry}
 use Rattle.pa_record.specs.Pool.{pool_next}
 use Rattle.pa_rules.specs.declared.played.Played.{Played}
@@ -50,8 +51,9 @@ pub record LineReplays : Type 0 where
 -- the journals and the pool of the run so far are those of its records
 abbrev pub PlacedAreRoots : Type 0
 PlacedAreRoots =
-    (supers partitions n : ℕ) (ls : List Line) (ps : List Played) (pools : List PoolEntry) (roots : Journals) (all : Caches) →
-    AreLines ls ps →
+    (supers partitions n : ℕ) (rules : Rules) (ls : List Line) (ps : List Played) (pools : List PoolEntry) (roots : Journals)
+    (all : Caches) →
+    AreLines rules ls ps →
     IsPlacedTo partitions n ps pools roots all → IsPooledTo supers n pools roots → AreRoots partitions ps pools roots
     × IsPoolOf supers ps pools roots
 

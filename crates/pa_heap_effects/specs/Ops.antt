@@ -74,7 +74,7 @@ abbrev pub FrontLeaves : Type 0
 FrontLeaves =
     (supers partitions n p class usable : ℕ) (ps : List Played) (x : Played) (pools : List PoolEntry) (roots : Journals) (all : Caches)
     (seen : Seen) (rest : List Numbered) →
-    IsPlacedTo partitions n ps pools roots all → x.line ≡ n → x.answer ≡ answers.Made seen usable → AsksForClass x.op p class →
+    IsPlacedTo partitions n ps pools roots all → x.line ≡ n → x.answer ≡ answers.Made seen usable → AsksForClass x p class →
     FrontIs seen (all x.thread p class) rest →
     IsDone supers partitions n x pools [] roots no_acts (all x.thread) (with_list (all x.thread) p class rest)
 
@@ -101,7 +101,7 @@ FillIsDone =
     (supers partitions n p class usable : ℕ) (ps : List Played) (x : Played) (pools : List PoolEntry) (roots : Journals) (all : Caches)
     (seen : Seen) (xs rest : List Numbered)
     (plan : PoolState) (after : Root) (placed : Placed) →
-    IsPlacedTo partitions n ps pools roots all → x.line ≡ n → x.answer ≡ answers.Made seen usable → AsksForClass x.op p class →
+    IsPlacedTo partitions n ps pools roots all → x.line ≡ n → x.answer ≡ answers.Made seen usable → AsksForClass x p class →
     p < partitions → all x.thread p class ≡ [] →
     FillDid class (fill_of class) (pool_at supers pools) plan (root_at pools roots p) after placed →
     map name_of placed.titles.items ≡ names xs → HasNumbers roots p xs → FrontIs seen xs rest →
@@ -114,7 +114,7 @@ abbrev pub FullIsDone : Type 0
 FullIsDone =
     (supers partitions n p class asked j : ℕ) (ps : List Played) (x : Played) (pools : List PoolEntry) (roots : Journals) (all : Caches)
     (plan : PoolState) (after : Root) (placed : Placed) →
-    IsPlacedTo partitions n ps pools roots all → x.line ≡ n → x.answer ≡ answers.Full j → j ≡ length (roots p) → AsksForClass x.op p class →
+    IsPlacedTo partitions n ps pools roots all → x.line ≡ n → x.answer ≡ answers.Full j → j ≡ length (roots p) → AsksForClass x p class →
     p < partitions → all x.thread p class ≡ [] →
     FillDid class (fill_of class) (pool_at supers pools) plan (root_at pools roots p) after placed →
     placed.pool ≡ Some asked → placed.titles.items ≡ [] →
@@ -127,7 +127,7 @@ MapIsDone =
     (supers partitions n p size usable asked : ℕ) (ps : List Played) (x : Played) (pools : List PoolEntry) (roots : Journals)
     (all : Caches) (seen : Seen) (t : Title)
     (plan : PoolState) (after : Root) (placed : Placed) →
-    IsPlacedTo partitions n ps pools roots all → x.line ≡ n → x.answer ≡ answers.Made seen usable → AsksForMap x.op p size →
+    IsPlacedTo partitions n ps pools roots all → x.line ≡ n → x.answer ≡ answers.Made seen usable → AsksForMap x p size →
     p < partitions → MapDid (shape_of size).slot (pool_at supers pools) plan (root_at pools roots p) after placed →
     placed.pool ≡ Some asked → placed.titles.items ≡ t ∷ [] → name_of t ≡ seen.slot →
     IsCalled supers partitions n x pools (asked_for n p (shape_of size).supers (t ∷ []) (Some asked)) roots p
@@ -139,7 +139,7 @@ abbrev pub FullMapIsDone : Type 0
 FullMapIsDone =
     (supers partitions n p size asked j : ℕ) (ps : List Played) (x : Played) (pools : List PoolEntry) (roots : Journals) (all : Caches)
     (plan : PoolState) (after : Root) (placed : Placed) →
-    IsPlacedTo partitions n ps pools roots all → x.line ≡ n → x.answer ≡ answers.Full j → j ≡ length (roots p) → AsksForMap x.op p size →
+    IsPlacedTo partitions n ps pools roots all → x.line ≡ n → x.answer ≡ answers.Full j → j ≡ length (roots p) → AsksForMap x p size →
     p < partitions → MapDid (shape_of size).slot (pool_at supers pools) plan (root_at pools roots p) after placed →
     placed.pool ≡ Some asked → placed.titles.items ≡ [] →
     IsCalled supers partitions n x pools (asked_for n p (shape_of size).supers [] (Some asked)) roots p (Full None asked ∷ [])

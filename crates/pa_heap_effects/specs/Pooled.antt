@@ -3,6 +3,7 @@ use Rattle.std.specs.Prelude.{◌≡◌, ℕ, ◌<◌, List, [], ◌∷◌, leng
 use Rattle.std.specs.List.Sorted.{IsNonDecreasingBy}
 use Rattle.pa_slot.specs.Run.{Slots}
 use Rattle.pa_trace.specs.declared.script.Line.{Line}
+use Rattle.pa_trace.specs.declared.script.Rules.{Rules}
 use Rattle.pa_record.specs.declared.pool.PoolEntry.{PoolEntry}
 use Rattle.pa_record.specs.declared.root.RootEntry.{RootEntry}
 use Rattle.pa_record.specs.declared.root.RootAct.{RootAct}
@@ -57,10 +58,12 @@ pub record IsDone (supers partitions n : ℕ) (x : Played) (pools more : List Po
   pub deed : IsDeed partitions n x pools more roots acts cache next
   pub asks : Asks supers n pools more acts
 
--- the run before line n, whose records are those of the first lines of a trace, and whose slots' steps are one run each
+-- the run before line n, whose records are those of the first lines of a trace with these rules, and whose slots' steps are one
+-- run each
 pub record IsSoFar (supers partitions n : ℕ) (ls : List Line) (ps : List Played) (pools : List PoolEntry) (roots : Journals)
     (all : Caches) : Type 0 where
-  pub lines : AreLines ls ps
+  pub rules : Rules
+  pub lines : AreLines rules ls ps
   pub slots : Slots (marks_of ps)
   pub placed : IsPlacedTo partitions n ps pools roots all
   pub pooled : IsPooledTo supers n pools roots

@@ -8,6 +8,7 @@ use Rattle.pa_slot.specs.declared.word.SlotName.{SlotName}
 use Rattle.pa_slot.specs.Count.{number_of}
 use Rattle.pa_slot.specs.Run.{Slots, same_slot}
 use Rattle.pa_slot.proofs.Runs.{same_slot_yes}
+use Rattle.pa_trace.specs.Rules.{rules_of}
 use Rattle.pa_record.specs.declared.entry.Seen.{Seen}
 use Rattle.pa_record.specs.declared.entry.Answer.TheVariants.{Done}
 use Rattle.pa_record.specs.declared.pool.PoolEntry.{PoolEntry}
@@ -292,7 +293,7 @@ unmaps_follow supers partitions ps pools roots r h lines slots caches holders us
 pub legal_is_known : LegalIsKnown
 legal_is_known t r legal used =
     let ps = records_of t r in
-    let lines = rising_differ ps (lines_rise t.lines ps (records_are_lines.lines t.lines r.entries legal.lines)) in
+    let lines = rising_differ ps (lines_rise (rules_of t) t.lines ps (records_are_lines.lines (rules_of t) t.lines r.entries legal.lines)) in
     record {
       lines = legal.lines;
       cells = legal.cells;

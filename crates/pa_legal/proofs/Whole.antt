@@ -1,5 +1,6 @@
 -- A run of which the clauses are known one by one is legal.
 use Rattle.pa_trace.specs.declared.script.Trace.{Trace}
+use Rattle.pa_trace.specs.Rules.{rules_of}
 use Rattle.pa_rules.specs.Told.{Told, records_of}
 use Rattle.pa_rules.proofs.Following.{titles_follow}
 use Rattle.pa_rules.proofs.Numbering.{lines_rise}
@@ -9,7 +10,7 @@ use Rattle.pa_legal.proofs.Holdings.{holders_follow}
 
 places_known : (t : Trace) (r : Told) → IsKnown t r (records_of t r) → AreKnown t.region t.partitions (records_of t r) r.pools r.roots
 places_known t r known = record {
-  rising = lines_rise t.lines (records_of t r) (records_are_lines.lines t.lines r.entries known.lines);
+  rising = lines_rise (rules_of t) t.lines (records_of t r) (records_are_lines.lines (rules_of t) t.lines r.entries known.lines);
   slots = known.slots;
   pool = known.pool;
   journals = known.roots;

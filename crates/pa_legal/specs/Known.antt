@@ -3,6 +3,7 @@ use Rattle.std.specs.Prelude.{◌≡◌, ◌≢◌, ℕ, ◌+◌, ◌<◌, List,
 use Rattle.pa_slot.specs.Count.{number_of, held_of, refs_of}
 use Rattle.pa_slot.specs.Run.{Mark, Slots}
 use Rattle.pa_trace.specs.declared.script.Trace.{Trace}
+use Rattle.pa_trace.specs.Rules.{rules_of}
 use Rattle.pa_record.specs.declared.entry.Seen.{Seen}
 use Rattle.pa_record.specs.declared.entry.Answer.TheVariants.{Made, Done}
 use Rattle.pa_record.specs.declared.numbered.Numbered.{Numbered}
@@ -64,11 +65,11 @@ HoldersFollow =
 -- What is known of a run clause by clause: all that a legal run asks but the titles and the holders, which follow from the
 -- rest, and what is said above of a root's numbers, of direct maps that go back and of looks.
 pub record IsKnown (t : Trace) (r : Told) (ps : List Played) : Type 0 where
-  pub lines : AreDue t.lines r.entries
+  pub lines : AreDue (rules_of t) t.lines r.entries
   pub cells : AreCells r.cells ps
-  pub registers : AreRegisters usable_of r.cells ps
+  pub registers : AreRegisters (usable_of t.version) r.cells ps
   pub slots : Slots (marks_of ps)
-  pub contents : AreContents usable_of r.cells ps
+  pub contents : AreContents (usable_of t.version) r.cells ps
   pub pool : IsPoolOf t.region ps r.pools r.roots
   pub roots : AreRoots t.partitions ps r.pools r.roots
   pub caches : AreCaches t.partitions r.roots ps

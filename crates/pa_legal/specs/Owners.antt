@@ -26,26 +26,27 @@ pub record WasPut (cells : ℕ → List CellEntry) (ps : List Played) (x : Playe
   pub last : (z : Played) (other : Reg) → Contains ps z → z.thread ≡ x.thread → y.line < z.line → z.line < x.line →
       change_of cells z.op z.answer ≡ Some (reg, other) → ⊥
 
--- What is known of the records: they are in the order of their lines, and four clauses of a legal run hold.
-pub record HaveHandles (cells : ℕ → List CellEntry) (ps : List Played) : Type 0 where
+-- What is known of the records of a trace of this version: they are in the order of their lines, and four clauses of a legal run
+-- hold.
+pub record HaveHandles (version : ℕ) (cells : ℕ → List CellEntry) (ps : List Played) : Type 0 where
   pub rising : RiseByLine ps
   pub exchanges : AreCells cells ps
-  pub registers : AreRegisters usable_of cells ps
+  pub registers : AreRegisters (usable_of version) cells ps
   pub slots : Slots (marks_of ps)
   pub seen : IsSeenInOrder cells ps
 
 -- what HaveHandles asks is known of each legal run
 abbrev pub LegalHasHandles : Type 0
-LegalHasHandles = (t : Trace) (r : Told) → IsLegalTold t r → HaveHandles r.cells (records_of t r)
+LegalHasHandles = (t : Trace) (r : Told) → IsLegalTold t r → HaveHandles t.version r.cells (records_of t r)
 
 -- What a register holds just before a record, if it isn't empty, was put there by a record.
 abbrev pub HandlesArePut : Type 0
 HandlesArePut =
-    (cells : ℕ → List CellEntry) (ps : List Played) (x : Played) (regs : Regs) (reg : ℕ) →
-    HaveHandles cells ps → HasRegs usable_of cells ps x regs → regs reg ≢ Empty → (y : Played) × WasPut cells ps x reg (regs reg) y
+    (version : ℕ) (cells : ℕ → List CellEntry) (ps : List Played) (x : Played) (regs : Regs) (reg : ℕ) →
+    HaveHandles version cells ps → HasRegs (usable_of version) cells ps x regs → regs reg ≢ Empty → (y : Played) × WasPut cells ps x reg (regs reg) y
 
 -- While a thread has the Own of a slot in a register, each of its records finds the slot's bit.
 abbrev pub OwnersFindTheBit : Type 0
 OwnersFindTheBit =
-    (cells : ℕ → List CellEntry) (ps : List Played) (x : Played) (m : Mark) (regs : Regs) (reg : ℕ) →
-    HaveHandles cells ps → HasRegs usable_of cells ps x regs → regs reg ≡ Own m.slot → mark_of x ≡ Some m → held_of m.found ≡ 1
+    (version : ℕ) (cells : ℕ → List CellEntry) (ps : List Played) (x : Played) (m : Mark) (regs : Regs) (reg : ℕ) →
+    HaveHandles version cells ps → HasRegs (usable_of version) cells ps x regs → regs reg ≡ Own m.slot → mark_of x ≡ Some m → held_of m.found ≡ 1

@@ -12,6 +12,8 @@ use Rattle.pa_trace.specs.Limits.{IsOpWithin, IsLineWithin, IsWithinLimits}
 use Rattle.pa_lists.proofs.Members.{not_in_none, in_cases}
 use Rattle.pa_lists.proofs.Joined.{map_in}
 use Rattle.pa_lists.proofs.Pairs.{pairs_none, pairs_cons, pairs_head, pairs_tail}
+use Rattle.pa_trace.specs.Rules.{rules_of}
+use Rattle.pa_trace.specs.declared.script.Rules.{Rules}
 use Rattle.pa_rules.specs.declared.played.Played.{Played}
 use Rattle.pa_rules.specs.Played.{OpLine, AreLines, op_lines, op_line_of}
 use Rattle.pa_rules.specs.Report.{partitions_of, phases_of}
@@ -27,21 +29,21 @@ record IsDueIn (partitions threads phase later : ℕ) (a : OpLine) : Type 0 wher
   low : phase ≤ a.phase
   high : a.phase ≤ phase + later
 
-abbrev op_line : ℕ → ℕ → ℕ → Op → OpLine
-op_line n phase thread op = record { line = n; thread = thread; phase = phase; op = op }
+abbrev op_line : Rules → ℕ → ℕ → ℕ → Op → OpLine
+op_line rules n phase thread op = record { line = n; thread = thread; phase = phase; rules = rules; op = op }
 
-lines_due : (partitions threads n phase : ℕ) (ls : List Line) (a : OpLine) → Each (IsLineWithin partitions threads) ls → Contains (op_lines n phase ls) a →
+lines_due : (rules : Rules) (partitions threads n phase : ℕ) (ls : List Line) (a : OpLine) → Each (IsLineWithin partitions threads) ls → Contains (op_lines rules n phase ls) a →
     IsDueIn partitions threads phase (count_by is_phase ls) a
-lines_due partitions threads n phase [] a within among = absurd (not_in_none a among)
-lines_due partitions threads n phase (Phase ∷ ls) a within among =
-    let again = lines_due partitions threads (n + 1) (phase + 1) ls a within.1 among in
+lines_due rules partitions threads n phase [] a within among = absurd (not_in_none a among)
+lines_due rules partitions threads n phase (Phase ∷ ls) a within among =
+    let again = lines_due rules partitions threads (n + 1) (phase + 1) ls a within.1 among in
     let low = again.low in
     let high = again.high in
     let more = sum_by-cons (λ (l : Line). cond (is_phase l) 1 0) Phase ls in
     record { thread = again.thread; op = again.op; low = omega arith; high = omega arith }
-lines_due partitions threads n phase (Do thread op ∷ ls) a within among =
+lines_due rules partitions threads n phase (Do thread op ∷ ls) a within among =
     let more = sum_by-cons (λ (l : Line). cond (is_phase l) 1 0) (Do thread op) ls in
-    elim (in_cases (op_line n phase thread op) a (op_lines (n + 1) phase ls) among) [
+    elim (in_cases (op_line rules n phase thread op) a (op_lines rules (n + 1) phase ls) among) [
       | inl e ↦
           let same : phase ≡ a.phase = ap (λ (z : OpLine). z.phase) e in
           record {
@@ -51,7 +53,7 @@ lines_due partitions threads n phase (Do thread op ∷ ls) a within among =
             high = omega arith;
           }
       | inr rest ↦
-          let again = lines_due partitions threads (n + 1) phase ls a within.1 rest in
+          let again = lines_due rules partitions threads (n + 1) phase ls a within.1 rest in
           let low = again.low in
           let high = again.high in
           record { thread = again.thread; op = again.op; low = low; high = omega arith }
@@ -64,9 +66,9 @@ pub record IsWithin (t : Trace) (x : Played) : Type 0 where
   pub low : 1 ≤ x.phase
   pub high : x.phase ≤ phases_in t.lines
 
-pub records_due : (t : Trace) (ps : List Played) (x : Played) → IsWithinLimits t → AreLines t.lines ps → Contains ps x → IsWithin t x
+pub records_due : (t : Trace) (ps : List Played) (x : Played) → IsWithinLimits t → AreLines (rules_of t) t.lines ps → Contains ps x → IsWithin t x
 records_due t ps x limits are among =
-    let due = lines_due t.partitions t.threads 2 1 t.lines (op_line_of x) limits.lines (subst (λ os. Contains os (op_line_of x)) are (map_in op_line_of ps x among)) in
+    let due = lines_due (rules_of t) t.partitions t.threads 2 1 t.lines (op_line_of x) limits.lines (subst (λ os. Contains os (op_line_of x)) are (map_in op_line_of ps x among)) in
     let high = due.high in
     record { thread = due.thread; op = due.op; low = due.low; high = omega arith }
 
@@ -79,8 +81,8 @@ rising_told (x ∷ xs) h =
     (λ y among. pairs_head less x.played y.played (played_in xs) h (map_in (λ (z : ToldRecord). z.played) xs y among))
     (rising_told xs (pairs_tail less x.played (played_in xs) h))
 
-pub told_rise : (t : Trace) (ts : List ToldRecord) → AreLines t.lines (played_in ts) → AreRising ts
-told_rise t ts are = rising_told ts (lines_rise t.lines (played_in ts) are)
+pub told_rise : (t : Trace) (ts : List ToldRecord) → AreLines (rules_of t) t.lines (played_in ts) → AreRising ts
+told_rise t ts are = rising_told ts (lines_rise (rules_of t) t.lines (played_in ts) are)
 
 -- ---- the places of a report
 

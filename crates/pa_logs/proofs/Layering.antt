@@ -59,7 +59,7 @@ module _ (partitions : ℕ) (lists : ℕ → List Made) (pools : List PoolEntry)
       nothing : slice_get [] j ≡ Some e → ⊥
       nothing none = absurd cc
 
-  lines : (p j : ℕ) (e : RootEntry) → IsEntry roots p j e → (x : Played) × IsOfLine (played_in ts) e.line x × MakesEntry pools p e.act x.op
+  lines : (p j : ℕ) (e : RootEntry) → IsEntry roots p j e → (x : Played) × IsOfLine (played_in ts) e.line x × MakesEntry pools p e.act x
   lines p j e at =
       let few = first_four p j e at in
       let is = h.lists_are.is p (omega arith) in
@@ -85,7 +85,7 @@ module _ (partitions : ℕ) (lists : ℕ → List Made) (pools : List PoolEntry)
       (e, at, line ∙ ap (λ (z : Played). z.line) same, is_full)
 
   are_roots : AreRoots partitions (played_in ts) pools roots
-  are_roots = record { journals = h.journals; lines = lines; order = order; none_past = h.none_past; refusals = refusals }
+  are_roots = record { one = h.one; journals = h.journals; lines = lines; order = order; none_past = h.none_past; refusals = refusals }
 
 closing : (supers partitions threads : ℕ) (sizes : SlotName → ℕ) (lists : ℕ → List Made) (r : Told) (ts : List ToldRecord) (all : Caches) (v : View) →
     SeatSays supers partitions threads sizes lists r ts all v → IsClosing sizes r v

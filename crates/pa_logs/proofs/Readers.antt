@@ -19,10 +19,10 @@ use Rattle.pa_logs.specs.Told.{ToldRecord, played_in}
 use Rattle.pa_logs.specs.Reads.{IsReadOff, ReadsThrough, HaveReaders, ContentsFollow}
 use Rattle.pa_logs.proofs.Reading.{reads_follow}
 
-module _ (sizes : SlotName → ℕ) (cells : ℕ → List CellEntry) (v : View) (ts : List ToldRecord) (off : IsReadOff sizes v ts) where
+module _ (version : ℕ) (sizes : SlotName → ℕ) (cells : ℕ → List CellEntry) (v : View) (ts : List ToldRecord) (off : IsReadOff sizes v ts) where
   through : (x : ToldRecord) (seen : Seen) (value reg place : ℕ) (regs : Regs) (r : Reg) → Contains ts x → x.played.answer ≡ answers.Value seen value → x.played.op ≡ ops.Read reg place →
-      HasRegs usable_of cells (played_in ts) x.played regs → regs reg ≡ r → ReadsThrough sizes r seen place value x →
-      IsReadAllowed usable_of cells (played_in ts) x.played (answers.Value seen value)
+      HasRegs (usable_of version) cells (played_in ts) x.played regs → regs reg ≡ r → ReadsThrough sizes r seen place value x →
+      IsReadAllowed (usable_of version) cells (played_in ts) x.played (answers.Value seen value)
   through x seen value reg place regs Empty among answer op has is reads = absurd reads
   through x seen value reg place regs (Own s) among answer op has is told = elim (reads_follow.held sizes v ts x seen value place true off among answer told) [
     | inl content ↦ inl content
@@ -35,7 +35,7 @@ module _ (sizes : SlotName → ℕ) (cells : ℕ → List CellEntry) (v : View) 
   through x seen value reg place regs Freed among answer op has is reads = absurd reads
   through x seen value reg place regs Cleared among answer op has is reads = absurd reads
 
-  allowed : (x : ToldRecord) (a : Answer) → HaveReaders sizes cells ts → Contains ts x → x.played.answer ≡ a → IsReadAllowed usable_of cells (played_in ts) x.played a
+  allowed : (x : ToldRecord) (a : Answer) → HaveReaders version sizes cells ts → Contains ts x → x.played.answer ≡ a → IsReadAllowed (usable_of version) cells (played_in ts) x.played a
   allowed x (answers.Value seen value) readers among answer =
       let (reg, place, regs, op, has, reads) = readers x seen value among answer in
       through x seen value reg place regs (regs reg) among answer op has refl reads
@@ -43,6 +43,6 @@ module _ (sizes : SlotName → ℕ) (cells : ℕ → List CellEntry) (v : View) 
   allowed x a readers among answer = tt
 
 pub contents_follow : ContentsFollow
-contents_follow sizes cells v ts off readers x among =
+contents_follow version sizes cells v ts off readers x among =
     let (y, there, e) = map_cases (λ (z : ToldRecord). z.played) ts x among in
-    subst (λ (p : Played). IsReadAllowed usable_of cells (played_in ts) p p.answer) e (allowed sizes cells v ts off y y.played.answer readers there refl)
+    subst (λ (p : Played). IsReadAllowed (usable_of version) cells (played_in ts) p p.answer) e (allowed version sizes cells v ts off y y.played.answer readers there refl)

@@ -1,9 +1,11 @@
 -- What all layers say gives all that is known of a run that was played out. So it is legal, and the closed region holds it.
-use Rattle.std.proofs.Common.{◌≡◌, ℕ, ◌-◌, ◌<◌, ◌≤◌, leb, List, filter, length, refl, subst, arith}
+use Rattle.std.proofs.Common.{◌≡◌, ℕ, ◌-◌, ◌<◌, ◌≤◌, leb, List, filter, length, refl, subst, arith, sym}
 use Rattle.std.specs.Prelude.{Contains}
 use Rattle.std.proofs.lemmas.Bool.{le-leb}
 use Rattle.pa_slot.specs.declared.word.SlotName.{SlotName}
 use Rattle.pa_slot.specs.Run.{Slots}
+use Rattle.pa_trace.specs.Rules.{rules_of}
+use Rattle.pa_rules.proofs.Ruling.{told_once}
 use Rattle.pa_region.specs.declared.view.View.{View}
 use Rattle.pa_region.specs.Lists.{list_of}
 use Rattle.pa_region.specs.Ends.{IsEnd}
@@ -72,8 +74,13 @@ module _ (t : Trace) (r : Told) (v : View) (ts : List ToldRecord) (says : Layers
       let below = is.1 in
       omega arith
 
+  -- all records are played by the trace's rules
+  one : (x y : Played) → Contains ps x → Contains ps y → x.rules ≡ y.rules
+  one = subst (λ xs. (x y : Played) → Contains xs x → Contains xs y → x.rules ≡ y.rules) (sym says.runner.records) (told_once t r)
+
   roots : AreRoots t.partitions ps r.pools r.roots
   roots = layers_follow.roots t.partitions (λ q. list_of q v) r.pools r.roots ts (record {
+    one = one;
     lists_are = are_lists t r v ts says;
     journals = says.roots.journals;
     makes = says.roots.makes;
@@ -119,14 +126,14 @@ module _ (t : Trace) (r : Told) (v : View) (ts : List ToldRecord) (says : Layers
       let is = usable_follows sizes ts s (all.all.history u) says.heap.told (histories_follow sizes v ts all.all.history all.logs says.heap.told all.all.chain s) long in
       omega arith
 
-  rows : (k : ℕ) → HasToldRows sizes (by_records ps r.cells) (no_regs k) (filter (is_of_thread k) ts)
-  rows k = rows_same sizes ps r.cells (no_regs k) (filter (is_of_thread k) ts) (λ x s among some. usable_there x s (filter_cases (is_of_thread k) ts x among).0 some) (says.heap.rows k)
+  rows : (k : ℕ) → HasToldRows sizes (by_records t.version ps r.cells) (no_regs k) (filter (is_of_thread k) ts)
+  rows k = rows_same t.version sizes ps r.cells (no_regs k) (filter (is_of_thread k) ts) (λ x s among some. usable_there x s (filter_cases (is_of_thread k) ts x among).0 some) (says.heap.rows k)
 
-  registers : AreRegisters usable_of r.cells ps
-  registers = merged sizes (by_records ps r.cells) no_regs ts rows
+  registers : AreRegisters (usable_of t.version) r.cells ps
+  registers = merged sizes (by_records t.version ps r.cells) no_regs ts rows
 
-  readers : HaveReaders sizes r.cells ts
-  readers = have_readers sizes r.cells ts says.heap.told rows
+  readers : HaveReaders t.version sizes r.cells ts
+  readers = have_readers t.version sizes r.cells ts says.heap.told rows
 
   -- ---- what was seen
 
@@ -136,8 +143,8 @@ module _ (t : Trace) (r : Told) (v : View) (ts : List ToldRecord) (says : Layers
   ordered : IsOrdered r.cells place ps
   ordered = record {
     cells_are = cells_follow (list_of 5 v) r.cells says.swaps ts (swapped t r v ts says) (answered t r v ts says);
-    lines = lines_differ t.lines ps (are_lines t r v ts says);
-    phases = phases_rise t.lines ps (are_lines t r v ts says);
+    lines = lines_differ (rules_of t) t.lines ps (are_lines t r v ts says);
+    phases = phases_rise (rules_of t) t.lines ps (are_lines t r v ts says);
     handed = λ x y hands. swaps_follow.handed (list_of 5 v) r.cells says.swaps ts x y (swapped t r v ts says) hands;
     threads = λ x y first second one other thread less. swaps_follow.threads (list_of 5 v) r.cells says.swaps ts x y (swapped t r v ts says) first second one other thread less;
   }

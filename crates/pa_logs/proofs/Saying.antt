@@ -3,6 +3,7 @@ use Rattle.std.proofs.Common.{◌≡◌, ◌≢◌, ℕ, ◌<◌, ◌≤◌, Lis
 use Rattle.std.specs.Prelude.{Contains, AllPairs}
 use Rattle.std.proofs.lemmas.List.Elements.{Contains-append_left, Contains-append_right}
 use Rattle.pa_slot.specs.declared.title.Title.{Title}
+use Rattle.pa_trace.specs.Rules.{rules_of}
 use Rattle.pa_region.specs.declared.view.View.{View}
 use Rattle.pa_region.specs.Lists.{list_of}
 use Rattle.pa_trace.specs.declared.script.Trace.{Trace}
@@ -40,8 +41,8 @@ swaps_apart (s ∷ ss) h =
     (swaps_apart ss (pairs_tail Apart s.made all h))
 
 module _ (t : Trace) (r : Told) (v : View) (ts : List ToldRecord) (says : LayersSay t r v ts) where
-  pub are_lines : AreLines t.lines (played_in ts)
-  are_lines = subst (λ ps. AreLines t.lines ps) (sym says.runner.records) (records_are_lines.lines t.lines r.entries says.runner.due)
+  pub are_lines : AreLines (rules_of t) t.lines (played_in ts)
+  are_lines = subst (λ ps. AreLines (rules_of t) t.lines ps) (sym says.runner.records) (records_are_lines.lines (rules_of t) t.lines r.entries says.runner.due)
 
   pub rising : AreRising ts
   rising = told_rise t ts are_lines

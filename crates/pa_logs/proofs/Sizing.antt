@@ -11,7 +11,6 @@ use Rattle.pa_slot.proofs.Runs.{same_slot_eq, same_slot_yes}
 use Rattle.pa_buckets.specs.Table.{slot_of}
 use Rattle.pa_buckets.specs.Bands.{fill_of}
 use Rattle.pa_buckets.proofs.Facts.{IsRow-of}
-use Rattle.pa_trace.specs.declared.script.Op.{Op}
 use Rattle.pa_record.specs.declared.numbered.Numbered.{Numbered}
 use Rattle.pa_record.specs.declared.pool.PoolEntry.{PoolEntry}
 use Rattle.pa_record.specs.declared.root.RootEntry.{RootEntry}
@@ -200,8 +199,8 @@ map_made pools journal e asked slot j among is =
 
 module _ (supers partitions : ℕ) (ps : List Played) (pools : List PoolEntry) (roots : Journals) (r : AreRoots partitions ps pools roots) (h : IsPoolOf supers ps pools roots) where
   -- a title that was made isn't empty
-  map_some : (p asked len : ℕ) (s : SlotName) (op : Op) → MakesEntry pools p (Map asked s len) op → 1 ≤ len
-  map_some p asked len s op (size, (reg, is, direct), same) = let large = direct.0 in omega arith
+  map_some : (p asked len : ℕ) (s : SlotName) (x : Played) → MakesEntry pools p (Map asked s len) x → 1 ≤ len
+  map_some p asked len s x (size, (reg, is, direct), same) = let large = direct.0 in omega arith
 
   some_bytes : (p : ℕ) (t : Title) → IsMadeBy pools (roots p) t → 1 ≤ t.len
   some_bytes p t (inl (s, among, number, below, is)) =
@@ -211,7 +210,7 @@ module _ (supers partitions : ℕ) (ps : List Played) (pools : List PoolEntry) (
       omega arith
   some_bytes p t (inr (e, asked, len, slot, (j, few, at), act, is)) =
       let (x, of, makes) = r.lines p j e (slice_get-get_or (roots p) j e few ∙ ap Some at) in
-      let some = map_some p asked len slot x.op (subst (λ a. MakesEntry pools p a x.op) act makes) in
+      let some = map_some p asked len slot x (subst (λ a. MakesEntry pools p a x) act makes) in
       let size : t.len ≡ len = ap (λ (u : Title). u.len) is in
       omega arith
 

@@ -23,28 +23,28 @@ use Rattle.pa_logs.specs.Said.{HoldsHandle, IsReadThrough, ReadsIts, HasToldRows
 
 -- ---- the usable bytes of slots
 
--- a slot's usable bytes by its length, and by the records
-abbrev pub by_length : (SlotName → ℕ) → (ℕ → List CellEntry) → Facts
-by_length sizes cells = record { usable_of = usable_of; usable_at = λ s. sizes s - 8; cells = cells }
+-- a slot's usable bytes by its length, and by the records, where a version says what is usable of a request
+abbrev pub by_length : ℕ → (SlotName → ℕ) → (ℕ → List CellEntry) → Facts
+by_length version sizes cells = record { usable_of = usable_of version; usable_at = λ s. sizes s - 8; cells = cells }
 
-abbrev pub by_records : List Played → (ℕ → List CellEntry) → Facts
-by_records ps cells = record { usable_of = usable_of; usable_at = usable_in ps; cells = cells }
+abbrev pub by_records : ℕ → List Played → (ℕ → List CellEntry) → Facts
+by_records version ps cells = record { usable_of = usable_of version; usable_at = usable_in ps; cells = cells }
 
-module _ (sizes : SlotName → ℕ) (ps : List Played) (cells : ℕ → List CellEntry) where
-  alloc_row : (r : Reg) (regs : Regs) (reg size : ℕ) (a : Answer) (after : Regs) → AllocRow r (by_length sizes cells) regs reg size a after → AllocRow r (by_records ps cells) regs reg size a after
+module _ (version : ℕ) (sizes : SlotName → ℕ) (ps : List Played) (cells : ℕ → List CellEntry) where
+  alloc_row : (r : Reg) (regs : Regs) (reg size : ℕ) (a : Answer) (after : Regs) → AllocRow r (by_length version sizes cells) regs reg size a after → AllocRow r (by_records version ps cells) regs reg size a after
   alloc_row Empty regs reg size a after h = h
   alloc_row (Own s) regs reg size a after h = h
   alloc_row (Ref s) regs reg size a after h = h
   alloc_row Freed regs reg size a after h = h
   alloc_row Cleared regs reg size a after h = h
 
-  from_row : (s : SlotName) (regs : Regs) (place : ℕ) (a : Answer) (after : Regs) → usable_in ps s ≡ sizes s - 8 → ReadFromRow s (by_length sizes cells) regs place a after →
-      ReadFromRow s (by_records ps cells) regs place a after
+  from_row : (s : SlotName) (regs : Regs) (place : ℕ) (a : Answer) (after : Regs) → usable_in ps s ≡ sizes s - 8 → ReadFromRow s (by_length version sizes cells) regs place a after →
+      ReadFromRow s (by_records version ps cells) regs place a after
   from_row s regs place a after same (becomes, inl (past, is)) = (becomes, inl (subst (λ n. n ≤ 8 * place) (sym same) past, is))
   from_row s regs place a after same (becomes, inr (inside, seen, value, slot, is)) = (becomes, inr (subst (λ n. 8 * place < n) (sym same) inside, seen, value, slot, is))
 
-  read_row : (r : Reg) (regs : Regs) (place : ℕ) (a : Answer) (after : Regs) → ((s : SlotName) → HoldsHandle r s → usable_in ps s ≡ sizes s - 8) → ReadRow r (by_length sizes cells) regs place a after →
-      ReadRow r (by_records ps cells) regs place a after
+  read_row : (r : Reg) (regs : Regs) (place : ℕ) (a : Answer) (after : Regs) → ((s : SlotName) → HoldsHandle r s → usable_in ps s ≡ sizes s - 8) → ReadRow r (by_length version sizes cells) regs place a after →
+      ReadRow r (by_records version ps cells) regs place a after
   read_row Empty regs place a after same h = h
   read_row (Own s) regs place a after same h = from_row s regs place a after (same s refl) h
   read_row (Ref s) regs place a after same h = from_row s regs place a after (same s refl) h
@@ -52,7 +52,7 @@ module _ (sizes : SlotName → ℕ) (ps : List Played) (cells : ℕ → List Cel
   read_row Cleared regs place a after same h = h
 
   one_row : (op : Op) (x : ToldRecord) (regs : Regs) (a : Answer) (after : Regs) → ((s : SlotName) → 1 ≤ x.saw (title_of sizes s) → usable_in ps s ≡ sizes s - 8) →
-      Row (by_length sizes cells) op regs a after → ReadsIts sizes regs op x → Row (by_records ps cells) op regs a after
+      Row (by_length version sizes cells) op regs a after → ReadsIts sizes regs op x → Row (by_records version ps cells) op regs a after
   one_row (ops.Alloc reg partition size) x regs a after same h reads = alloc_row (regs reg) regs reg size a after h
   one_row (ops.Copy from to) x regs a after same h reads = h
   one_row (ops.Reset reg) x regs a after same h reads = h
@@ -63,7 +63,7 @@ module _ (sizes : SlotName → ℕ) (ps : List Played) (cells : ℕ → List Cel
   one_row ops.Purge x regs a after same h reads = h
 
   pub rows_same : (regs : Regs) (xs : List ToldRecord) → ((x : ToldRecord) (s : SlotName) → Contains xs x → 1 ≤ x.saw (title_of sizes s) → usable_in ps s ≡ sizes s - 8) →
-      HasToldRows sizes (by_length sizes cells) regs xs → HasToldRows sizes (by_records ps cells) regs xs
+      HasToldRows sizes (by_length version sizes cells) regs xs → HasToldRows sizes (by_records version ps cells) regs xs
   rows_same regs [] same h = tt
   rows_same regs (x ∷ xs) same (next, row, reads, rest) = (
     next,
@@ -155,10 +155,10 @@ through sizes facts (Ref s) regs after seen place value owned x reads (becomes, 
 through sizes facts Freed regs after seen place value owned x reads row told = absurd cc
 through sizes facts Cleared regs after seen place value owned x reads row told = absurd cc
 
-pub have_readers : (sizes : SlotName → ℕ) (cells : ℕ → List CellEntry) (ts : List ToldRecord) → AreTold sizes ts →
-    ((k : ℕ) → HasToldRows sizes (by_records (played_in ts) cells) (no_regs k) (filter (is_of_thread k) ts)) → HaveReaders sizes cells ts
-have_readers sizes cells ts told each x seen value among answer =
-    let facts = by_records (played_in ts) cells in
+pub have_readers : (version : ℕ) (sizes : SlotName → ℕ) (cells : ℕ → List CellEntry) (ts : List ToldRecord) → AreTold sizes ts →
+    ((k : ℕ) → HasToldRows sizes (by_records version (played_in ts) cells) (no_regs k) (filter (is_of_thread k) ts)) → HaveReaders version sizes cells ts
+have_readers version sizes cells ts told each x seen value among answer =
+    let facts = by_records version (played_in ts) cells in
     let at = stands_at sizes facts no_regs ts x each among in
     let (held, (reg, place, owned, op, read)) = subst (λ a. IsToldBy sizes x.played.op a x.stretch) answer (told x among) in
     let regs = at.regs x.played.thread in

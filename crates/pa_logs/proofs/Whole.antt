@@ -2,6 +2,7 @@
 use Rattle.std.proofs.Common.{ℕ, List, sym, ◌∙◌, ap, subst, inr}
 use Rattle.std.specs.Prelude.{Contains}
 use Rattle.pa_slot.specs.declared.word.SlotName.{SlotName}
+use Rattle.pa_trace.specs.Rules.{rules_of}
 use Rattle.pa_record.specs.declared.history.CellEntry.{CellEntry}
 use Rattle.pa_lists.proofs.Joined.{map_cases}
 use Rattle.pa_region.specs.declared.view.View.{View}
@@ -38,14 +39,14 @@ pub in_phases : (cells : ℕ → List CellEntry) (ps : List Played) → IsSeenIn
 in_phases cells ps seen x y m n first second late is other same = seen.rising x y m n first second (Standing (inr late)) is other same
 
 module _ (sizes : SlotName → ℕ) (place : ℕ → ℕ) (t : Trace) (r : Told) (v : View) (ts : List ToldRecord) (out : IsPlayedOut sizes place t r v ts) where
-  are_lines : AreLines t.lines (played_in ts)
-  are_lines = subst (λ ps. AreLines t.lines ps) (sym out.records) (records_are_lines.lines t.lines r.entries out.due)
+  are_lines : AreLines (rules_of t) t.lines (played_in ts)
+  are_lines = subst (λ ps. AreLines (rules_of t) t.lines ps) (sym out.records) (records_are_lines.lines (rules_of t) t.lines r.entries out.due)
 
   ordered : IsOrdered r.cells place (played_in ts)
   ordered = record {
     cells_are = out.cells;
-    lines = lines_differ t.lines (played_in ts) are_lines;
-    phases = phases_rise t.lines (played_in ts) are_lines;
+    lines = lines_differ (rules_of t) t.lines (played_in ts) are_lines;
+    phases = phases_rise (rules_of t) t.lines (played_in ts) are_lines;
     handed = out.handed;
     threads = out.threads;
   }
@@ -62,7 +63,7 @@ module _ (sizes : SlotName → ℕ) (place : ℕ → ℕ) (t : Trace) (r : Told)
     cells = out.cells;
     registers = out.registers;
     slots = slots_follow (played_in ts) (λ s. out.last.all.history (title_of sizes s)) (histories_follow sizes v ts out.last.all.history out.last.logs out.told out.last.all.chain);
-    contents = contents_follow sizes r.cells v ts read_off out.readers;
+    contents = contents_follow t.version sizes r.cells v ts read_off out.readers;
     pool = out.pool;
     roots = out.roots;
     caches = out.caches;

@@ -2,6 +2,7 @@
 use Rattle.std.specs.Prelude.{◌≡◌, ℕ, ◌<◌, ◌≤◌, List, [], Contains}
 use Rattle.pa_slot.specs.declared.word.SlotName.{SlotName}
 use Rattle.pa_trace.specs.declared.script.Op.TheVariants.{Alloc}
+use Rattle.pa_rules.specs.declared.played.Played.{Played}
 use Rattle.pa_record.specs.declared.entry.Answer.TheVariants.{Full}
 use Rattle.pa_record.specs.declared.pool.PoolEntry.{PoolEntry}
 use Rattle.pa_record.specs.declared.root.RootEntry.{RootEntry}
@@ -34,17 +35,19 @@ pub record PoolSays (supers : ℕ) (lists : ℕ → List Made) (pools : List Poo
   pub cuts : HasCuts 4 (lists 4) ts
 
 -- What the roots' types keep, and their calls and the runner say.
+--   one: all records are played by the same rules
 --   journals: each journal is one of a root, replayed with the pool's entries
 --   makes: what a record entered in a journal is an entry that its op makes
 --   none_past: a partition past the trace's has no journal
 --   refused: a record that is full names its entry by the index
 pub record RootsSay (partitions : ℕ) (lists : ℕ → List Made) (pools : List PoolEntry) (roots : Journals) (ts : List ToldRecord) :
     Type 0 where
+  pub one : (x y : Played) → Contains (played_in ts) x → Contains (played_in ts) y → x.rules ≡ y.rules
   pub lists_are : AreLists lists pools roots ts
   pub journals : (p : ℕ) → IsJournal pools (roots p)
   pub makes : (x : ToldRecord) (p : ℕ) (m : Made) (e : RootEntry) → p < most_partitions → Contains ts x →
       Contains (entered_in p x.stretch) m →
-      m.numbers ≡ root_numbers e → MakesEntry pools p e.act x.played.op
+      m.numbers ≡ root_numbers e → MakesEntry pools p e.act x.played
   pub cuts : (p : ℕ) → p < most_partitions → HasCuts p (lists p) ts
   pub none_past : (p : ℕ) → partitions ≤ p → roots p ≡ []
   pub refused : (x : ToldRecord) (j reg p size : ℕ) → Contains ts x → x.played.answer ≡ Full j → x.played.op ≡ Alloc reg p size →

@@ -62,15 +62,15 @@ ReadsThrough sizes (Ref s) seen place value x =
 ReadsThrough sizes Freed seen place value x = ⊥
 ReadsThrough sizes Cleared seen place value x = ⊥
 
--- each value was read through a handle, by the registers just before its record
-abbrev pub HaveReaders : (SlotName → ℕ) → (ℕ → List CellEntry) → List ToldRecord → Type 0
-HaveReaders sizes cells ts =
+-- each value was read through a handle, by the registers just before its record, with the usable bytes of this version
+abbrev pub HaveReaders : ℕ → (SlotName → ℕ) → (ℕ → List CellEntry) → List ToldRecord → Type 0
+HaveReaders version sizes cells ts =
     (x : ToldRecord) (seen : Seen) (value : ℕ) → Contains ts x → x.played.answer ≡ Value seen value →
-    (reg place : ℕ) × (regs : Regs) × (x.played.op ≡ ops.Read reg place) × HasRegs usable_of cells (played_in ts) x.played regs
+    (reg place : ℕ) × (regs : Regs) × (x.played.op ≡ ops.Read reg place) × HasRegs (usable_of version) cells (played_in ts) x.played regs
     × ReadsThrough sizes (regs reg) seen place value x
 
 -- The contents are those of a legal run.
 abbrev pub ContentsFollow : Type 0
 ContentsFollow =
-    (sizes : SlotName → ℕ) (cells : ℕ → List CellEntry) (v : View) (ts : List ToldRecord) →
-    IsReadOff sizes v ts → HaveReaders sizes cells ts → AreContents usable_of cells (played_in ts)
+    (version : ℕ) (sizes : SlotName → ℕ) (cells : ℕ → List CellEntry) (v : View) (ts : List ToldRecord) →
+    IsReadOff sizes v ts → HaveReaders version sizes cells ts → AreContents (usable_of version) cells (played_in ts)

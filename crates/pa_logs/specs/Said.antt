@@ -7,6 +7,7 @@ use Rattle.pa_slot.specs.declared.word.SlotName.{SlotName}
 use Rattle.pa_slot.specs.declared.word.Step.{Step}
 use Rattle.pa_slot.specs.Count.{number_of}
 use Rattle.pa_buckets.specs.Limits.{class_count}
+use Rattle.pa_trace.specs.Rules.{rules_of}
 use Rattle.pa_region.specs.declared.view.Deeds.{Deeds}
 use Rattle.pa_region.specs.declared.view.Entry.TheVariants.{Counted, Looked, Read}
 use Rattle.pa_region.specs.declared.view.Made.{Made}
@@ -93,7 +94,7 @@ pub record EndsPhase (n : ℕ) (v last : View) (ts : List ToldRecord) : Type 0 w
 --   places: the report has one line for each phase and partition, in order
 pub record RunnerSays (t : Trace) (r : Told) (v : View) (ts : List ToldRecord) (seats : ℕ → View) : Type 0 where
   pub limits : IsWithinLimits t
-  pub due : AreDue t.lines r.entries
+  pub due : AreDue (rules_of t) t.lines r.entries
   pub records : played_in ts ≡ records_of t r
   pub has : HasLogs v ts
   pub ends : (n : ℕ) → 1 ≤ n → n ≤ phases_in t.lines → EndsPhase n (seats n) v ts
@@ -124,7 +125,7 @@ pub record RootsTell (t : Trace) (r : Told) (v : View) (ts : List ToldRecord) : 
   pub none_past : (p : ℕ) → t.partitions ≤ p → r.roots p ≡ []
   pub makes : (x : ToldRecord) (p : ℕ) (m : Made) (e : RootEntry) → p < most_partitions → Contains ts x →
       Contains (entered_in p x.stretch) m →
-      m.numbers ≡ root_numbers e → MakesEntry r.pools p e.act x.played.op
+      m.numbers ≡ root_numbers e → MakesEntry r.pools p e.act x.played
   pub refused : (x : ToldRecord) (j reg p size : ℕ) → Contains ts x → x.played.answer ≡ Full j → x.played.op ≡ ops.Alloc reg p size →
       IsFullAt (list_of p v) x j
   pub numbers : AreNumbered r.roots
@@ -174,7 +175,7 @@ HasToldRows sizes facts regs (x ∷ xs) =
 
 -- what the transitions require besides registers: the usable bytes of a slot are all but 8 of its length
 abbrev pub facts_in : Trace → Told → Facts
-facts_in t r = record { usable_of = usable_of; usable_at = λ s. sizes_in t r s - 8; cells = r.cells }
+facts_in t r = record { usable_of = usable_of t.version; usable_at = λ s. sizes_in t r s - 8; cells = r.cells }
 
 -- What seats had seen, each by its own. No step or look found less, what it left is handed on, and what was seen stays seen. A
 -- record's seat has seen what its thread's records before hand on.

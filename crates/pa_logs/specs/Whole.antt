@@ -1,6 +1,7 @@
 -- What is known of a run that was played in a region, and that it is legal.
 use Rattle.std.specs.Prelude.{◌≡◌, ℕ, ◌<◌, List, Contains}
 use Rattle.pa_slot.specs.declared.word.SlotName.{SlotName}
+use Rattle.pa_trace.specs.Rules.{rules_of}
 use Rattle.pa_region.specs.declared.view.View.{View}
 use Rattle.pa_trace.specs.declared.script.Trace.{Trace}
 use Rattle.pa_rules.specs.declared.played.Played.{Played}
@@ -30,18 +31,18 @@ use Rattle.pa_logs.specs.Viewed.{IsExchanged, AreViewed}
 --   cells, registers, pool, roots, caches, report: six clauses of a legal run
 --   numbers, unmaps: a root's numbers, and direct maps that go back
 pub record IsPlayedOut (sizes : SlotName → ℕ) (place : ℕ → ℕ) (t : Trace) (r : Told) (v : View) (ts : List ToldRecord) : Type 0 where
-  pub due : AreDue t.lines r.entries
+  pub due : AreDue (rules_of t) t.lines r.entries
   pub records : played_in ts ≡ records_of t r
   pub told : AreTold sizes ts
   pub last : KnowsAll v ts
   pub ends : HaveEnds ts
-  pub readers : HaveReaders sizes r.cells ts
+  pub readers : HaveReaders t.version sizes r.cells ts
   pub viewed : AreViewed r.cells ts
   pub handed : (x y : Played) → HandsTo r.cells x y → place x.line < place y.line
   pub threads : (x y : Played) → Contains (played_in ts) x → Contains (played_in ts) y → IsExchanged x → IsExchanged y →
       x.thread ≡ y.thread → x.line < y.line → place x.line < place y.line
   pub cells : AreCells r.cells (played_in ts)
-  pub registers : AreRegisters usable_of r.cells (played_in ts)
+  pub registers : AreRegisters (usable_of t.version) r.cells (played_in ts)
   pub pool : IsPoolOf t.region (played_in ts) r.pools r.roots
   pub roots : AreRoots t.partitions (played_in ts) r.pools r.roots
   pub caches : AreCaches t.partitions r.roots (played_in ts)

@@ -5,6 +5,7 @@ use Rattle.pa_slot.specs.declared.title.Title.{Title}
 use Rattle.pa_slot.specs.declared.word.SlotName.{SlotName}
 use Rattle.pa_slot.specs.declared.word.Step.TheVariants.{Issue, Copy, Free}
 use Rattle.pa_slot.specs.Titles.{same_title}
+use Rattle.pa_trace.specs.Rules.{first_rules}
 use Rattle.pa_region.specs.declared.view.Entry.{Entry}
 use Rattle.pa_region.specs.declared.view.Entry.TheVariants.{Counted, Looked, Read}
 use Rattle.pa_region.specs.declared.view.Stake.{Stake}
@@ -40,7 +41,7 @@ at_number n t = if same_title its_title t then n else 0
 -- a record in phase 1, what its thread's log says of it, the number that its seat had seen, and the one that it hands on
 abbrev pub worked : ℕ → ℕ → Op → Answer → List Entry → ℕ → ℕ → ToldRecord
 worked line thread op answer stretch saw gives = record {
-  played = record { line = line; thread = thread; phase = 1; op = op; answer = answer };
+  played = record { line = line; thread = thread; phase = 1; rules = first_rules 1; op = op; answer = answer };
   stretch = stretch;
   saw = at_number saw;
   gives = at_number gives;

@@ -6,6 +6,8 @@ use Rattle.pa_trace.specs.declared.script.Line.{Line}
 use Rattle.pa_trace.specs.declared.script.Line.TheVariants.{Phase, Do}
 use Rattle.pa_trace.specs.Limits.{IsHeadWithin, IsLineWithin}
 use Rattle.pa_trace.proofs.Texts.{all_push}
+use Rattle.pa_trace.specs.Rules.{first_rules}
+use Rattle.pa_trace.specs.declared.script.Rules.{Rules}
 use Rattle.pa_record.specs.declared.entry.Answer.{Answer}
 use Rattle.pa_record.specs.declared.entry.Entry.{Entry}
 use Rattle.pa_rules.specs.declared.played.Played.{Played}
@@ -28,27 +30,34 @@ pub begins_new : (head : Head) (p : Player) → IsHeadWithin head.region head.pa
     → p.lines.head ≡ head → p.lines.items ≡ [] → IsNew head p
 begins_new head p within begun at none =
     let start : WasPlayed head [] p.inner = record {
-      within = record { head = within; lines = tt; few = omega arith };
+      within = record { version = refl; head = within; lines = tt; few = omega arith };
       playing = begins_playing head.region head.partitions head.threads p.inner within begun;
     } in
     record {
       going = subst (λ h. WasPlayed h p.lines.items p.inner) (sym at) (subst (λ ls. WasPlayed head ls p.inner) (sym none) start);
       head = at;
       lines = none;
-      records = ap (λ ls. played ls p.inner.told.entries) none;
+      records = ap (λ ls. played (first_rules p.lines.head.partitions) ls p.inner.told.entries) none;
     }
 
 -- ---- the records so far
 
+-- they are those of the lines
+own_lines : (p : Player) → (h : IsPlaying p.lines.head.region p.lines.head.partitions p.lines.head.threads p.lines.items p.inner)
+    → AreLines (first_rules p.lines.head.partitions) p.lines.items h.ps
+own_lines p h = subst (λ n. AreLines (first_rules n) p.lines.items h.ps) h.shaped.many h.told.lines
+
 pub records_are : (p : Player) → (h : IsPlaying p.lines.head.region p.lines.head.partitions p.lines.head.threads p.lines.items p.inner) → records_so_far p ≡ h.ps
-records_are p h = ap (played p.lines.items) (sym h.entries) ∙ records_are_lines.same p.lines.items h.ps h.told.lines
+records_are p h =
+    let rules = first_rules p.lines.head.partitions in
+    ap (played rules p.lines.items) (sym h.entries) ∙ records_are_lines.same rules p.lines.items h.ps (own_lines p h)
 
 -- lines and records more
-records_more : (ls more : List Line) (ps added : List Played) (es new : List Entry) → map entry_of ps ≡ es → map entry_of added ≡ new → AreLines (ls ++ more) (ps ++ added)
-    → played (ls ++ more) (es ++ new) ≡ ps ++ added
-records_more ls more ps added es new old last lines =
+records_more : (rules : Rules) (ls more : List Line) (ps added : List Played) (es new : List Entry) → map entry_of ps ≡ es → map entry_of added ≡ new → AreLines rules (ls ++ more) (ps ++ added)
+    → played rules (ls ++ more) (es ++ new) ≡ ps ++ added
+records_more rules ls more ps added es new old last lines =
     let all : map entry_of (ps ++ added) ≡ es ++ new = map-append entry_of ps added ∙ ap₂ (λ xs ys. xs ++ ys) old last in
-    ap (played (ls ++ more)) (sym all) ∙ records_are_lines.same (ls ++ more) (ps ++ added) lines
+    ap (played rules (ls ++ more)) (sym all) ∙ records_are_lines.same rules (ls ++ more) (ps ++ added) lines
 
 -- ---- a line more
 
@@ -65,6 +74,7 @@ module _ (p q : Player) (line : Line) (going : IsGoing p) (few : length p.lines.
         let old = going.within in
         let next : WasPlayed p.lines.head (p.lines.items ++ line ∷ []) q.inner = record {
           within = record {
+            version = refl;
             head = old.head;
             lines = all_push (IsLineWithin p.lines.head.partitions p.lines.head.threads) p.lines.items line old.lines within;
             few = omega (arith, few, length_push p.lines.items line);
@@ -90,14 +100,15 @@ module _ (p q : Player) (line : Line) (going : IsGoing p) (few : length p.lines.
     }
 
     plays : (answer : Option Answer) (added : List Played) (es : List Entry) → IsPlaying p.lines.head.region p.lines.head.partitions p.lines.head.threads (p.lines.items ++ line ∷ []) q.inner
-        → TellsOn es p.inner q.inner → IsRecorded (length p.lines.items + 2) (phases_in p.lines.items) line answer added
-        → map entry_of added ≡ es → AreLines (p.lines.items ++ line ∷ []) (going.playing.ps ++ added) → PlaysLine p line answer q
+        → TellsOn es p.inner q.inner → IsRecorded (first_rules p.lines.head.partitions) (length p.lines.items + 2) (phases_in p.lines.items) line answer added
+        → map entry_of added ≡ es → AreLines (first_rules p.lines.head.partitions) (p.lines.items ++ line ∷ []) (going.playing.ps ++ added) → PlaysLine p line answer q
     plays answer added es playing tells recorded last lines =
         let old = going.playing in
-        let whole : played (p.lines.items ++ line ∷ []) (p.inner.told.entries ++ es) ≡ old.ps ++ added =
-        records_more p.lines.items (line ∷ []) old.ps added p.inner.told.entries es old.entries last lines in
+        let whole : played (first_rules p.lines.head.partitions) (p.lines.items ++ line ∷ []) (p.inner.told.entries ++ es) ≡ old.ps ++ added =
+        records_more (first_rules p.lines.head.partitions) p.lines.items (line ∷ []) old.ps added p.inner.told.entries es old.entries last lines in
         let more : records_so_far q ≡ records_so_far p ++ added =
-        ap₂ played pushed tells.entries ∙ whole ∙ ap (λ xs. xs ++ added) (sym (records_are p old)) in
+        ap (λ (k : Head). played (first_rules k.partitions) q.lines.items q.inner.told.entries) at
+        ∙ ap₂ (played (first_rules p.lines.head.partitions)) pushed tells.entries ∙ whole ∙ ap (λ xs. xs ++ added) (sym (records_are p old)) in
         record {
           going = still_going playing;
           head = at;
@@ -114,15 +125,15 @@ pub plays_line : (p q : Player) (line : Line) (answer : Option Answer) → IsGoi
 plays_line p q Phase None going few within at pushed goes =
     let to = goes p.lines.head.region p.lines.head.partitions p.lines.head.threads p.lines.items (can_go_on p q Phase going few within) in
     let old = going.playing in
-    let lines : AreLines (p.lines.items ++ Phase ∷ []) (old.ps ++ []) =
-    subst (λ xs. AreLines (p.lines.items ++ Phase ∷ []) xs) (sym (append-nil old.ps)) (old.told.lines ∙ sym (lines_phase 2 1 p.lines.items)) in
+    let lines : AreLines (first_rules p.lines.head.partitions) (p.lines.items ++ Phase ∷ []) (old.ps ++ []) =
+    subst (λ xs. AreLines (first_rules p.lines.head.partitions) (p.lines.items ++ Phase ∷ []) xs) (sym (append-nil old.ps)) (own_lines p old ∙ sym (lines_phase (first_rules p.lines.head.partitions) 2 1 p.lines.items)) in
     plays p q Phase going few within at pushed None [] [] to.0 to.1 refl refl lines
 plays_line p q Phase (Some answer) going few within at pushed goes = absurd goes
 plays_line p q (Do thread op) None going few within at pushed goes = absurd goes
 plays_line p q (Do thread op) (Some answer) going few within at pushed goes =
     let to = goes p.lines.head.region p.lines.head.partitions p.lines.head.threads p.lines.items (can_go_on p q (Do thread op) going few within) in
     let old = going.playing in
-    let x : Played = played_at p.lines.items thread op answer in
+    let x : Played = played_at (first_rules p.lines.head.partitions) p.lines.items thread op answer in
     let e : ℕ → List Entry = λ n. record { line = n; thread = thread; answer = answer } ∷ [] in
     plays p q (Do thread op) going few within at pushed (Some answer) (x ∷ []) (record_of p.inner thread answer ∷ []) to.0 to.1 refl (ap e (sym old.line))
-    (lines_more p.lines.items old.ps thread op answer old.told.lines)
+    (lines_more (first_rules p.lines.head.partitions) p.lines.items old.ps thread op answer (own_lines p old))

@@ -9,6 +9,8 @@ use Rattle.pa_trace.specs.declared.script.Trace.{Trace}
 use Rattle.pa_trace.specs.Limits.{IsWithinLimits}
 use Rattle.pa_trace.specs.Grammar.{IsTraceText}
 use Rattle.pa_trace.specs.Unread.{trace_with}
+use Rattle.pa_trace.specs.Rules.{rules_of}
+use Rattle.pa_trace.specs.declared.script.Rules.{Rules}
 use Rattle.pa_trace_writer.specs.Lines.{LinesSoFar}
 use Rattle.pa_record.specs.declared.entry.Seen.{Seen}
 use Rattle.pa_record.specs.declared.entry.Answer.{Answer}
@@ -47,7 +49,7 @@ trace_so_far p = trace_with p.lines.head p.lines.items
 
 -- the records of the lines so far, each with its op
 abbrev pub records_so_far : Player → List Played
-records_so_far p = played p.lines.items p.inner.told.entries
+records_so_far p = played (rules_of (trace_so_far p)) p.lines.items p.inner.told.entries
 
 -- these lines are a trace within the limits, and they were played
 pub record WasPlayed (head : Head) (ls : List Line) (p : LinePlayer) : Type 0 where
@@ -80,14 +82,14 @@ IsLater p q = (ps : List Played) (r : Told) → GoesOnFrom q ps r → GoesOnFrom
 
 -- ---- a line
 
--- What a line adds to the records: if it is an op, its record with its number and phase. A line that begins a phase has no answer and
+-- What a line adds to the records by these rules: if it is an op, its record with its number and phase. A line that begins a phase has no answer and
 -- adds none.
-abbrev pub IsRecorded : ℕ → ℕ → Line → Option Answer → List Played → Type 0
-IsRecorded line phase Phase None added = added ≡ []
-IsRecorded line phase Phase (Some answer) added = ⊥
-IsRecorded line phase (Do thread op) None added = ⊥
-IsRecorded line phase (Do thread op) (Some answer) added =
-    added ≡ record { line = line; thread = thread; phase = phase; op = op; answer = answer } ∷ []
+abbrev pub IsRecorded : Rules → ℕ → ℕ → Line → Option Answer → List Played → Type 0
+IsRecorded rules line phase Phase None added = added ≡ []
+IsRecorded rules line phase Phase (Some answer) added = ⊥
+IsRecorded rules line phase (Do thread op) None added = ⊥
+IsRecorded rules line phase (Do thread op) (Some answer) added =
+    added ≡ record { line = line; thread = thread; phase = phase; rules = rules; op = op; answer = answer } ∷ []
 
 -- The line was played, with this answer.
 pub record PlaysLine (p : Player) (line : Line) (answer : Option Answer) (q : Player) : Type 0 where
@@ -95,7 +97,7 @@ pub record PlaysLine (p : Player) (line : Line) (answer : Option Answer) (q : Pl
   pub head : q.lines.head ≡ p.lines.head
   pub lines : q.lines.items ≡ p.lines.items ++ line ∷ []
   pub added : List Played
-  pub recorded : IsRecorded (length p.lines.items + 2) (phases_in p.lines.items) line answer added
+  pub recorded : IsRecorded (rules_of (trace_so_far p)) (length p.lines.items + 2) (phases_in p.lines.items) line answer added
   pub records : records_so_far q ≡ records_so_far p ++ added
   pub later : IsLater p q
 
@@ -121,7 +123,7 @@ OwnsNothing Cleared = Unit {0}
 -- the registers after the first records of a run, as the rows of the whole run lead to them
 abbrev pub AreRegsAfter : List Played → Told → List Played → AllRegs → Type 0
 AreRegsAfter ps r first regs =
-    RowsTo (record { usable_of = usable_of; usable_at = usable_in ps; cells = r.cells }) no_regs first regs
+    RowsTo (record { usable_of = usable_of 1; usable_at = usable_in ps; cells = r.cells }) no_regs first regs
 
 -- the register owns this slot, which its partition's journal let out with this length, or it owns nothing if there is none
 abbrev pub IsOwned : Journals → Reg → Option Handed → Type 0

@@ -29,8 +29,9 @@ pub record IsFiled (a : Parts) : Type 0 where
   pub rising : AllPairs Earlier a.ps
   pub few : All (λ (x : Played). x.thread < a.threads) a.ps
   pub within : All (λ (x : Played). IsOpWithin a.partitions x.op) a.ps
+  pub ruled : (x : Played) → Contains a.ps x → x.rules ≡ a.rules
   pub exchanged : AreCells a.cells a.ps
-  pub registers : AreRegisters usable_of a.cells a.ps
+  pub registers : AreRegisters (usable_of a.rules.version) a.cells a.ps
   pub slots : Slots (marks_of a.ps)
   pub pool : IsPoolOf a.supers a.ps a.pools a.roots
   pub journals : AreRoots a.partitions a.ps a.pools a.roots
@@ -46,6 +47,7 @@ IsMadeIn ps s = (q : Played) × (seen : Seen) × (usable : ℕ) × Contains ps q
 pub record Agrees (n : ℕ) (a b : Parts) : Type 0 where
   pub supers : a.supers ≡ b.supers
   pub partitions : a.partitions ≡ b.partitions
+  pub rules : a.rules ≡ b.rules
   pub pool : below pool_line n a.pools ≡ below pool_line n b.pools
   pub journals : (p : ℕ) → below entry_line n (a.roots p) ≡ below entry_line n (b.roots p)
   pub cells : (k : ℕ) → below cell_line n (a.cells k) ≡ below cell_line n (b.cells k)
@@ -61,12 +63,13 @@ pub record IsPlacedAlike (x y : Answer) : Type 0 where
 
 -- a run agrees with itself, the other with the one, and two before an earlier line
 pub agrees_self : (n : ℕ) (a : Parts) → Agrees n a a
-agrees_self n a = record { supers = refl; partitions = refl; pool = refl; journals = λ p. refl; cells = λ k. refl }
+agrees_self n a = record { supers = refl; partitions = refl; rules = refl; pool = refl; journals = λ p. refl; cells = λ k. refl }
 
 pub agrees_swap : (n : ℕ) (a b : Parts) → Agrees n a b → Agrees n b a
 agrees_swap n a b h = record {
   supers = sym h.supers;
   partitions = sym h.partitions;
+  rules = sym h.rules;
   pool = sym h.pool;
   journals = λ p. sym (h.journals p);
   cells = λ k. sym (h.cells k);
@@ -76,6 +79,7 @@ pub agrees_earlier : (a b : Parts) (m n : ℕ) → m ≤ n → Agrees n a b → 
 agrees_earlier a b m n low h = record {
   supers = h.supers;
   partitions = h.partitions;
+  rules = h.rules;
   pool = below_alike pool_line m n a.pools b.pools low h.pool;
   journals = λ p. below_alike entry_line m n (a.roots p) (b.roots p) low (h.journals p);
   cells = λ k. below_alike cell_line m n (a.cells k) (b.cells k) low (h.cells k);

@@ -1,6 +1,7 @@
 -- Two runs of one trace in the order of the lines are the same: line by line they have the same records, entries and exchanges.
 use Rattle.std.proofs.Common.{◌≡◌, ℕ, ◌+◌, ◌<◌, ◌≤◌, List, [], ◌∷◌, ◌++◌, map, get_or, drop, refl, sym, ◌∙◌, ap, subst, arith, inl, inr}
 use Rattle.std.specs.Prelude.{Contains}
+use Rattle.pa_trace.specs.Rules.{rules_of}
 use Rattle.pa_record.specs.declared.entry.Answer.{Answer}
 use Rattle.pa_lists.proofs.Members.{not_in_none, first_in}
 use Rattle.pa_rules.specs.declared.played.Played.{Played}
@@ -31,6 +32,7 @@ agrees_later a b n m before rest rest' h k here here' up late late' agrees =
     record {
       supers = agrees.supers;
       partitions = agrees.partitions;
+      rules = agrees.rules;
       pool = sym (below_gap pool_line n m a.pools up (λ e among. gap e.line (pool_recorded a e h among))) ∙ agrees.pool
           ∙ below_gap pool_line n m b.pools up (λ e among. gap' e.line (pool_recorded b e k among));
       journals = λ p. sym (below_gap entry_line n m (a.roots p) up (λ e among. gap e.line (entries_recorded a p e h among))) ∙ agrees.journals p
@@ -48,6 +50,7 @@ agrees_next a b before rest rest' x h k parts parts' agrees =
     record {
       supers = agrees.supers;
       partitions = agrees.partitions;
+      rules = agrees.rules;
       pool = next_below pool_line x.line a.pools b.pools h.order.pool k.order.pool agrees.pool pool;
       journals = λ p. next_below entry_line x.line (a.roots p) (b.roots p) (h.order.journals p) (k.order.journals p) (agrees.journals p) (entries p);
       cells = λ c. next_below cell_line x.line (a.cells c) (b.cells c) (rising_strictly cell_line (a.cells c) (h.order.exchanges c)) (rising_strictly cell_line (b.cells c) (k.order.exchanges c)) (agrees.cells c) (exchanges c);
@@ -116,12 +119,13 @@ walk a b n before (x ∷ rest) (y ∷ rest') h k here here' same agrees =
       exchanges = ih.exchanges;
     }
 
-pub one_filed : (a b : Parts) → IsFiled a → IsFiled b → a.supers ≡ b.supers → a.partitions ≡ b.partitions → map op_line_of a.ps ≡ map op_line_of b.ps → IsOne a b a.ps b.ps
-one_filed a b h k supers partitions same =
+pub one_filed : (a b : Parts) → IsFiled a → IsFiled b → a.supers ≡ b.supers → a.partitions ≡ b.partitions → a.rules ≡ b.rules → map op_line_of a.ps ≡ map op_line_of b.ps → IsOne a b a.ps b.ps
+one_filed a b h k supers partitions rules same =
     walk a b 0 [] a.ps b.ps h k (cut_start a) (cut_start b) same
     (record {
       supers = supers;
       partitions = partitions;
+      rules = rules;
       pool = none_below pool_line a.pools b.pools;
       journals = λ p. none_below entry_line (a.roots p) (b.roots p);
       cells = λ c. none_below cell_line (a.cells c) (b.cells c);
@@ -137,9 +141,9 @@ one_file_run t r r' limits (legal, order) (legal', order') =
     let ps' = records_of t told' in
     let h = filed t told limits (legal, order) in
     let k = filed t told' limits (legal', order') in
-    let lines = records_are_lines.lines t.lines told.entries legal.lines in
-    let lines' = records_are_lines.lines t.lines told'.entries legal'.lines in
-    let one = one_filed (parts_of t told) (parts_of t told') h k refl refl (lines ∙ sym lines') in
+    let lines = records_are_lines.lines (rules_of t) t.lines told.entries legal.lines in
+    let lines' = records_are_lines.lines (rules_of t) t.lines told'.entries legal'.lines in
+    let one = one_filed (parts_of t told) (parts_of t told') h k refl refl refl (lines ∙ sym lines') in
     let journals : told'.roots ≡ told.roots = λ i p. sym (one.entries p) i in
     let phases = phases_in t.lines in
     let report : IsReport phases t.partitions t.threads ps told.pools told.roots told'.report =
@@ -147,7 +151,7 @@ one_file_run t r r' limits (legal, order) (legal', order') =
     (subst (λ z. IsReport phases t.partitions t.threads ps' z told.roots told'.report) (sym one.pool)
     (subst (λ z. IsReport phases t.partitions t.threads ps' told'.pools z told'.report) journals legal'.report)) in
     record {
-      entries = sym (records_are_lines.told t.lines told.entries legal.lines) ∙ ap (map entry_of) one.records ∙ records_are_lines.told t.lines told'.entries legal'.lines;
+      entries = sym (records_are_lines.told (rules_of t) t.lines told.entries legal.lines) ∙ ap (map entry_of) one.records ∙ records_are_lines.told (rules_of t) t.lines told'.entries legal'.lines;
       roots = one.entries;
       pool = one.pool;
       cells = one.exchanges;

@@ -12,6 +12,7 @@ use Rattle.pa_slot.specs.Runs.{IsPath}
 use Rattle.pa_slot.proofs.Runs.{number_stepped}
 use Rattle.pa_trace.specs.declared.script.Trace.{Trace}
 use Rattle.pa_trace.specs.Limits.{IsWithinLimits}
+use Rattle.pa_trace.specs.Rules.{rules_of}
 use Rattle.pa_record.specs.declared.entry.Answer.{Answer}
 use Rattle.pa_record.specs.declared.entry.Answer.TheVariants.{Value, Dangling}
 use Rattle.pa_record.specs.declared.history.CellEntry.{CellEntry}
@@ -179,7 +180,7 @@ numbers ms slots rises seen m among =
 pub one_thread : (t : Trace) (r : Told) → IsWithinLimits t → t.threads ≡ 1 → IsLegalTold t r → IsInFileOrder (records_of t r) r.pools r.roots r.cells
 one_thread t r limits one h =
     let ps = records_of t r in
-    let lines = records_are_lines.lines t.lines r.entries h.lines in
+    let lines = records_are_lines.lines (rules_of t) t.lines r.entries h.lines in
     let alone : IsAlone ps = λ x y among among'.
     let (a, within) = records_within t ps x limits lines among in
     let (b, within') = records_within t ps y limits lines among' in
@@ -188,6 +189,6 @@ one_thread t r limits one h =
       journals = journals_sorted t.partitions ps r.pools r.roots alone h.roots;
       pool = pool_sorted t.region t.partitions ps r.pools r.roots alone h.roots h.pool;
       exchanges = cells_sorted r.cells ps alone h.cells;
-      numbers = numbers (marks_of ps) h.slots (marks_rise ps (lines_rise t.lines ps lines)) (finds_no_less r.cells ps alone h.seen);
-      contents = exact_contents usable_of r.cells ps alone h.contents;
+      numbers = numbers (marks_of ps) h.slots (marks_rise ps (lines_rise (rules_of t) t.lines ps lines)) (finds_no_less r.cells ps alone h.seen);
+      contents = exact_contents (usable_of t.version) r.cells ps alone h.contents;
     }

@@ -41,7 +41,7 @@ word_after ps s = word_from (marks_of ps) s 0
 
 -- what the rows of a run need besides the registers
 abbrev pub facts_of : Parts → Facts
-facts_of a = record { usable_of = usable_of; usable_at = usable_in a.ps; cells = a.cells }
+facts_of a = record { usable_of = usable_of a.rules.version; usable_at = usable_in a.ps; cells = a.cells }
 
 -- the registers after the records before the line
 abbrev pub HasRegisters : Parts → List Played → AllRegs → Type 0

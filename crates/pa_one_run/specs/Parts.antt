@@ -1,5 +1,7 @@
 -- What a run is made of, but for its report.
 use Rattle.std.specs.Prelude.{ℕ, List}
+use Rattle.pa_trace.specs.declared.script.Rules.{Rules}
+use Rattle.pa_trace.specs.Rules.{rules_of}
 use Rattle.pa_record.specs.declared.history.CellEntry.{CellEntry}
 use Rattle.pa_record.specs.declared.pool.PoolEntry.{PoolEntry}
 use Rattle.pa_record.specs.declared.root.RootEntry.{RootEntry}
@@ -8,11 +10,12 @@ use Rattle.pa_rules.specs.declared.played.Played.{Played}
 use Rattle.pa_rules.specs.Roots.{Journals}
 use Rattle.pa_rules.specs.Told.{Told, records_of}
 
--- what a run is made of, but for its report, with the numbers of its trace's head
+-- what a run is made of, but for its report, with the numbers of its trace's head and its rules
 pub record Parts : Type 0 where
   pub supers : ℕ
   pub partitions : ℕ
   pub threads : ℕ
+  pub rules : Rules
   pub ps : List Played
   pub pools : List PoolEntry
   pub roots : Journals
@@ -25,6 +28,7 @@ parts_of t r =
       supers = t.region;
       partitions = t.partitions;
       threads = t.threads;
+      rules = rules_of t;
       ps = records_of t r;
       pools = r.pools;
       roots = r.roots;

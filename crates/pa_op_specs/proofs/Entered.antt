@@ -306,11 +306,11 @@ unmaps_next roots x says seen p asked slot e done among on act =
 
 -- what it entered in a journal its op makes, if that makes each of these
 pub makes_each : (x : ToldRecord) (it : Enters x) (pools : List PoolEntry) →
-    ((p : ℕ) (e : RootEntry) → p < 4 → Contains (it.roots p) e → MakesEntry pools p e.act x.played.op) →
-    (p : ℕ) (m : Made) (e : RootEntry) → p < 4 → Contains (entered_in p x.stretch) m → m.numbers ≡ root_numbers e → MakesEntry pools p e.act x.played.op
+    ((p : ℕ) (e : RootEntry) → p < 4 → Contains (it.roots p) e → MakesEntry pools p e.act x.played) →
+    (p : ℕ) (m : Made) (e : RootEntry) → p < 4 → Contains (entered_in p x.stretch) m → m.numbers ≡ root_numbers e → MakesEntry pools p e.act x.played
 makes_each x it pools each p m e low among says =
     let (f, there, same) = at_numbers (entered_in p x.stretch) (it.roots p) m (it.roots_are p low) among in
-    subst (λ (g : RootEntry). MakesEntry pools p g.act x.played.op) {x = f} (one_root f e (sym same ∙ says)) (each p f low there)
+    subst (λ (g : RootEntry). MakesEntry pools p g.act x.played) {x = f} (one_root f e (sym same ∙ says)) (each p f low there)
   where
     at_numbers : (ms : List Made) (fs : List RootEntry) (m : Made) → map (λ (n : Made). n.numbers) ms ≡ map root_numbers fs → Contains ms m →
         (f : RootEntry) × Contains fs f × (m.numbers ≡ root_numbers f)

@@ -26,7 +26,7 @@ use Rattle.pa_logs.specs.Indices.{Enters}
 use Rattle.pa_cache.specs.Caches.{CacheList}
 use Rattle.pa_root.specs.Handing.{at_number_seen}
 use Rattle.pa_logs.specs.Said.{ReadsIts}
-use Rattle.pa_op_specs.specs.Stocks.{StockRegister, StockValue, HoldsLists, titles_in, listed_in, regs_of}
+use Rattle.pa_op_specs.specs.Stocks.{StockRegister, StockValue, HoldsLists, titles_in, listed_in, regs_of, rules_at}
 use Rattle.pa_op_specs.specs.Outcomes.{Outcome, IsOutcome, IsSeenOf, ActsAreOf, row_facts}
 use Rattle.pa_op_specs.specs.Entering.{EntersCells}
 use Rattle.pa_op_specs.specs.Owing.{OwesOf, KeepsWords}
@@ -56,7 +56,7 @@ same_titles v w (t ∷ ts) each =
 -- A record of a worker's op with such a log segment.
 abbrev pub quiet_record : StockValue → View → ℕ → ℕ → Op → Answer → List Entry → ToldRecord
 quiet_record s w line phase op answer es = record {
-  played = record { line = line; thread = s.thread; phase = phase; op = op; answer = answer };
+  played = record { line = line; thread = s.thread; phase = phase; rules = rules_at s; op = op; answer = answer };
   stretch = es;
   saw = λ t. seen_of s.view t;
   gives = λ t. seen_of w t;

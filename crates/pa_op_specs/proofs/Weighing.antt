@@ -7,6 +7,7 @@ use Rattle.pa_slot.specs.declared.word.Step.TheVariants as steps
 use Rattle.pa_slot.specs.Run.{Mark}
 use Rattle.pa_trace.specs.declared.script.Op.{Op}
 use Rattle.pa_trace.specs.declared.script.Op.TheVariants as ops
+use Rattle.pa_trace.specs.declared.script.Rules.{Rules}
 use Rattle.pa_record.specs.declared.entry.Seen.{Seen}
 use Rattle.pa_record.specs.declared.entry.Answer.{Answer}
 use Rattle.pa_record.specs.declared.entry.Answer.TheVariants as answers
@@ -23,7 +24,7 @@ use Rattle.pa_totals.specs.declared.owed.Owed.{Owed}
 use Rattle.pa_op_specs.specs.declared.counts.Count.{Count}
 use Rattle.pa_rules.specs.declared.register.Register.TheVariants.{Empty, Own, Ref, Freed, Cleared}
 use Rattle.pa_op_specs.specs.Counts.{counts_after, owed_after, owned_in, pointed_in, done_seen, made_seen, CountsBy}
-use Rattle.pa_op_specs.specs.Stocks.{StockRegister, StockValue, IsStock, register_in, as_reg, regs_of}
+use Rattle.pa_op_specs.specs.Stocks.{StockRegister, StockValue, IsStock, register_in, as_reg, regs_of, rules_at}
 use Rattle.pa_op_specs.specs.Outcomes.{Outcome, IsOutcome, IsSeenOf, FitsRun, row_facts}
 use Rattle.pa_op_specs.specs.Plays.{Does}
 use Rattle.pa_op_specs.proofs.Counting.{OwesBy, Uncounted, counts_stay, owed_stays, counts_step, owed_step}
@@ -38,14 +39,14 @@ Weighs home size xs cs ds os ps = CountsBy home xs cs ds × OwesBy home size xs 
 -- The counts of an op that was played so, and what is owed, are what its record weighs.
 abbrev pub CountsOp : (line : ℕ) → Op → Answer → (before after : StockValue) → (cs ds : List Count) → (os ps : List Owed) → Type 0
 CountsOp line op answer before after cs ds os ps =
-    (phase : ℕ) → (x : ToldRecord) → x.played ≡ record { line = line; thread = before.thread; phase = phase; op = op; answer = answer } →
+    (phase : ℕ) → (x : ToldRecord) → x.played ≡ record { line = line; thread = before.thread; phase = phase; rules = rules_at before; op = op; answer = answer } →
     Does before after x → (o : Outcome) → FitsRun o before.partitions after.view x → Weighs o.homes o.sizes (x.played ∷ []) cs ds os ps
 
 -- it is enough to show it of the op's row
 counts_by_row : (line : ℕ) (op : Op) (answer : Answer) (before after : StockValue) (cs ds : List Count) (os ps : List Owed) →
     ((phase : ℕ) (o : Outcome) → IsOutcome o → IsSeenOf o after.view → ((k : ℕ) → IsBeginning (list_of k before.view) (list_of k after.view)) →
     Row (row_facts o) op (regs_of before.registers) answer (regs_of after.registers) →
-    Weighs o.homes o.sizes (record { line = line; thread = before.thread; phase = phase; op = op; answer = answer } ∷ []) cs ds os ps) →
+    Weighs o.homes o.sizes (record { line = line; thread = before.thread; phase = phase; rules = rules_at before; op = op; answer = answer } ∷ []) cs ds os ps) →
     CountsOp line op answer before after cs ds os ps
 counts_by_row line op answer before after cs ds os ps each phase x is does o fits =
     subst (λ (p : Played). Weighs o.homes o.sizes (p ∷ []) cs ds os ps) (sym is)
@@ -72,9 +73,9 @@ owed_unseen : (step : Step) (handle : Option Handle) (os : List Owed) → owed_a
 owed_unseen step None os = refl
 owed_unseen step (Some h) os = refl
 
-module _ (home size : SlotName → ℕ) (line thread phase : ℕ) (cs : List Count) (four : length cs ≡ 4) (os : List Owed) (also : length os ≡ 4) where
+module _ (home size : SlotName → ℕ) (line thread phase : ℕ) (rules : Rules) (cs : List Count) (four : length cs ≡ 4) (os : List Owed) (also : length os ≡ 4) where
   abbrev played_so : Op → Answer → Played
-  played_so op answer = record { line = line; thread = thread; phase = phase; op = op; answer = answer }
+  played_so op answer = record { line = line; thread = thread; phase = phase; rules = rules; op = op; answer = answer }
 
   -- an answer that counts nothing
   stays : (op : Op) (answer given : Answer) → answer ≡ given → (o : Option Mark) → mark_of_answer line op given ≡ o → Uncounted o → Weighs home size (played_so op answer ∷ []) cs cs os os
@@ -217,30 +218,30 @@ module _ (home size : SlotName → ℕ) (line thread phase : ℕ) (cs : List Cou
 module _ (line : ℕ) (answer : Answer) (before after : StockValue) (cs : List Count) (four : length cs ≡ 4) (os : List Owed) (also : length os ≡ 4) where
   pub copy_counts : (from to : ℕ) → CountsOp line (ops.Copy from to) answer before after cs cs os os
   copy_counts from to = counts_by_row line (ops.Copy from to) answer before after cs cs os os (λ phase o run seen begins row.
-      copy_row o.homes o.sizes line before.thread phase cs four os also (regs_of before.registers from) (regs_of before.registers) (regs_of after.registers) from to answer row)
+      copy_row o.homes o.sizes line before.thread phase (rules_at before) cs four os also (regs_of before.registers from) (regs_of before.registers) (regs_of after.registers) from to answer row)
 
   pub write_counts : (r value : ℕ) → CountsOp line (ops.Write r value) answer before after cs cs os os
   write_counts r value = counts_by_row line (ops.Write r value) answer before after cs cs os os (λ phase o run seen begins row.
-      write_row o.homes o.sizes line before.thread phase cs four os also (regs_of before.registers r) (regs_of before.registers) (regs_of after.registers) r value answer row)
+      write_row o.homes o.sizes line before.thread phase (rules_at before) cs four os also (regs_of before.registers r) (regs_of before.registers) (regs_of after.registers) r value answer row)
 
   pub read_counts : (r place : ℕ) → CountsOp line (ops.Read r place) answer before after cs cs os os
   read_counts r place = counts_by_row line (ops.Read r place) answer before after cs cs os os (λ phase o run seen begins row.
-      read_row o.homes o.sizes line before.thread phase cs four os also (regs_of before.registers r) (row_facts o) (regs_of before.registers) (regs_of after.registers) r place answer row)
+      read_row o.homes o.sizes line before.thread phase (rules_at before) cs four os also (regs_of before.registers r) (row_facts o) (regs_of before.registers) (regs_of after.registers) r place answer row)
 
   pub swap_counts : (cell r : ℕ) → CountsOp line (ops.Swap cell r) answer before after cs cs os os
   swap_counts cell r = counts_by_row line (ops.Swap cell r) answer before after cs cs os os (λ phase o run seen begins row.
-      stays o.homes o.sizes line before.thread phase cs four os also (ops.Swap cell r) answer (answers.Swapped row.0) row.2 None refl tt)
+      stays o.homes o.sizes line before.thread phase (rules_at before) cs four os also (ops.Swap cell r) answer (answers.Swapped row.0) row.2 None refl tt)
 
   pub purge_counts : CountsOp line ops.Purge answer before after cs cs os os
   purge_counts = counts_by_row line ops.Purge answer before after cs cs os os (λ phase o run seen begins row.
-      stays o.homes o.sizes line before.thread phase cs four os also ops.Purge answer (answers.Purged row.0) row.1 None refl tt)
+      stays o.homes o.sizes line before.thread phase (rules_at before) cs four os also ops.Purge answer (answers.Purged row.0) row.1 None refl tt)
 
   pub reset_counts : (r : ℕ) → IsStock before → r < 64 → CountsOp line (ops.Reset r) answer before after cs
       (counts_after steps.Reset (pointed_in (register_in before.registers r)) (done_seen answer) cs) os (owed_after steps.Reset (pointed_in (register_in before.registers r)) (done_seen answer) os)
   reset_counts r is below = counts_by_row line (ops.Reset r) answer before after cs
       (counts_after steps.Reset (pointed_in (register_in before.registers r)) (done_seen answer) cs) os (owed_after steps.Reset (pointed_in (register_in before.registers r)) (done_seen answer) os)
       (λ phase o run seen begins row.
-      reset_row o.homes o.sizes line before.thread phase cs four os also (register_in before.registers r) (regs_of before.registers) (regs_of after.registers) r answer
+      reset_row o.homes o.sizes line before.thread phase (rules_at before) cs four os also (register_in before.registers r) (regs_of before.registers) (regs_of after.registers) r answer
       (λ h ref. at_home o before h run (seen_before o before.view after.view begins seen) (register_has before r h is below (inr ref)).1) row)
 
   pub free_counts : (r : ℕ) → IsStock before → r < 64 → CountsOp line (ops.Free r) answer before after cs
@@ -248,7 +249,7 @@ module _ (line : ℕ) (answer : Answer) (before after : StockValue) (cs : List C
   free_counts r is below = counts_by_row line (ops.Free r) answer before after cs
       (counts_after steps.Free (owned_in (register_in before.registers r)) (done_seen answer) cs) os (owed_after steps.Free (owned_in (register_in before.registers r)) (done_seen answer) os)
       (λ phase o run seen begins row.
-      free_row o.homes o.sizes line before.thread phase cs four os also (register_in before.registers r) (regs_of before.registers) (regs_of after.registers) r answer
+      free_row o.homes o.sizes line before.thread phase (rules_at before) cs four os also (register_in before.registers r) (regs_of before.registers) (regs_of after.registers) r answer
       (λ h own. at_home o before h run (seen_before o before.view after.view begins seen) (register_has before r h is below (inl own)).1) row)
 
   pub alloc_counts : (r partition asked : ℕ) → IsStock after → r < 64 →
@@ -257,6 +258,6 @@ module _ (line : ℕ) (answer : Answer) (before after : StockValue) (cs : List C
   alloc_counts r partition asked is below = counts_by_row line (ops.Alloc r partition asked) answer before after cs
       (counts_after steps.Issue (owned_in (register_in after.registers r)) (made_seen answer) cs) os (owed_after steps.Issue (owned_in (register_in after.registers r)) (made_seen answer) os)
       (λ phase o run seen begins row.
-      alloc_row o.homes o.sizes line before.thread phase cs four os also (regs_of before.registers r) (register_in after.registers r) (row_facts o)
+      alloc_row o.homes o.sizes line before.thread phase (rules_at before) cs four os also (regs_of before.registers r) (register_in after.registers r) (row_facts o)
       (regs_of before.registers) (regs_of after.registers) r partition asked answer
       (λ h own. at_home o after h run seen (register_has after r h is below (inl own)).1) refl row)

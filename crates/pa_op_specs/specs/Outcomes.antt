@@ -29,9 +29,9 @@ pub record Outcome : Type 0 where
   pub sizes : SlotName → ℕ
   pub homes : SlotName → ℕ
 
--- what the transitions of registers need to know of it: all bytes of a slot but its count word are usable
+-- what the transitions of registers need to know of it, by version 1: all bytes of a slot but its count word are usable
 abbrev pub row_facts : Outcome → Facts
-row_facts o = record { usable_of = usable_of; usable_at = λ s. o.sizes s - 8; cells = o.cells }
+row_facts o = record { usable_of = usable_of 1; usable_at = λ s. o.sizes s - 8; cells = o.cells }
 
 -- The outcome is one of a run. No partition past its own has a journal, and a slot has the length with which a journal hands it out,
 -- and that journal's partition.

@@ -25,7 +25,7 @@ use Rattle.pa_logs.specs.Told.{ToldRecord}
 use Rattle.pa_logs.specs.Touches.{IsTold}
 use Rattle.pa_logs.specs.Said.{ReadsIts}
 use Rattle.pa_step_order.specs.Signs.{HasItsSigns}
-use Rattle.pa_op_specs.specs.Stocks.{StockValue, regs_of, listed_in}
+use Rattle.pa_op_specs.specs.Stocks.{StockValue, regs_of, listed_in, rules_at}
 use Rattle.pa_op_specs.specs.Counts.{CountsBy}
 use Rattle.pa_op_specs.specs.Workers.{WorkerValue}
 use Rattle.pa_op_specs.specs.Booking.{BooksBy}
@@ -61,7 +61,7 @@ pub record AnswersIn (o : Outcome) (before after : StockValue) (x : ToldRecord) 
   pub reader : ReadsIts o.sizes (regs_of before.registers) x.played.op x
   pub unmaps : UnmapsNext o.roots x.played
   pub makes : (p : ℕ) (m : Made) (e : RootEntry) → p < most_partitions → Contains (entered_in p x.stretch) m → m.numbers ≡ root_numbers e →
-      MakesEntry o.pools p e.act x.played.op
+      MakesEntry o.pools p e.act x.played
   pub home : (m : Mark) → mark_of x.played ≡ Some m → (p : ℕ) × HasSize o.roots p m.slot (o.sizes m.slot)
   pub signs : HasItsSigns o.partitions o.roots x
 
@@ -93,7 +93,7 @@ pub record Does (before after : StockValue) (x : ToldRecord) : Type 0 where
 abbrev pub DoesOp : (line : ℕ) → Op → Answer → (before after : StockValue) → Type 0
 DoesOp line op answer before after =
     (phase : ℕ) → (x : ToldRecord)
-    × (x.played ≡ record { line = line; thread = before.thread; phase = phase; op = op; answer = answer })
+    × (x.played ≡ record { line = line; thread = before.thread; phase = phase; rules = rules_at before; op = op; answer = answer })
     × Does before after x × AddsNothing x.stretch
 
 -- An op was played. The worker has its record besides, and all else is what the op did with its thread state. In every run that fits
@@ -110,7 +110,15 @@ pub record PlaysOne (before after : WorkerValue) (x : ToldRecord) : Type 0 where
 abbrev pub PlaysOp : (line : ℕ) → Op → Answer → (before after : WorkerValue) → Type 0
 PlaysOp line op answer before after =
     (phase : ℕ) → (x : ToldRecord)
-    × (x.played ≡ record { line = line; thread = before.stock.thread; phase = phase; op = op; answer = answer }) × PlaysOne before after x
+    × (x.played ≡ record {
+      line = line;
+      thread = before.stock.thread;
+      phase = phase;
+      rules = rules_at before.stock;
+      op = op;
+      answer = answer;
+    })
+    × PlaysOne before after x
 
 -- these ops were played, one after the other
 abbrev pub PlaysAll : WorkerValue → List ToldRecord → WorkerValue → Type 0

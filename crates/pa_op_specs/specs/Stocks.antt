@@ -5,6 +5,8 @@ use Rattle.pa_slot.specs.declared.title.Title.{Title}
 use Rattle.pa_slot.specs.Titles.{same_title, IsWellFormed}
 use Rattle.pa_slot.specs.Holdings.{one}
 use Rattle.pa_buckets.specs.Limits.{sparse_count}
+use Rattle.pa_trace.specs.declared.script.Rules.{Rules}
+use Rattle.pa_trace.specs.Rules.{first_rules}
 use Rattle.pa_record.specs.Spans.{name_of}
 use Rattle.pa_trace.specs.Limits.{register_count, most_partitions, most_threads}
 use Rattle.pa_rules.specs.Limits.{list_count}
@@ -34,6 +36,10 @@ pub record StockValue : Type 0 where
   pub view : View
   pub registers : List StockRegister
   pub caches : List CacheList
+
+-- the rules by which a worker plays: those of version 1
+abbrev pub rules_at : StockValue → Rules
+rules_at s = first_rules s.partitions
 
 -- what register number i has, which is nothing if it isn't there
 abbrev pub register_in : List StockRegister → ℕ → StockRegister

@@ -4,10 +4,14 @@ use Rattle.pa_slot.specs.declared.word.SlotName.{SlotName}
 use Rattle.pa_slot.specs.Count.{number_of, held_of}
 use Rattle.pa_slot.specs.Run.{Mark}
 use Rattle.pa_slot.specs.Titles.{poison}
-use Rattle.pa_buckets.proofs.Facts.{IsRow_1-of}
+use Rattle.pa_buckets.specs.Table.{slot_of}
+use Rattle.pa_buckets.proofs.Facts.{IsRow-of}
 use Rattle.pa_direct.proofs.Serving.{Serves-of}
 use Rattle.pa_trace.specs.declared.script.Op.{Op}
 use Rattle.pa_trace.specs.declared.script.Op.TheVariants as ops
+use Rattle.pa_trace.specs.declared.script.Rules.{Rules}
+use Rattle.pa_direct.specs.Shapes.{shape_of}
+use Rattle.pa_rules.proofs.Versions.{real_in, direct_in}
 use Rattle.pa_record.specs.declared.entry.Seen.{Seen}
 use Rattle.pa_record.specs.declared.entry.Answer.{Answer}
 use Rattle.pa_record.specs.declared.entry.Answer.TheVariants as answers
@@ -86,20 +90,20 @@ whole_words a s h made =
     elim (made_class a q seen (usable_in a.ps s) h among answer) [
       | inl (p, c, (reg, size, op, class), of) ↦
           let usable = alloc_usable a h q seen (usable_in a.ps s) reg p size among answer op in
-          let fits = sizes_fit.class size c class in
-          let row = IsRow_1-of c class.real in
+          let fits = subst (λ (k : Rules). slot_size_for k.version size ≡ slot_of c) (h.ruled q among) (sizes_fit.class q.rules.version size c class) in
+          let row = IsRow-of c (real_in q.rules.version c (class.from, class.real)) in
           let sixteens = row.sixteens in
           let least = row.least_slot in
-          let is : usable_of size ≡ slot_size_for size - 8 = refl in
+          let is : usable_of a.rules.version size ≡ slot_size_for a.rules.version size - 8 = refl in
           omega arith
       | inr (p, size, (reg, op, direct), of) ↦
           let usable = alloc_usable a h q seen (usable_in a.ps s) reg p size among answer op in
-          let fits = sizes_fit.direct size direct in
-          let serves = Serves-of size direct in
+          let fits = subst (λ (k : Rules). slot_size_for k.version size ≡ (shape_of size).slot) (h.ruled q among) (sizes_fit.direct q.rules.version size direct) in
+          let serves = Serves-of size (direct_in q.rules.version size direct) in
           let pages = serves.system_pages in
-          let large = direct.0 in
+          let large = (direct_in q.rules.version size direct).0 in
           let room = serves.usable in
-          let is : usable_of size ≡ slot_size_for size - 8 = refl in
+          let is : usable_of a.rules.version size ≡ slot_size_for a.rules.version size - 8 = refl in
           omega arith
     ]
 

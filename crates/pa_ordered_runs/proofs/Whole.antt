@@ -7,6 +7,8 @@ use Rattle.std.proofs.lemmas.List.Elements.{filter-append}
 use Rattle.std.proofs.lemmas.List.Concat.{flat_map-append}
 use Rattle.pa_slot.specs.Count.{number_of}
 use Rattle.pa_slot.specs.Run.{Mark}
+use Rattle.pa_trace.specs.Rules.{rules_of}
+use Rattle.pa_trace.specs.declared.script.Rules.{Rules}
 use Rattle.pa_record.specs.declared.entry.Seen.{Seen}
 use Rattle.pa_lists.proofs.Members.{first_in, later_in}
 use Rattle.pa_lists.proofs.Elements.{all_from_members, parts_at, pairs_across, pairs_after}
@@ -160,10 +162,10 @@ rises (x ∷ ps) h phases =
     ))
     (rises ps (pairs_tail Earlier x ps h) (λ y z first second. phases y z (later_in x y ps first) (later_in x z ps second)))
 
-phases_rise : (ls : List Line) (ps : List Played) → AreLines ls ps → (x y : Played) → Contains ps x → Contains ps y → y.phase < x.phase → y.line < x.line
-phases_rise ls ps lines x y first second less =
-    let there : (z : Played) → Contains ps z → Contains (op_lines 2 1 ls) (op_line_of z) = λ z among. subst (λ os. Contains os (op_line_of z)) lines (map_in op_line_of ps z among) in
-    lines_phases 2 1 ls (op_line_of y) (op_line_of x) (there y second) (there x first) less
+phases_rise : (rules : Rules) (ls : List Line) (ps : List Played) → AreLines rules ls ps → (x y : Played) → Contains ps x → Contains ps y → y.phase < x.phase → y.line < x.line
+phases_rise rules ls ps lines x y first second less =
+    let there : (z : Played) → Contains ps z → Contains (op_lines rules 2 1 ls) (op_line_of z) = λ z among. subst (λ os. Contains os (op_line_of z)) lines (map_in op_line_of ps z among) in
+    lines_phases rules 2 1 ls (op_line_of y) (op_line_of x) (there y second) (there x first) less
 
 -- ---- the law
 
@@ -172,13 +174,13 @@ files_have_timelines t r limits (legal, order) =
     let told = told_by r in
     let a = parts_of t told in
     let h = filed t told limits (legal, order) in
-    let lines = records_are_lines.lines t.lines told.entries legal.lines in (
+    let lines = records_are_lines.lines (rules_of t) t.lines told.entries legal.lines in (
       line_by_line a a.ps,
       record {
         ordered = record {
           whole = whole a h;
           only = only a h;
-          in_order = in_order a h (rises a.ps h.rising (phases_rise t.lines a.ps lines));
+          in_order = in_order a h (rises a.ps h.rising (phases_rise (rules_of t) t.lines a.ps lines));
           found = found a h;
           journals = journals_made a h;
           pool = pool_asked a h;

@@ -30,7 +30,7 @@ use Rattle.pa_slot_effects.proofs.Ending.{ends_right}
 use Rattle.pa_player.specs.Player.{Player}
 use Rattle.pa_player.specs.declared.table.Slot.{Slot}
 use Rattle.pa_player.specs.Tables.{slot_at, named_at}
-use Rattle.pa_player.specs.Playing.{shown, journals, root_of, list_at, caches, numbered_at, IsLetOut, IsPlaying}
+use Rattle.pa_player.specs.Playing.{shown, journals, root_of, list_at, caches, numbered_at, IsLetOut, IsPlaying, rules_at}
 use Rattle.pa_player.proofs.Slots.{slot_here}
 use Rattle.pa_lists.proofs.Options.{some_same}
 
@@ -80,6 +80,7 @@ let_out_left roots x s None is (e, asked, among, act) =
 module _ (region partitions threads : ℕ) (ls : List Line) (p : Player) (h : IsPlaying region partitions threads ls p) where
   pub so_far : IsSoFar region partitions (length ls + 2) ls h.ps p.told.pools (journals p) (caches p)
   so_far = record {
+    rules = rules_at p;
     lines = h.told.lines;
     slots = (ends_right threads ls h.ps (shown p) h.told).slots;
     placed = h.placed;

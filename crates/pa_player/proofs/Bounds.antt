@@ -14,6 +14,7 @@ use Rattle.pa_buckets.proofs.Facts.{IsRow-of, IsRow_1-of}
 use Rattle.pa_direct.proofs.Serving.{Serves-of}
 use Rattle.pa_trace.specs.declared.script.Line.{Line}
 use Rattle.pa_trace.specs.declared.script.Line.TheVariants.{Phase, Do}
+use Rattle.pa_trace.specs.declared.script.Rules.{Rules}
 use Rattle.pa_record.specs.declared.numbered.Numbered.{Numbered}
 use Rattle.pa_record.specs.declared.report.Tally.{Tally}
 use Rattle.pa_rules.specs.declared.played.Played.{Played}
@@ -22,24 +23,25 @@ use Rattle.pa_rules.specs.Roots.{MakesEntry}
 use Rattle.pa_rules.specs.Caches.{Caches, listed_slots}
 use Rattle.pa_rules.specs.Flow.{at_step}
 use Rattle.pa_rules.specs.Report.{listed_bytes, cached_slots, cached_bytes}
+use Rattle.pa_rules.proofs.Versions.{direct_in}
 use Rattle.pa_legal.specs.Tallies.{weight_of, one_of, bytes_of, IsLeft}
 use Rattle.pa_player.specs.declared.table.Slot.{Slot}
 use Rattle.pa_player.specs.Player.{Player}
 use Rattle.pa_player.specs.Tables.{slot_at}
 use Rattle.pa_player.specs.Tallies.{tally_at}
-use Rattle.pa_player.specs.Playing.{journals, caches, home_in, len_in, list_at, list_place, numbered_at, IsLetOut, IsPlaying}
+use Rattle.pa_player.specs.Playing.{journals, caches, home_in, len_in, list_at, list_place, numbered_at, IsLetOut, IsPlaying, rules_at}
 use Rattle.pa_player.proofs.Slots.{slot_cases, slot_here, slot_nowhere}
 use Rattle.pa_player.proofs.OneList.{caches_here, caches_none, place_below}
 
 -- ---- how many records and marks there are
 
-lines_few : (n phase : ℕ) (ls : List Line) → length (op_lines n phase ls) ≤ length ls
-lines_few n phase [] = omega arith
-lines_few n phase (Phase ∷ ls) = omega (arith, lines_few (n + 1) (phase + 1) ls)
-lines_few n phase (Do thread op ∷ ls) = omega (arith, lines_few (n + 1) phase ls)
+lines_few : (rules : Rules) (n phase : ℕ) (ls : List Line) → length (op_lines rules n phase ls) ≤ length ls
+lines_few rules n phase [] = omega arith
+lines_few rules n phase (Phase ∷ ls) = omega (arith, lines_few rules (n + 1) (phase + 1) ls)
+lines_few rules n phase (Do thread op ∷ ls) = omega (arith, lines_few rules (n + 1) phase ls)
 
-played_few : (ls : List Line) (ps : List Played) → AreLines ls ps → length ps ≤ length ls
-played_few ls ps lines = omega (arith, length-map ps op_line_of, ap length lines, lines_few 2 1 ls)
+played_few : (rules : Rules) (ls : List Line) (ps : List Played) → AreLines rules ls ps → length ps ≤ length ls
+played_few rules ls ps lines = omega (arith, length-map ps op_line_of, ap length lines, lines_few rules 2 1 ls)
 
 one_few : {Y : Type 0} (o : Option Y) (ys : List Y) (n : ℕ) → length ys ≤ n → length (cons_option o ys) ≤ n + 1
 one_few None ys n low = omega (arith, low)
@@ -49,8 +51,8 @@ filtered_few : {X Y : Type 0} (f : X → Option Y) (xs : List X) → length (fil
 filtered_few f [] = omega arith
 filtered_few f (x ∷ xs) = omega (arith, one_few (f x) (filter_map f xs) (length xs) (filtered_few f xs))
 
-marks_few : (ls : List Line) (ps : List Played) → AreLines ls ps → length (marks_of ps) ≤ length ls
-marks_few ls ps lines = omega (arith, filtered_few mark_of ps, played_few ls ps lines)
+marks_few : (rules : Rules) (ls : List Line) (ps : List Played) → AreLines rules ls ps → length (marks_of ps) ≤ length ls
+marks_few rules ls ps lines = omega (arith, filtered_few mark_of ps, played_few rules ls ps lines)
 
 -- what passes a test weighs no more than all would
 if_few : (b : Bool) (n most : ℕ) → n ≤ most → (if b then n else 0) ≤ most
@@ -101,8 +103,9 @@ module _ (region partitions threads : ℕ) (ls : List Line) (p : Player) (h : Is
       record { whole = omega (arith, of.2, row.sixteens); least = omega (arith, of.2, row.least_slot); greatest = omega (arith, of.2, row.greatest_slot) }
   let_out_length x None (e, asked, among, act) =
       let (y, of, makes) = h.placed.lines x.partition e among in
-      let made = subst (λ a. MakesEntry p.told.pools x.partition a y.op) act makes in
-      let (size, (reg, op, direct), is) = made in
+      let made = subst (λ a. MakesEntry p.told.pools x.partition a y) act makes in
+      let (size, (reg, op, mapped), is) = made in
+      let direct = direct_in y.rules.version size mapped in
       let serves = Serves-of size direct in
       record { whole = omega (arith, is, serves.system_pages); least = omega (arith, is, serves.usable, direct.0); greatest = omega (arith, is, serves.close, direct.1) }
 
@@ -121,7 +124,7 @@ module _ (region partitions threads : ℕ) (ls : List Line) (p : Player) (h : Is
   left_few : (into out : Step → ℕ → Bool) (q : ℕ) (t : Tally) → length ls ≤ 65535 → IsLeft into out (home_in p.table) (len_in p.table) q (marks_of h.ps) t
       → (t.slots < 2 ^ 31) × (t.bytes < 2 ^ 62)
   left_few into out q t few left =
-      let marks = marks_few ls h.ps h.told.lines in
+      let marks = marks_few (rules_at p) ls h.ps h.told.lines in
       let ones = weight_few into (one_of (home_in p.table) q) 1 (marks_of h.ps) (λ s. if_few (home_in p.table s == q) 1 1 (omega arith)) in
       let bytes = weight_few into (bytes_of (home_in p.table) (len_in p.table) q) 33554432 (marks_of h.ps) (λ s. if_few (home_in p.table s == q) (len_in p.table s) 33554432 (len_few s)) in
       (omega (arith, left.slots, ones, marks, few), omega (arith, left.bytes, bytes, marks, few))

@@ -56,6 +56,7 @@ module _ (p : Player) (thread from to i : ℕ) (points : Points (register_at p t
       (copy_goes_on threads ls h.ps (shown p) thread from to seen (can_play region partitions threads ls thread (ops.Copy from to) p can) can.within.1.0 can.within.1.1
       (points_names p.table (register_at p thread from) i points) (none_holds p.table (register_at p thread to) none) (sym is))
       (record {
+        rules = refl;
         regs = shows.regs;
         held = shows.held;
         cells = λ k. refl;
@@ -88,6 +89,7 @@ module _ (p : Player) (thread reg i : ℕ) (ref : register_at p thread reg ≡ R
       (after_reset (shown p) thread reg seen) (Some steps.Reset) same (keeps_lists (ops.Reset reg) seen steps.Reset refl stays) refl
       (reset_goes_on threads ls h.ps (shown p) thread reg seen (can_play region partitions threads ls thread (ops.Reset reg) p can) can.within.1 (ap (reg_of p.table) ref) (sym is))
       (record {
+        rules = refl;
         regs = shows.regs;
         held = shows.held;
         cells = λ k. refl;

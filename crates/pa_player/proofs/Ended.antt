@@ -7,6 +7,11 @@ use Rattle.pa_slot.specs.declared.word.SlotName.{SlotName}
 use Rattle.pa_slot.specs.Run.{IsLive, IsQuarantined}
 use Rattle.pa_trace.specs.declared.script.Trace.{Trace}
 use Rattle.pa_trace.specs.declared.script.Line.{Line}
+use Rattle.pa_trace.specs.Rules.{rules_of, first_rules}
+use Rattle.pa_trace.specs.declared.script.Rules.{Rules}
+use Rattle.pa_rules.specs.Sizes.{usable_of}
+use Rattle.pa_rules.specs.Contents.{AreContents}
+use Rattle.pa_rules.specs.Registers.{AreRegisters}
 use Rattle.pa_record.specs.declared.census.Census.{Census}
 use Rattle.pa_record.specs.declared.entry.Entry.{Entry}
 use Rattle.pa_record.specs.declared.history.CellEntry.{CellEntry}
@@ -16,7 +21,7 @@ use Rattle.pa_record.specs.declared.root.RootEntry.{RootEntry}
 use Rattle.pa_record.specs.declared.run.Run.{Run}
 use Rattle.pa_record.specs.RunText.{NamesSlots, IsPrintable}
 use Rattle.pa_rules.specs.declared.played.Played.{Played}
-use Rattle.pa_rules.specs.Played.{AreDue, marks_of, played}
+use Rattle.pa_rules.specs.Played.{AreDue, marks_of, played, AreLines}
 use Rattle.pa_rules.specs.Roots.{Journals, AreRoots, IsPoolOf, journal_at}
 use Rattle.pa_rules.specs.Caches.{Caches}
 use Rattle.pa_rules.specs.Report.{HasSize, IsTally, HasCensus, IsReportLine, IsReport, phases_of}
@@ -36,7 +41,7 @@ use Rattle.pa_heap_effects.proofs.Onwards.{phase_ends}
 use Rattle.pa_slot_effects.specs.Laws.{IsToldRight}
 use Rattle.pa_slot_effects.proofs.Ending.{ends_right}
 use Rattle.pa_player.specs.Player.{Player}
-use Rattle.pa_player.specs.Playing.{shown, journals, caches, IsToldLine, IsPlaying}
+use Rattle.pa_player.specs.Playing.{shown, journals, caches, IsToldLine, IsPlaying, rules_at}
 use Rattle.pa_player.specs.Told.{Lists, IsToldRun}
 use Rattle.pa_player.specs.Changes.{phase_ended}
 use Rattle.pa_player.proofs.Reporting.{told_then, places_then}
@@ -90,12 +95,18 @@ told_same t r is =
     let e : List ReportLine → Told = λ x. record (lists_of t) { report = x } in
     ap a is.entries ∙ ap b is.roots ∙ ap c is.pool ∙ ap d is.cells ∙ ap e is.report
 
-module _ (t : Trace) (p : Player) (h : IsPlaying t.region t.partitions t.threads t.lines p) where
+module _ (t : Trace) (p : Player) (first : t.version ≡ 1) (h : IsPlaying t.region t.partitions t.threads t.lines p) where
+  -- the player plays by the rules of the trace
+  same_rules : rules_at p ≡ rules_of t
+  same_rules =
+      let version : ℕ → Rules = λ v. record { version = v; plain_from = t.partitions } in
+      ap first_rules h.shaped.many ∙ ap version (sym first)
+
   right : IsToldRight t.lines h.ps (shown p)
   right = ends_right t.threads t.lines h.ps (shown p) h.told
 
   run_of : AreRoots t.partitions h.ps p.told.pools (journals p) × IsPoolOf t.region h.ps p.told.pools (journals p)
-  run_of = placed_are_roots t.region t.partitions (length t.lines + 2) t.lines h.ps p.told.pools (journals p) (caches p) h.told.lines h.placed h.pooled
+  run_of = placed_are_roots t.region t.partitions (length t.lines + 2) (rules_at p) t.lines h.ps p.told.pools (journals p) (caches p) h.told.lines h.placed h.pooled
 
   report_right : All (IsReportLine t.partitions t.threads h.ps p.told.pools (journals p)) (phase_ended p).told.report
   report_right =
@@ -113,11 +124,11 @@ module _ (t : Trace) (p : Player) (h : IsPlaying t.region t.partitions t.threads
 
   known : IsKnown t (lists_of (phase_ended p).told) h.ps
   known = record {
-    lines = subst (AreDue t.lines) h.entries right.due;
+    lines = subst (λ (k : Rules). AreDue k t.lines p.told.entries) same_rules (subst (AreDue (rules_at p) t.lines) h.entries right.due);
     cells = right.cells;
-    registers = right.registers;
+    registers = subst (λ v. AreRegisters (usable_of v) (shown p).cells h.ps) (sym first) right.registers;
     slots = right.slots;
-    contents = right.contents;
+    contents = subst (λ v. AreContents (usable_of v) (shown p).cells h.ps) (sym first) right.contents;
     pool = run_of.1;
     roots = run_of.0;
     caches = (caches p, h.placed.caches);
@@ -138,7 +149,8 @@ module _ (t : Trace) (p : Player) (h : IsPlaying t.region t.partitions t.threads
   }
 
   same_records : records_of t (lists_of (phase_ended p).told) ≡ h.ps
-  same_records = ap (played t.lines) (sym h.entries) ∙ records_are_lines.same t.lines h.ps h.told.lines
+  same_records = ap (played (rules_of t) t.lines) (sym h.entries) ∙ records_are_lines.same (rules_of t) t.lines h.ps
+      (subst (λ (k : Rules). AreLines k t.lines h.ps) same_rules h.told.lines)
 
   file_told : IsFileTold t (lists_of (phase_ended p).told)
   file_told = (
@@ -147,8 +159,8 @@ module _ (t : Trace) (p : Player) (h : IsPlaying t.region t.partitions t.threads
   )
 
 -- after the last phase the run is the trace's
-pub ends_filed : (t : Trace) (p : Player) (r : Run) → IsPlaying t.region t.partitions t.threads t.lines p → IsToldRun (phase_ended p).told r → IsFileRun t r
-ends_filed t p r h is = subst (IsFileTold t) (sym (told_same (phase_ended p).told r is)) (file_told t p h)
+pub ends_filed : (t : Trace) (p : Player) (r : Run) → t.version ≡ 1 → IsPlaying t.region t.partitions t.threads t.lines p → IsToldRun (phase_ended p).told r → IsFileRun t r
+ends_filed t p r first h is = subst (IsFileTold t) (sym (told_same (phase_ended p).told r is)) (file_told t p first h)
 
 -- journals can be printed if each of their entries names slots
 journals_print : (journals : List (List RootEntry)) → ((q : ℕ) (e : RootEntry) → Contains (get_or journals q []) e → NamesSlots e.act)

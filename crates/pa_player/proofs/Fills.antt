@@ -43,7 +43,7 @@ use Rattle.pa_player.specs.declared.tallies.Tallies.{Tallies}
 use Rattle.pa_player.specs.Player.{Player}
 use Rattle.pa_player.specs.Tables.{no_slot, slot_at, named_at, new_slot, HasNone}
 use Rattle.pa_player.specs.Tallies.{no_tally, tally_at}
-use Rattle.pa_player.specs.Playing.{journals, caches, numbered_at, list_place, list_at, root_of, register_at, IsLetOut, AreShaped, IsPlaying}
+use Rattle.pa_player.specs.Playing.{journals, caches, numbered_at, list_place, list_at, root_of, register_at, IsLetOut, AreShaped, IsPlaying, rules_at}
 use Rattle.pa_rules.specs.declared.register.Register.TheVariants.{Own}
 use Rattle.pa_player.specs.Changes.{acted, with_acts, registered, tallied_more, placed_in, list_in, listed, cached_less, issued, made_at, seen_at, tallied_less, IsFilled, IsFilledFirst}
 use Rattle.pa_player.specs.Plays.{CanGoOn, Plays, PlaysAfter}
@@ -132,7 +132,7 @@ module _ (p : Player) (thread reg q size class : ℕ) (none : HasNone (register_
     length_of : (j : ℕ) → Contains (i ∷ rest) j → (slot_at table j).title.len ≡ slot_of class
     length_of = length_of_of p thread reg q size class none of filled empty f i rest front region partitions threads ls can u
 
-    called : IsCalled region partitions n (played_at ls thread (ops.Alloc reg q size) (answers.Made (seen_at table i) (usable_of size))) p.told.pools more (journals p) q (act ∷ []) (caches p thread)
+    called : IsCalled region partitions n (played_at (rules_at p) ls thread (ops.Alloc reg q size) (answers.Made (seen_at table i) (usable_of (rules_at p).version size))) p.told.pools more (journals p) q (act ∷ []) (caches p thread)
         (with_list (caches p thread) q class (map (numbered_at table) rest)) f.after f.plan
     called = called_of p thread reg q size class none of filled empty f i rest front region partitions threads ls can u
 
@@ -144,8 +144,8 @@ module _ (p : Player) (thread reg q size class : ℕ) (none : HasNone (register_
     few_news : length u.news ≤ 8
     few_news = omega (arith, u.few, taken.many, (IsRow_1-of class of.real).few_fill)
 
-    serves : (slot_at table i).title.len - 8 ≡ usable_of size
-    serves = ap (λ z. z - 8) (length_of i (first_in i rest) ∙ sym (sizes_fit.class size class of))
+    serves : (slot_at table i).title.len - 8 ≡ usable_of (rules_at p).version size
+    serves = ap (λ z. z - 8) (length_of i (first_in i rest) ∙ sym (sizes_fit.class (rules_at p).version size class of))
 
     some_slots : 0 < length f.slots
     some_slots = let e : length f.slots ≡ length (map (numbered_at table) (i ∷ rest)) = ap length numbers in omega arith
@@ -181,7 +181,7 @@ module _ (p : Player) (thread reg q size class : ℕ) (none : HasNone (register_
 
     born_then : (s : SlotName) → Contains (names f.slots) s → s.born < length (p.told.pools ++ more)
     born_then s among =
-        let x = played_at ls thread (ops.Alloc reg q size) (answers.Made (seen_at table i) (usable_of size)) in
+        let x = played_at (rules_at p) ls thread (ops.Alloc reg q size) (answers.Made (seen_at table i) (usable_of (rules_at p).version size)) in
         let next = with_list (caches p thread) q class (map (numbered_at table) rest) in
         let placed = line_extends partitions n h.ps x p.told.pools more (journals p) (only_in q (act ∷ [])) (caches p) next h.placed called.done.deed in
         left_born region partitions (n + 1) (h.ps ++ x ∷ []) (p.told.pools ++ more) (grown (journals p) n (only_in q (act ∷ []))) (with_cache (caches p) thread next) placed q (record { line = n; act = act }) s
@@ -316,7 +316,7 @@ module _ (p : Player) (thread reg q size class : ℕ) (none : HasNone (register_
     some_none : Some class ≡ None → ⊥
     some_none e = cc
 
-    pub fill_played : IsPlayed region partitions threads ls p final can.playing thread (ops.Alloc reg q size) (answers.Made (seen_at table i) (usable_of size))
+    pub fill_played : IsPlayed region partitions threads ls p final can.playing thread (ops.Alloc reg q size) (answers.Made (seen_at table i) (usable_of (rules_at p).version size))
     fill_played =
         issued_played region partitions threads ls p thread reg q size can none fits table u.news grown_by few_news i (low_of i (first_in i rest)) (kind_of i (first_in i rest)).0 serves act (names f.slots)
         (fill_lets class asked f.slots) some_slots more f.after f.plan (with_list (caches p thread) q class (map (numbered_at table) rest)) called
@@ -339,10 +339,10 @@ module _ (p : Player) (thread reg q size class : ℕ) (none : HasNone (register_
         let G : Player → Player = λ z. issued thread reg i (cached_less q 1 (slot_at z.table i).title.len (listed at rest z)) in
         let r_is : r ≡ F (set table i issued_it) =
         is ∙ ap G filled_is ∙ ap F (set_both table i 0 (stepped steps.Issue (slot_at table i).word.0) (low_of i (first_in i rest))) in
-        let said : answer ≡ answers.Made (seen_at table i) (usable_of size) = says ∙ ap (λ z. made_at z i) filled_is ∙ ap (λ k. answers.Made (seen_at table i) k) serves in
+        let said : answer ≡ answers.Made (seen_at table i) (usable_of (rules_at p).version size) = says ∙ ap (λ z. made_at z i) filled_is ∙ ap (λ k. answers.Made (seen_at table i) k) serves in
         subst (λ a. PlaysAfter region partitions threads ls p thread (ops.Alloc reg q size) r a) (sym said)
-        (subst (λ z. PlaysAfter region partitions threads ls p thread (ops.Alloc reg q size) z (answers.Made (seen_at table i) (usable_of size))) (sym r_is)
-        (playing_more region partitions threads ls p final can.playing thread (ops.Alloc reg q size) (answers.Made (seen_at table i) (usable_of size)) can.short fill_played))
+        (subst (λ z. PlaysAfter region partitions threads ls p thread (ops.Alloc reg q size) z (answers.Made (seen_at table i) (usable_of (rules_at p).version size))) (sym r_is)
+        (playing_more region partitions threads ls p final can.playing thread (ops.Alloc reg q size) (answers.Made (seen_at table i) (usable_of (rules_at p).version size)) can.short fill_played))
 
 -- a list that is empty is filled, and its front is issued
 pub fill_plays : (p r : Player) (thread reg q size class : ℕ) (answer : Answer) → HasNone (register_at p thread reg) → IsClassOf (max size 1 + 8) class

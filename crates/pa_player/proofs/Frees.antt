@@ -67,6 +67,7 @@ module _ (p : Player) (thread reg i : ℕ) (own : register_at p thread reg ≡ O
       (after_free (shown p) thread reg seen) (Some steps.Free) same (keeps_lists (ops.Free reg) seen steps.Free refl (λ bad. omega (arith, bad.1, refs))) refl
       (free_goes_on threads ls h.ps (shown p) thread reg seen (can_play region partitions threads ls thread (ops.Free reg) p can) can.within.1 (ap (reg_of p.table) own) (sym is))
       (record {
+        rules = refl;
         regs = shows.regs;
         held = shows.held;
         cells = λ k. refl;
@@ -116,6 +117,7 @@ module _ (p : Player) (thread reg i value : ℕ) (own : register_at p thread reg
       (after_write (shown p) value seen) (Some steps.Write) same (keeps_lists (ops.Write reg value) seen steps.Write refl (λ bad. bad)) refl
       (write_goes_on threads ls h.ps (shown p) thread reg value seen (can_play region partitions threads ls thread (ops.Write reg value) p can) can.within.1 (ap (reg_of p.table) own) (sym is) none)
       (record {
+        rules = refl;
         regs = λ t r. reg_kept p.table (set p.table i written) (register_at p t r) keeps (h.shaped.held t r);
         held = λ k. told_kept p.table (set p.table i written) (cell_at p k) keeps (h.shaped.celled k);
         cells = λ k. refl;

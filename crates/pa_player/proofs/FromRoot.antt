@@ -50,7 +50,7 @@ use Rattle.pa_slot_effects.specs.Turns.{played_at}
 use Rattle.pa_slot_effects.proofs.Lines.{lines_more}
 use Rattle.pa_player.specs.Player.{Player}
 use Rattle.pa_player.specs.Tables.{slot_at, named_at}
-use Rattle.pa_player.specs.Playing.{journals, caches, root_of, list_at, numbered_at, IsLetOut, IsPlaying}
+use Rattle.pa_player.specs.Playing.{journals, caches, root_of, list_at, numbered_at, IsLetOut, IsPlaying, rules_at}
 use Rattle.pa_player.specs.Plays.{CanGoOn}
 use Rattle.pa_player.proofs.OneList.{caches_here}
 use Rattle.pa_player.proofs.Backs.{let_out_grown}
@@ -137,7 +137,7 @@ module _ (region partitions threads : ℕ) (ls : List Line) (p : Player) (thread
   seen = seen_by (numbered_by (journals p q) first)
 
   abbrev x : Played
-  x = played_at ls thread (ops.Alloc reg q size) (Made seen 0)
+  x = played_at (rules_at p) ls thread (ops.Alloc reg q size) (Made seen 0)
 
   abbrev acts : Acts
   acts = only_in q (Fill class placed.pool slots ∷ [])
@@ -161,10 +161,10 @@ module _ (region partitions threads : ℕ) (ls : List Line) (p : Player) (thread
   run_then =
       let then_placed = line_extends partitions (length ls + 2) h.ps x p.told.pools more (journals p) acts (caches p) (with_list (caches p thread) q class rest) h.placed called.done.deed in
       let then_pooled = pool_extends region (length ls + 2) p.told.pools more (journals p) acts h.pooled called.done.asks in
-      placed_are_roots region partitions (length ls + 2 + 1) (ls ++ Do thread (ops.Alloc reg q size) ∷ []) (h.ps ++ x ∷ []) (p.told.pools ++ more) (grown (journals p) (length ls + 2) acts)
-      (with_cache (caches p) thread (with_list (caches p thread) q class rest)) (lines_more ls h.ps thread (ops.Alloc reg q size) (Made seen 0) h.told.lines) then_placed then_pooled
+      placed_are_roots region partitions (length ls + 2 + 1) (rules_at p) (ls ++ Do thread (ops.Alloc reg q size) ∷ []) (h.ps ++ x ∷ []) (p.told.pools ++ more) (grown (journals p) (length ls + 2) acts)
+      (with_cache (caches p) thread (with_list (caches p thread) q class rest)) (lines_more (rules_at p) ls h.ps thread (ops.Alloc reg q size) (Made seen 0) h.told.lines) then_placed then_pooled
 
-  one : (s : SlotName) → HasOneKind (grown (journals p) (length ls + 2) acts) s
+  one : (s : SlotName) → HasOneKind (h.ps ++ x ∷ []) (grown (journals p) (length ls + 2) acts) s
   one s = one_kind region partitions (h.ps ++ x ∷ []) (p.told.pools ++ more) (grown (journals p) (length ls + 2) acts) s run_then.0 run_then.1
 
   -- a slot of the fill is of its class

@@ -35,7 +35,7 @@ use Rattle.pa_player.specs.declared.table.Slot.{Slot}
 use Rattle.pa_player.specs.Player.{Player}
 use Rattle.pa_player.specs.Tables.{no_slot, slot_at, named_at, HasNone}
 use Rattle.pa_player.specs.Tallies.{tally_at}
-use Rattle.pa_player.specs.Playing.{shown, journals, caches, register_at, numbered_at, list_place, list_at, root_of, IsLetOut, AreShaped, IsPlaying}
+use Rattle.pa_player.specs.Playing.{shown, journals, caches, register_at, numbered_at, list_place, list_at, root_of, IsLetOut, AreShaped, IsPlaying, rules_at}
 use Rattle.pa_player.specs.Changes.{IsFrontIssued, registered, listed, issued, cached_less, seen_at, tallied_more, tallied_less}
 use Rattle.pa_player.specs.Plays.{CanGoOn, Plays, PlaysAfter}
 use Rattle.pa_player.proofs.OneList.{place_below, caches_here, caches_listed}
@@ -118,8 +118,8 @@ module _ (p : Player) (thread reg q size class i : ℕ) (rest : List ℕ) (none 
     length_is : x.title.len ≡ slot_of class
     length_is = let_out_class (journals p) x x.class class here.2 (h.slots.let_out i here.0)
 
-    usable_is : x.title.len - 8 ≡ usable_of size
-    usable_is = ap (λ z. z - 8) (length_is ∙ sym (sizes_fit.class size class of))
+    usable_is : x.title.len - 8 ≡ usable_of (rules_at p).version size
+    usable_is = ap (λ z. z - 8) (length_is ∙ sym (sizes_fit.class (rules_at p).version size class of))
 
     -- the list, by names
     front_is : caches p thread q class ≡ numbered_at p.table i ∷ map (numbered_at p.table) rest
@@ -222,7 +222,7 @@ module _ (p : Player) (thread reg q size class i : ℕ) (rest : List ℕ) (none 
           next = with_list (caches p thread) q class (map (numbered_at p.table) rest);
           after = after_made (shown p) thread reg seen;
           done =
-              front_leaves region partitions (length ls + 2) q class (x.title.len - 8) h.ps (played_at ls thread (ops.Alloc reg q size) (answers.Made seen (x.title.len - 8))) p.told.pools (journals p) (caches p) seen
+              front_leaves region partitions (length ls + 2) q class (x.title.len - 8) h.ps (played_at (rules_at p) ls thread (ops.Alloc reg q size) (answers.Made seen (x.title.len - 8))) p.told.pools (journals p) (caches p) seen
               (map (numbered_at p.table) rest) h.placed refl refl (reg, size, refl, of) front_is;
           turn =
               subst (λ n. LeadsTo threads ls h.ps thread (ops.Alloc reg q size) (answers.Made seen n) (after_made (shown p) thread reg seen)) (sym usable_is)
@@ -230,6 +230,7 @@ module _ (p : Player) (thread reg q size class i : ℕ) (rest : List ℕ) (none 
               (none_holds p.table (register_at p thread reg) none) (omega (arith, of.fits, (IsRow_1-of class of.real).greatest_slot))
               (sym (at_name (λ z. z.word.0) p.table i h.slots.apart low)) free.held free.refs (at_name (λ z. z.title.len - 8) p.table i h.slots.apart low ∙ usable_is));
           like = record {
+            rules = refl;
             regs = shows.regs;
             held = shows.held;
             cells = λ k. refl;

@@ -34,7 +34,7 @@ use Rattle.pa_player.specs.declared.tallies.Tallies.{Tallies}
 use Rattle.pa_player.specs.Player.{Player}
 use Rattle.pa_player.specs.Tables.{slot_at, named_at}
 use Rattle.pa_player.specs.Tallies.{tally_at}
-use Rattle.pa_player.specs.Playing.{journals, caches, root_of, list_at, list_place, numbered_at, IsLetOut, IsMappedAs, IsPlaying}
+use Rattle.pa_player.specs.Playing.{journals, caches, root_of, list_at, list_place, numbered_at, IsLetOut, IsMappedAs, IsPlaying, rules_at}
 use Rattle.pa_player.specs.Changes.{bytes_at, put_front, seen_at}
 use Rattle.pa_player.specs.Asks.{CanGive, CanPutBack, CanUnmap, CanTakeBack}
 use Rattle.pa_player.proofs.Slots.{KeepsSlots, keeps_named}
@@ -100,7 +100,7 @@ module _ (region partitions threads : ℕ) (ls : List Line) (p : Player) (h : Is
   low : (slot_at p.table i).partition < partitions
   low = h.slots.among i inside
 
-  returns : Returns h.ps (played_at ls thread op (answers.Done (seen_at p.table i))) (seen_at p.table i)
+  returns : Returns h.ps (played_at (rules_at p) ls thread op (answers.Done (seen_at p.table i))) (seen_at p.table i)
   returns = record { step = step; answer = refl; makes = makes; returning = returning; word = has_word region partitions threads ls p h i inside }
 
   -- to its list
@@ -122,7 +122,7 @@ module _ (region partitions threads : ℕ) (ls : List Line) (p : Player) (h : Is
     out : AreOut (root_of p (slot_at p.table i).partition) (map (numbered_at table) (i ∷ list_at p thread (slot_at p.table i).partition class))
     out =
         let q = (slot_at p.table i).partition in
-        let back = return_is_done region partitions (length ls + 2) q class ls h.ps (played_at ls thread op (answers.Done (seen_at p.table i))) p.told.pools (journals p) (caches p)
+        let back = return_is_done region partitions (length ls + 2) q class ls h.ps (played_at (rules_at p) ls thread op (answers.Done (seen_at p.table i))) p.told.pools (journals p) (caches p)
         (seen_at p.table i) (so_far region partitions threads ls p h) refl returns let_out.1 in
         let here = caches_here p thread q class (omega (arith, low, h.shaped.many)) let_out.0 in
         let N : Root → List Numbered → Type 0 = λ r zs. AreOut r (returned_by (seen_at p.table i) ∷ zs) in

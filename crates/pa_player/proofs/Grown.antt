@@ -69,6 +69,7 @@ pub like_grown : (partitions threads : ℕ) (p : Player) (after news : List Slot
 like_grown partitions threads p after news shaped named g =
     let keeps = keeps_grown p.table after news g in
     record {
+      rules = refl;
       regs = λ t r. reg_kept p.table after (register_at p t r) keeps (shaped.held t r);
       held = λ k. told_kept p.table after (cell_at p k) keeps (shaped.celled k);
       cells = λ k. refl;

@@ -52,7 +52,7 @@ use Rattle.pa_player.specs.Player.{Player}
 use Rattle.pa_player.specs.Tables.{slot_at, named_at, HasNone}
 use Rattle.pa_player.specs.Tallies.{tally_at}
 use Rattle.pa_player.specs.Told.{Lists}
-use Rattle.pa_player.specs.Playing.{shown, journals, caches, root_of, reg_of, register_at, cell_at, IsLetOut, IsMappedAs, AreAllSlots, AreShaped, IsPlaying}
+use Rattle.pa_player.specs.Playing.{shown, journals, caches, root_of, reg_of, register_at, cell_at, IsLetOut, IsMappedAs, AreAllSlots, AreShaped, IsPlaying, rules_at}
 use Rattle.pa_player.specs.Changes.{registered, seen_at, tallied_more}
 use Rattle.pa_slot_effects.specs.Shown.{IsLike}
 use Rattle.pa_player.specs.Plays.{CanGoOn}
@@ -75,9 +75,9 @@ use Rattle.pa_lists.proofs.Elements.{in_one}
 
 module _ (region partitions threads : ℕ) (ls : List Line) (p : Player) (thread reg q size : ℕ) (can : CanGoOn region partitions threads ls (Do thread (ops.Alloc reg q size)) p)
     (none : HasNone (register_at p thread reg)) (fits : size ≤ 33521656) (table news : List Slot) (grown_by : IsGrown p.table table news) (few : length news ≤ 8)
-    (i : ℕ) (low : i < length table) (here : (slot_at table i).partition ≡ q) (serves : (slot_at table i).title.len - 8 ≡ usable_of size)
+    (i : ℕ) (low : i < length table) (here : (slot_at table i).partition ≡ q) (serves : (slot_at table i).title.len - 8 ≡ usable_of (rules_at p).version size)
     (act : RootAct) (outs : List SlotName) (lets_out : LetsOut act outs) (names_slots : NamesSlots act) (more : List PoolEntry) (after : Root) (plan : PoolState) (next : Cache)
-    (called : IsCalled region partitions (length ls + 2) (played_at ls thread (ops.Alloc reg q size) (answers.Made (seen_at table i) (usable_of size))) p.told.pools more (journals p) q (act ∷ []) (caches p thread)
+    (called : IsCalled region partitions (length ls + 2) (played_at (rules_at p) ls thread (ops.Alloc reg q size) (answers.Made (seen_at table i) (usable_of (rules_at p).version size))) p.told.pools more (journals p) q (act ∷ []) (caches p thread)
     next after plan) where
   abbrev pub h : IsPlaying region partitions threads ls p
   h = can.playing
@@ -253,7 +253,7 @@ module _ (region partitions threads : ℕ) (ls : List Line) (p : Player) (thread
           short = can_before.short;
         }
 
-    turn : LeadsTo threads ls h.ps thread (ops.Alloc reg q size) (answers.Made (seen_at table i) (usable_of size)) (after_made (shown grown_player) thread reg (seen_at table i))
+    turn : LeadsTo threads ls h.ps thread (ops.Alloc reg q size) (answers.Made (seen_at table i) (usable_of (rules_at p).version size)) (after_made (shown grown_player) thread reg (seen_at table i))
     turn =
         let idle = free in
         made_goes_on threads ls h.ps (shown grown_player) thread reg q size (seen_at table i) told_grown can.within.1.0 (none_holds table (register_at p thread reg) none) fits
@@ -286,6 +286,7 @@ module _ (region partitions threads : ℕ) (ls : List Line) (p : Player) (thread
 
       shows_final : IsLike (after_made (shown grown_player) thread reg (seen_at table i)) (shown final)
       shows_final = record {
+        rules = refl;
         regs = λ u k.
             regs_registered p slots_then thread reg (Own i) u k (let a = h.shaped.registers in let b = can.within.0 in omega arith) (let a = h.shaped.sixty_four thread can.within.0 in let b = can.within.1.0 in omega arith)
             ∙ with_reg_same (shown grown_player).regs (λ v j. reg_of slots_then (register_at p v j)) thread reg (reg_of table (Own i)) (reg_of slots_then (Own i)) u k
@@ -299,9 +300,9 @@ module _ (region partitions threads : ℕ) (ls : List Line) (p : Player) (thread
       }
 
       -- what the pool's entries and the root are then
-      placed_then : IsPlacedTo partitions (n + 1) (h.ps ++ played_at ls thread (ops.Alloc reg q size) (answers.Made (seen_at table i) (usable_of size)) ∷ []) pools roots (with_cache (caches p) thread next)
+      placed_then : IsPlacedTo partitions (n + 1) (h.ps ++ played_at (rules_at p) ls thread (ops.Alloc reg q size) (answers.Made (seen_at table i) (usable_of (rules_at p).version size)) ∷ []) pools roots (with_cache (caches p) thread next)
       placed_then =
-          line_extends partitions n h.ps (played_at ls thread (ops.Alloc reg q size) (answers.Made (seen_at table i) (usable_of size))) p.told.pools more (journals p) (only_in q (act ∷ [])) (caches p) next h.placed
+          line_extends partitions n h.ps (played_at (rules_at p) ls thread (ops.Alloc reg q size) (answers.Made (seen_at table i) (usable_of (rules_at p).version size))) p.told.pools more (journals p) (only_in q (act ∷ [])) (caches p) next h.placed
           called.done.deed
 
       entries_then : plan.entries ≡ length pools
@@ -310,7 +311,7 @@ module _ (region partitions threads : ℕ) (ls : List Line) (p : Player) (thread
       born_then : IsBornBelow plan.entries after
       born_then =
           let left = journal_leaves pools (roots q) (placed_then.journals q) in
-          let below = next_low region partitions (n + 1) (h.ps ++ played_at ls thread (ops.Alloc reg q size) (answers.Made (seen_at table i) (usable_of size)) ∷ []) pools roots (with_cache (caches p) thread next) placed_then q in
+          let below = next_low region partitions (n + 1) (h.ps ++ played_at (rules_at p) ls thread (ops.Alloc reg q size) (answers.Made (seen_at table i) (usable_of (rules_at p).version size)) ∷ []) pools roots (with_cache (caches p) thread next) placed_then q in
           let e = entries_then in
           subst (λ r. IsBornBelow plan.entries r) called.root (born_more (least_after_all 0 (roots q)) plan.entries (root_at pools roots q) (omega arith) left.born)
 
@@ -319,7 +320,7 @@ module _ (region partitions threads : ℕ) (ls : List Line) (p : Player) (thread
           let before : p.heap.pool.entries ≡ length p.told.pools = ap (λ (z : PoolState). z.entries) h.plan ∙ pool_is_sound.counted region p.told.pools in
           let e = entries_then in
           let l = length-append p.told.pools more in
-          heap_called region partitions n (played_at ls thread (ops.Alloc reg q size) (answers.Made (seen_at table i) (usable_of size))) p final more q (act ∷ []) (caches p thread) next after plan called h.roots
+          heap_called region partitions n (played_at (rules_at p) ls thread (ops.Alloc reg q size) (answers.Made (seen_at table i) (usable_of (rules_at p).version size))) p final more q (act ∷ []) (caches p thread) next after plan called h.roots
           (ap (λ rs. slice_index_or rs q new_root) heap_roots ∙ root_here p.heap.roots q after roots_low)
           (λ k ne. ap (λ rs. slice_index_or rs k new_root) heap_roots ∙ root_there p.heap.roots q k after ne) heap_pool turns (omega arith) born_then h.bounded.born
 
@@ -357,7 +358,7 @@ module _ (region partitions threads : ℕ) (ls : List Line) (p : Player) (thread
         abbrev mark : Mark
         mark = mark_at n (seen_at table i) (Some steps.Issue)
 
-        pub issued_played : IsPlayed region partitions threads ls p final can.playing thread (ops.Alloc reg q size) (answers.Made (seen_at table i) (usable_of size))
+        pub issued_played : IsPlayed region partitions threads ls p final can.playing thread (ops.Alloc reg q size) (answers.Made (seen_at table i) (usable_of (rules_at p).version size))
         issued_played =
             let home = home_at table i issued_slot grown_by.apart low same in
             let four = h.shaped.four in

@@ -7,7 +7,7 @@ use Rattle.pa_slot.specs.declared.title.Title.{Title}
 use Rattle.pa_slot.specs.declared.word.SlotName.{SlotName}
 use Rattle.pa_slot.specs.declared.word.Step.TheVariants as steps
 use Rattle.pa_slot.specs.Count.{stepped}
-use Rattle.pa_direct.specs.Shapes.{shape_of}
+use Rattle.pa_direct.specs.Shapes.{shape_of, IsDirectSize}
 use Rattle.pa_trace.specs.declared.script.Op.TheVariants as ops
 use Rattle.pa_trace.specs.declared.script.Line.{Line}
 use Rattle.pa_trace.specs.declared.script.Line.TheVariants.{Do}
@@ -22,7 +22,6 @@ use Rattle.pa_record.specs.Spans.{name_of}
 use Rattle.pa_record.specs.Root.{Root, Filled, mapped}
 use Rattle.pa_lists.proofs.Members.{not_in_none, first_in, in_cases}
 use Rattle.pa_record.proofs.PoolSteps.{pool_is_sound}
-use Rattle.pa_rules.specs.Roots.{AsksForMap}
 use Rattle.pa_rules.specs.Holders.{Out, Move}
 use Rattle.pa_rules.specs.Sizes.{usable_of}
 use Rattle.pa_rules.proofs.Sizes.{sizes_fit}
@@ -37,7 +36,7 @@ use Rattle.pa_place.specs.Placed.{Maps, MapDid, map_in}
 use Rattle.pa_player.specs.declared.table.Slot.{Slot}
 use Rattle.pa_player.specs.Player.{Player}
 use Rattle.pa_player.specs.Tables.{no_slot, slot_at, named_at, new_slot, HasNone, NoneNamed}
-use Rattle.pa_player.specs.Playing.{journals, caches, numbered_at, root_of, register_at, IsLetOut, AreShaped, IsPlaying}
+use Rattle.pa_player.specs.Playing.{journals, caches, numbered_at, root_of, register_at, IsLetOut, AreShaped, IsPlaying, rules_at}
 use Rattle.pa_player.specs.Changes.{acted, pooled, placed_in, issued, made_at, seen_at, IsMapPlaced, IsMapIssued}
 use Rattle.pa_player.specs.Plays.{CanGoOn, Plays, PlaysAfter}
 use Rattle.pa_player.proofs.Slots.{IsPlaceOf, named_home, home_place}
@@ -83,7 +82,7 @@ map_of len before next r after titles (Some asked) entry title (Some first, ask,
     some_same : (a b : ℕ) → Some a ≡ Some b → a ≡ b
     some_same a b e = cc
 
-module _ (p : Player) (thread reg q size : ℕ) (none : HasNone (register_at p thread reg)) (asks : AsksForMap (ops.Alloc reg q size) q size) (mapped_to : Player) (i : ℕ)
+module _ (p : Player) (thread reg q size : ℕ) (none : HasNone (register_at p thread reg)) (direct : IsDirectSize size) (mapped_to : Player) (i : ℕ)
     (m : IsMapPlaced q (shape_of size).slot (shape_of size).supers p mapped_to i) (region partitions threads : ℕ) (ls : List Line)
     (can : CanGoOn region partitions threads ls (Do thread (ops.Alloc reg q size)) p) where
   abbrev h : IsPlaying region partitions threads ls p
@@ -141,19 +140,19 @@ module _ (p : Player) (thread reg q size : ℕ) (none : HasNone (register_at p t
   slot_is : slot_at m.table i ≡ new
   slot_is = ap (λ z. slot_at z i) is_new.0 ∙ get_or_push p.table new no_slot i (sym is_new.1)
 
-  serves : (slot_at m.table i).title.len - 8 ≡ usable_of size
-  serves = ap (λ (z : Slot). z.title.len - 8) slot_is ∙ ap (λ k. k - 8) (is_map.long ∙ sym (sizes_fit.direct size asks.2))
+  serves : (slot_at m.table i).title.len - 8 ≡ usable_of (rules_at p).version size
+  serves = ap (λ (z : Slot). z.title.len - 8) slot_is ∙ ap (λ k. k - 8) (is_map.long ∙ sym (sizes_fit.direct (rules_at p).version size direct))
 
-  called : IsCalled region partitions n (played_at ls thread (ops.Alloc reg q size) (answers.Made (seen_at m.table i) (usable_of size))) p.told.pools more (journals p) q (act ∷ []) (caches p thread) (caches p thread)
+  called : IsCalled region partitions n (played_at (rules_at p) ls thread (ops.Alloc reg q size) (answers.Made (seen_at m.table i) (usable_of (rules_at p).version size))) p.told.pools more (journals p) q (act ∷ []) (caches p thread) (caches p thread)
       m.after m.plan
   called =
-      let x = played_at ls thread (ops.Alloc reg q size) (answers.Made (seen_at m.table i) (usable_of size)) in
+      let x = played_at (rules_at p) ls thread (ops.Alloc reg q size) (answers.Made (seen_at m.table i) (usable_of (rules_at p).version size)) in
       let did : MapDid (shape_of size).slot (pool_at region p.told.pools) m.plan (root_at p.told.pools (journals p) q) m.after m.placed =
       subst (λ s. MapDid (shape_of size).slot (pool_at region p.told.pools) m.plan s m.after m.placed) (h.roots q)
       (subst (λ z. MapDid (shape_of size).slot z m.plan (root_of p q) m.after m.placed) h.plan m.did) in
       let C : RootAct → Type 0 = λ a. IsCalled region partitions n x p.told.pools more (journals p) q (a ∷ []) (caches p thread) (caches p thread) m.after m.plan in
       subst C (ap (λ s. Map m.asked s (shape_of size).slot) place.1 ∙ ap (λ k. Map m.asked (name_of title) k) (sym is_map.long))
-      (map_is_done region partitions n q size (usable_of size) m.asked h.ps x p.told.pools (journals p) (caches p) (seen_at m.table i) title m.plan m.after m.placed h.placed refl refl asks inside did m.asks m.some (sym place.1))
+      (map_is_done region partitions n q size (usable_of (rules_at p).version size) m.asked h.ps x p.told.pools (journals p) (caches p) (seen_at m.table i) title m.plan m.after m.placed h.placed refl refl (reg, refl, direct) inside did m.asks m.some (sym place.1))
 
   lets_out : LetsOut act (name_of title ∷ [])
   lets_out = record {
@@ -214,10 +213,10 @@ module _ (p : Player) (thread reg q size : ℕ) (none : HasNone (register_at p t
       let apart : j ≡ i → ⊥ = λ e. omega arith in
       ap (λ (z : Slot). numbered_at (z ∷ []) 0) (get_or-set_other m.table i j issued_it no_slot apart ∙ old_at p.table m.table (new ∷ []) grown_by j there))
 
-  pub map_played : IsPlayed region partitions threads ls p (issued thread reg i base) can.playing thread (ops.Alloc reg q size) (answers.Made (seen_at m.table i) (usable_of size))
+  pub map_played : IsPlayed region partitions threads ls p (issued thread reg i base) can.playing thread (ops.Alloc reg q size) (answers.Made (seen_at m.table i) (usable_of (rules_at p).version size))
   map_played =
       let F : List Slot → Player = λ slots. record (issued thread reg i base) { table = slots } in
-      let made = issued_played region partitions threads ls p thread reg q size can none asks.2.1 m.table (new ∷ []) grown_by (omega arith) i place.0 (ap (λ (z : Slot). z.partition) slot_is) serves
+      let made = issued_played region partitions threads ls p thread reg q size can none direct.1 m.table (new ∷ []) grown_by (omega arith) i place.0 (ap (λ (z : Slot). z.partition) slot_is) serves
       act (name_of title ∷ []) lets_out tt more m.after m.plan (caches p thread) called
       (subst (λ s. Contains (name_of title ∷ []) s) (sym place.1) (first_in (name_of title) []))
       (only_new (λ x. Contains (name_of title ∷ []) (name_of x.title)) (first_in (name_of title) []))
@@ -240,19 +239,19 @@ module _ (p : Player) (thread reg q size : ℕ) (none : HasNone (register_at p t
         bytes = λ k fit. (h.tallied k fit).bytes ∙ sym (cached_bytes_same (caches p) (caches (record p { table = set m.table i issued_it })) threads k lists_same);
       })
       (λ t k c. lists_same t k c ∙ cache_same (caches p) thread t k c) in
-      subst (λ slots. IsPlayed region partitions threads ls p (F slots) can.playing thread (ops.Alloc reg q size) (answers.Made (seen_at m.table i) (usable_of size)))
+      subst (λ slots. IsPlayed region partitions threads ls p (F slots) can.playing thread (ops.Alloc reg q size) (answers.Made (seen_at m.table i) (usable_of (rules_at p).version size)))
       (sym (set_both m.table i 0 (stepped steps.Issue (slot_at m.table i).word.0) place.0)) made
 
 -- a direct map is made and issued
-pub map_plays : (p r : Player) (thread reg q size : ℕ) (answer : Answer) → HasNone (register_at p thread reg) → AsksForMap (ops.Alloc reg q size) q size
+pub map_plays : (p r : Player) (thread reg q size : ℕ) (answer : Answer) → HasNone (register_at p thread reg) → IsDirectSize size
     → IsMapIssued thread reg q (shape_of size).slot (shape_of size).supers p r answer → Plays p thread (ops.Alloc reg q size) r answer
-map_plays p r thread reg q size answer none asks u region partitions threads ls can =
+map_plays p r thread reg q size answer none direct u region partitions threads ls can =
     let m = u.placed in
-    let played = map_played p thread reg q size none asks u.mapped u.place m region partitions threads ls can in
-    let said : answer ≡ answers.Made (seen_at m.table u.place) (usable_of size) =
-    u.says ∙ ap (λ z. made_at z u.place) m.acted ∙ ap (λ k. answers.Made (seen_at m.table u.place) k) (serves p thread reg q size none asks u.mapped u.place m region partitions threads ls can) in
-    let after : r ≡ issued thread reg u.place (base p thread reg q size none asks u.mapped u.place m region partitions threads ls can) = u.issued ∙ ap (issued thread reg u.place) m.acted in
+    let played = map_played p thread reg q size none direct u.mapped u.place m region partitions threads ls can in
+    let said : answer ≡ answers.Made (seen_at m.table u.place) (usable_of (rules_at p).version size) =
+    u.says ∙ ap (λ z. made_at z u.place) m.acted ∙ ap (λ k. answers.Made (seen_at m.table u.place) k) (serves p thread reg q size none direct u.mapped u.place m region partitions threads ls can) in
+    let after : r ≡ issued thread reg u.place (base p thread reg q size none direct u.mapped u.place m region partitions threads ls can) = u.issued ∙ ap (issued thread reg u.place) m.acted in
     subst (λ a. PlaysAfter region partitions threads ls p thread (ops.Alloc reg q size) r a) (sym said)
-    (subst (λ z. PlaysAfter region partitions threads ls p thread (ops.Alloc reg q size) z (answers.Made (seen_at m.table u.place) (usable_of size))) (sym after)
-    (playing_more region partitions threads ls p (issued thread reg u.place (base p thread reg q size none asks u.mapped u.place m region partitions threads ls can)) can.playing thread (ops.Alloc reg q size)
-    (answers.Made (seen_at m.table u.place) (usable_of size)) can.short played))
+    (subst (λ z. PlaysAfter region partitions threads ls p thread (ops.Alloc reg q size) z (answers.Made (seen_at m.table u.place) (usable_of (rules_at p).version size))) (sym after)
+    (playing_more region partitions threads ls p (issued thread reg u.place (base p thread reg q size none direct u.mapped u.place m region partitions threads ls can)) can.playing thread (ops.Alloc reg q size)
+    (answers.Made (seen_at m.table u.place) (usable_of (rules_at p).version size)) can.short played))

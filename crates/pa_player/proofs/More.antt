@@ -66,7 +66,7 @@ one_goes_on before after (inr (e, more)) = (e ∷ [], more)
 module _ (region partitions threads : ℕ) (ls : List Line) (p q : Player) (h : IsPlaying region partitions threads ls p) (thread : ℕ) (op : Op) (answer : Answer)
     (short : length ls < 65535) (m : IsPlayed region partitions threads ls p q h thread op answer) where
   abbrev x : Played
-  x = played_at ls thread op answer
+  x = played_at m.after.rules ls thread op answer
 
   longer : length (ls ++ Do thread op ∷ []) ≡ length ls + 1
   longer = length_push ls (Do thread op)

@@ -39,7 +39,7 @@ use Rattle.pa_slot_effects.proofs.Looking.{none_goes_on, none_mark}
 use Rattle.pa_player.specs.Player.{Player}
 use Rattle.pa_player.specs.Tables.{slot_at}
 use Rattle.pa_player.specs.Tallies.{tally_at}
-use Rattle.pa_player.specs.Playing.{shown, journals, caches, root_of, numbered_at, list_at, IsLetOut, AreShaped, IsPlaying}
+use Rattle.pa_player.specs.Playing.{shown, journals, caches, root_of, numbered_at, list_at, IsLetOut, AreShaped, IsPlaying, rules_at}
 use Rattle.pa_player.specs.Changes.{given_from, purged_with, purged_from}
 use Rattle.pa_player.specs.Plays.{CanGoOn, Plays, PlaysAfter}
 use Rattle.pa_player.proofs.Sparse.{all_acts, all_in_lists}
@@ -220,11 +220,11 @@ module _ (region partitions threads : ℕ) (ls : List Line) (p : Player) (thread
       ∙ ap (λ t. record r { table = p.table; registers = p.registers; cells = p.cells; live = p.live; quarantined = p.quarantined; partitions = t }) g.many
       ∙ ap (λ t. record r { table = p.table; registers = p.registers; cells = p.cells; live = p.live; quarantined = p.quarantined; partitions = p.partitions; phase = t }) g.phase
 
-  done : IsDone region partitions n (played_at ls thread ops.Purge (answers.Purged slots)) p.told.pools [] (journals p) acts (caches p thread) (λ q c. [])
+  done : IsDone region partitions n (played_at (rules_at p) ls thread ops.Purge (answers.Purged slots)) p.told.pools [] (journals p) acts (caches p thread) (λ q c. [])
       × ((q : ℕ) → q < partitions → root_at p.told.pools (grown (journals p) n acts) q ≡ purged (all_returned (names (all_of (caches p thread q) 0 59)) (root_at p.told.pools (journals p) q)))
   done =
       let (made, roots) =
-      purge_is_done region partitions n ls h.ps (played_at ls thread ops.Purge (answers.Purged slots)) p.told.pools (journals p) (caches p) (so_far region partitions threads ls p h) refl refl refl in
+      purge_is_done region partitions n ls h.ps (played_at (rules_at p) ls thread ops.Purge (answers.Purged slots)) p.told.pools (journals p) (caches p) (so_far region partitions threads ls p h) refl refl refl in
       (made, λ q low. roots q low ∙ ap (λ xs. purged (all_returned (names xs) (root_at p.told.pools (journals p) q))) (all_in_lists p thread q))
 
   acts_in : (k : ℕ) → k < partitions → acts k ≡ purge_acts (caches p thread k) 0 59
@@ -322,7 +322,7 @@ module _ (region partitions threads : ℕ) (ls : List Line) (p : Player) (thread
     | inr ne ↦ a.kept t k c (λ e _ _. ne e) ∙ sym (with_cache_other (caches p) thread (λ q d. []) t k c ne)
   ]
 
-  silent : mark_of (played_at ls thread ops.Purge (answers.Purged slots)) ≡ None
+  silent : mark_of (played_at (rules_at p) ls thread ops.Purge (answers.Purged slots)) ≡ None
   silent = none_mark n ops.Purge (answers.Purged slots) tt
 
   none_some : (m : Mark) → None ≡ Some m → ⊥

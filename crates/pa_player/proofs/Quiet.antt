@@ -37,7 +37,7 @@ use Rattle.pa_player.specs.declared.table.Slot.{Slot}
 use Rattle.pa_player.specs.Player.{Player}
 use Rattle.pa_player.specs.Tables.{Points}
 use Rattle.pa_player.specs.Tallies.{tally_at}
-use Rattle.pa_player.specs.Playing.{shown, journals, caches, register_at, root_of, home_in, len_in, AreAllSlots, AreShaped, IsPlaying}
+use Rattle.pa_player.specs.Playing.{shown, journals, caches, register_at, root_of, home_in, len_in, AreAllSlots, AreShaped, IsPlaying, rules_at}
 use Rattle.pa_player.specs.Changes.{seen_at}
 use Rattle.pa_player.specs.Plays.{CanGoOn, Plays}
 use Rattle.pa_player.specs.Told.{history_in}
@@ -63,7 +63,7 @@ pub record IsStill (p q : Player) : Type 0 where
 pub record IsQuiet (region partitions threads : ℕ) (ls : List Line) (p q : Player) (h : IsPlaying region partitions threads ls p) (thread : ℕ) (op : Op) (answer : Answer) : Type 0 where
   pub next : Cache
   pub after : Shown
-  pub done : IsDone region partitions (length ls + 2) (played_at ls thread op answer) p.told.pools [] (journals p) no_acts (caches p thread) next
+  pub done : IsDone region partitions (length ls + 2) (played_at after.rules ls thread op answer) p.told.pools [] (journals p) no_acts (caches p thread) next
   pub turn : LeadsTo threads ls h.ps thread op answer after
   pub like : IsLike after (shown q)
   pub lists : (t k class : ℕ) → caches q t k class ≡ with_cache (caches p) thread next t k class
@@ -72,8 +72,8 @@ pub record IsQuiet (region partitions threads : ℕ) (ls : List Line) (p q : Pla
   pub few : length q.table ≤ length p.table + 8
   pub slots : AreAllSlots partitions q.table p.told.pools (journals p) (root_of p)
   pub shaped : AreShaped partitions threads q
-  pub marked : (m : Mark) → mark_of (played_at ls thread op answer) ≡ Some m → (i : ℕ) × IsPlaceOf q.table m.slot i
-  pub counts : CountsMore partitions threads p q (mark_of (played_at ls thread op answer))
+  pub marked : (m : Mark) → mark_of (played_at after.rules ls thread op answer) ≡ Some m → (i : ℕ) × IsPlaceOf q.table m.slot i
+  pub counts : CountsMore partitions threads p q (mark_of (played_at after.rules ls thread op answer))
 
 module _ (region partitions threads : ℕ) (ls : List Line) (p q : Player) (h : IsPlaying region partitions threads ls p) (thread : ℕ) (op : Op) (answer : Answer)
     (m : IsQuiet region partitions threads ls p q h thread op answer) where
@@ -169,7 +169,7 @@ cache_same all thread t k class = elim (cases_eq t thread) [
 ]
 
 pub like_same : (a : Shown) → IsLike a a
-like_same a = record { regs = λ t r. refl; held = λ k. refl; cells = λ k. refl; word = λ s. refl; content = λ s h. refl; usable = λ s h. refl }
+like_same a = record { rules = refl; regs = λ t r. refl; held = λ k. refl; cells = λ k. refl; word = λ s. refl; content = λ s h. refl; usable = λ s h. refl }
 
 pub still_same : (p : Player) → IsStill p p
 still_same p = record {
@@ -195,13 +195,13 @@ can_play region partitions threads ls thread op p can = record {
 
 -- the player stays, if the mark is a look at a slot of the table, or none
 same_quiet : (region partitions threads : ℕ) (ls : List Line) (p : Player) (h : IsPlaying region partitions threads ls p) (thread : ℕ) (op : Op) (answer : Answer) → KeepsLists op answer
-    → LeadsTo threads ls h.ps thread op answer (shown p) → AddsNone (mark_of (played_at ls thread op answer))
-    → ((m : Mark) → mark_of (played_at ls thread op answer) ≡ Some m → (i : ℕ) × IsPlaceOf p.table m.slot i)
+    → LeadsTo threads ls h.ps thread op answer (shown p) → AddsNone (mark_of (played_at (rules_at p) ls thread op answer))
+    → ((m : Mark) → mark_of (played_at (rules_at p) ls thread op answer) ≡ Some m → (i : ℕ) × IsPlaceOf p.table m.slot i)
     → IsQuiet region partitions threads ls p p h thread op answer
 same_quiet region partitions threads ls p h thread op answer keeps turn adds marked = record {
   next = caches p thread;
   after = shown p;
-  done = nothing_moves region partitions (length ls + 2) h.ps (played_at ls thread op answer) p.told.pools (journals p) (caches p) h.placed refl keeps;
+  done = nothing_moves region partitions (length ls + 2) h.ps (played_at (rules_at p) ls thread op answer) p.told.pools (journals p) (caches p) h.placed refl keeps;
   turn = turn;
   like = like_same (shown p);
   lists = λ t k class. cache_same (caches p) thread t k class;
@@ -211,7 +211,7 @@ same_quiet region partitions threads ls p h thread op answer keeps turn adds mar
   slots = h.slots;
   shaped = h.shaped;
   marked = marked;
-  counts = counts_still region partitions threads ls p p (mark_of (played_at ls thread op answer)) h adds refl refl refl (λ t k class. refl);
+  counts = counts_still region partitions threads ls p p (mark_of (played_at (rules_at p) ls thread op answer)) h adds refl refl refl (λ t k class. refl);
 }
 
 pub none_not_some : (m : Mark) → None ≡ Some m → ⊥
@@ -219,7 +219,7 @@ none_not_some m e = cc
 
 -- an answer that reports no slot, without an act
 pub none_plays_by : (p : Player) (thread : ℕ) (op : Op) (answer : Answer) → TellsNone answer → KeepsLists op answer → ((cell reg : ℕ) → op ≡ ops.Swap cell reg → ⊥)
-    → ((region partitions threads : ℕ) (ls : List Line) → IsPlaying region partitions threads ls p → Row (facts_of (shown p).usable (shown p).cells) op ((shown p).regs thread) answer ((shown p).regs thread))
+    → ((region partitions threads : ℕ) (ls : List Line) → IsPlaying region partitions threads ls p → Row (facts_of (rules_at p).version (shown p).usable (shown p).cells) op ((shown p).regs thread) answer ((shown p).regs thread))
     → Plays p thread op p answer
 none_plays_by p thread op answer none keeps other row = quiet_plays p thread op p answer (λ region partitions threads ls can.
     let silent = none_mark (length ls + 2) op answer none in
@@ -229,7 +229,7 @@ none_plays_by p thread op answer none keeps other row = quiet_plays p thread op 
     (λ m e. absurd (none_not_some m (sym silent ∙ e))))
 
 pub none_plays : (p : Player) (thread : ℕ) (op : Op) (answer : Answer) → TellsNone answer → KeepsLists op answer → ((cell reg : ℕ) → op ≡ ops.Swap cell reg → ⊥)
-    → Row (facts_of (shown p).usable (shown p).cells) op ((shown p).regs thread) answer ((shown p).regs thread) → Plays p thread op p answer
+    → Row (facts_of (rules_at p).version (shown p).usable (shown p).cells) op ((shown p).regs thread) answer ((shown p).regs thread) → Plays p thread op p answer
 none_plays p thread op answer none keeps other row = none_plays_by p thread op answer none keeps other (λ region partitions threads ls h. row)
 
 -- a look at the slot in a place, to which a register of the op has a handle
@@ -239,7 +239,7 @@ look_adds line seen = record { issued = λ w. refl; freed = λ w. refl; entered 
 pub look_plays_by : (p : Player) (thread reg i : ℕ) (op : Op) (answer : Answer) → ((partitions : ℕ) → IsOpWithin partitions op → reg < 64) → Points (register_at p thread reg) i
     → KeepsLists op answer → ((cell r : ℕ) → op ≡ ops.Swap cell r → ⊥)
     → ((region partitions threads : ℕ) (ls : List Line) → IsPlaying region partitions threads ls p
-    → Looks (shown p) (seen_at p.table i) answer × Row (facts_of (shown p).usable (shown p).cells) op ((shown p).regs thread) answer ((shown p).regs thread))
+    → Looks (shown p) (seen_at p.table i) answer × Row (facts_of (rules_at p).version (shown p).usable (shown p).cells) op ((shown p).regs thread) answer ((shown p).regs thread))
     → Plays p thread op p answer
 look_plays_by p thread reg i op answer small points keeps other told_by = quiet_plays p thread op p answer (λ region partitions threads ls can.
     let seen = seen_at p.table i in
@@ -254,5 +254,5 @@ look_plays_by p thread reg i op answer small points keeps other told_by = quiet_
 
 pub look_plays : (p : Player) (thread reg i : ℕ) (op : Op) (answer : Answer) → ((partitions : ℕ) → IsOpWithin partitions op → reg < 64) → Points (register_at p thread reg) i
     → Looks (shown p) (seen_at p.table i) answer → KeepsLists op answer → ((cell r : ℕ) → op ≡ ops.Swap cell r → ⊥)
-    → Row (facts_of (shown p).usable (shown p).cells) op ((shown p).regs thread) answer ((shown p).regs thread) → Plays p thread op p answer
+    → Row (facts_of (rules_at p).version (shown p).usable (shown p).cells) op ((shown p).regs thread) answer ((shown p).regs thread) → Plays p thread op p answer
 look_plays p thread reg i op answer small points looks keeps other row = look_plays_by p thread reg i op answer small points keeps other (λ region partitions threads ls h. (looks, row))

@@ -33,7 +33,7 @@ use Rattle.pa_place.specs.Placed.{FillDid}
 use Rattle.pa_player.specs.declared.table.Slot.{Slot}
 use Rattle.pa_player.specs.Player.{Player}
 use Rattle.pa_player.specs.Tables.{slot_at, named_at, HasNone, NoneNamed}
-use Rattle.pa_player.specs.Playing.{journals, caches, numbered_at, list_place, root_of, register_at, IsLetOut, IsPlaying}
+use Rattle.pa_player.specs.Playing.{journals, caches, numbered_at, list_place, root_of, register_at, IsLetOut, IsPlaying, rules_at}
 use Rattle.pa_player.specs.Changes.{acted, placed_in, list_in, seen_at, ArePut, IsFilled}
 use Rattle.pa_player.specs.Plays.{CanGoOn}
 use Rattle.pa_player.proofs.OneList.{caches_here, place_below}
@@ -195,8 +195,8 @@ module _ (p : Player) (thread reg q size class : ℕ) (none : HasNone (register_
         some_same : (a b : ℕ) → Some a ≡ Some b → a ≡ b
         some_same a b e = cc
 
-    pub called : IsCalled region partitions n (played_at ls thread (ops.Alloc reg q size) (answers.Made (seen_at table i) (usable_of size))) p.told.pools more (journals p) q (act ∷ []) (caches p thread)
+    pub called : IsCalled region partitions n (played_at (rules_at p) ls thread (ops.Alloc reg q size) (answers.Made (seen_at table i) (usable_of (rules_at p).version size))) p.told.pools more (journals p) q (act ∷ []) (caches p thread)
         (with_list (caches p thread) q class (map (numbered_at table) rest)) f.after f.plan
     called =
-        fill_is_done region partitions n q class (usable_of size) h.ps (played_at ls thread (ops.Alloc reg q size) (answers.Made (seen_at table i) (usable_of size))) p.told.pools (journals p) (caches p) (seen_at table i)
+        fill_is_done region partitions n q class (usable_of (rules_at p).version size) h.ps (played_at (rules_at p) ls thread (ops.Alloc reg q size) (answers.Made (seen_at table i) (usable_of (rules_at p).version size))) p.told.pools (journals p) (caches p) (seen_at table i)
         f.slots (map (numbered_at table) rest) f.plan f.after f.placed h.placed refl refl (reg, size, refl, of) inside no_cached did u.named has_numbers numbers

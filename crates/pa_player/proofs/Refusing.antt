@@ -1,13 +1,14 @@
 -- An allocation for which there is no room.
-use Rattle.std.proofs.Common.{◌≡◌, ℕ, ◌+◌, ◌<◌, ◌≤◌, List, [], ◌∷◌, ◌++◌, map, length, Option, Some, None, refl, sym, ap, ◌∙◌, subst, arith, length-set, inl, inr, length-append}
+use Rattle.std.proofs.Common.{◌≡◌, ℕ, ◌+◌, ◌<◌, ◌≤◌, max, List, [], ◌∷◌, ◌++◌, map, length, Option, Some, None, refl, sym, ap, ◌∙◌, subst, arith, length-set, inl, inr, length-append}
 use Rattle.std.specs.Prelude.{Contains}
 use Rattle.std.proofs.lemmas.Bool.{cases_eq}
 use Rattle.pa_slot.specs.Run.{Mark}
 use Rattle.pa_buckets.specs.Bands.{fill_of}
-use Rattle.pa_direct.specs.Shapes.{shape_of}
+use Rattle.pa_direct.specs.Shapes.{shape_of, IsDirectSize}
 use Rattle.pa_trace.specs.declared.script.Op.TheVariants as ops
 use Rattle.pa_trace.specs.declared.script.Line.{Line}
 use Rattle.pa_trace.specs.declared.script.Line.TheVariants.{Do}
+use Rattle.pa_buckets.specs.Classes.{IsClassOf}
 use Rattle.pa_record.specs.declared.entry.Answer.TheVariants as answers
 use Rattle.pa_record.specs.declared.pool.PoolEntry.{PoolEntry}
 use Rattle.pa_record.specs.declared.pool.PoolAct.TheVariants as pool
@@ -20,7 +21,6 @@ use Rattle.pa_record.specs.Sound.{IsBornBelow}
 use Rattle.pa_lists.proofs.Members.{not_in_none}
 use Rattle.pa_record.proofs.Mapping.{born_more}
 use Rattle.pa_record.proofs.PoolSteps.{pool_is_sound}
-use Rattle.pa_rules.specs.Roots.{AsksForClass, AsksForMap}
 use Rattle.pa_rules.specs.Holders.{moves_by}
 use Rattle.pa_rules.specs.Played.{mark_of}
 use Rattle.pa_heap_effects.specs.Deeds.{grown, root_at, root_after}
@@ -36,7 +36,7 @@ use Rattle.pa_slot_effects.proofs.Looking.{none_goes_on, none_mark}
 use Rattle.pa_place.specs.Placed.{FillDid, MapDid}
 use Rattle.pa_player.specs.Player.{Player}
 use Rattle.pa_player.specs.Tables.{slot_at, HasNone}
-use Rattle.pa_player.specs.Playing.{shown, journals, caches, root_of, numbered_at, register_at, list_place, IsMappedAs, IsPlaying}
+use Rattle.pa_player.specs.Playing.{shown, journals, caches, root_of, numbered_at, register_at, list_place, IsMappedAs, IsPlaying, rules_at}
 use Rattle.pa_player.specs.Changes.{acted, pooled, placed_in, list_in, IsUnfilled, IsMapRefused}
 use Rattle.pa_player.specs.Plays.{CanGoOn, Plays}
 use Rattle.pa_player.proofs.Answers.{request_row}
@@ -70,7 +70,7 @@ module _ (region partitions threads : ℕ) (ls : List Line) (p : Player) (thread
   abbrev final : Player
   final = acted q (Full class asked ∷ []) (pooled q (pool.Take count None) (placed_in q after plan p))
 
-  module _ (called : IsCalled region partitions n (played_at ls thread (ops.Alloc reg q size) (answers.Full entry)) p.told.pools made (journals p) q (act ∷ []) (caches p thread) (caches p thread) after plan) where
+  module _ (called : IsCalled region partitions n (played_at (rules_at p) ls thread (ops.Alloc reg q size) (answers.Full entry)) p.told.pools made (journals p) q (act ∷ []) (caches p thread) (caches p thread) after plan) where
     low : q < partitions
     low = can.within.1.1
 
@@ -78,7 +78,7 @@ module _ (region partitions threads : ℕ) (ls : List Line) (p : Player) (thread
     same_root : after ≡ root_of p q
     same_root =
         sym called.root
-        ∙ line_replays.roots partitions n h.ps (played_at ls thread (ops.Alloc reg q size) (answers.Full entry)) p.told.pools made (journals p) (only_in q (act ∷ [])) (caches p) (caches p thread) q
+        ∙ line_replays.roots partitions n h.ps (played_at (rules_at p) ls thread (ops.Alloc reg q size) (answers.Full entry)) p.told.pools made (journals p) (only_in q (act ∷ [])) (caches p) (caches p thread) q
         h.placed called.done.deed
         ∙ ap (λ acts. root_after (p.told.pools ++ made) acts (root_at p.told.pools (journals p) q)) (only_here q (act ∷ []))
         ∙ sym (h.roots q)
@@ -119,7 +119,7 @@ module _ (region partitions threads : ℕ) (ls : List Line) (p : Player) (thread
 
     heap_then : HasHeap region p final n made (only_in q (act ∷ []))
     heap_then =
-        heap_called region partitions n (played_at ls thread (ops.Alloc reg q size) (answers.Full entry)) p final made q (act ∷ []) (caches p thread) (caches p thread) after plan called h.roots root_then roots_there refl
+        heap_called region partitions n (played_at (rules_at p) ls thread (ops.Alloc reg q size) (answers.Full entry)) p final made q (act ∷ []) (caches p thread) (caches p thread) after plan called h.roots root_then roots_there refl
         (let e : after.turn ≡ (root_of p q).turn = ap (λ (r : Root). r.turn) same_root in omega arith)
         (let a = entries_then in let b = entries_here in omega arith)
         (subst (λ r. IsBornBelow plan.entries r) (sym same_root)
@@ -129,7 +129,7 @@ module _ (region partitions threads : ℕ) (ls : List Line) (p : Player) (thread
     no_moves : AllComeBack p.table (act ∷ [])
     no_moves a among line m moves = absurd (not_in_none m (subst (λ z. Contains (moves_by line z) m) (sym (in_one act a among)) moves))
 
-    silent : mark_of (played_at ls thread (ops.Alloc reg q size) (answers.Full entry)) ≡ None
+    silent : mark_of (played_at (rules_at p) ls thread (ops.Alloc reg q size) (answers.Full entry)) ≡ None
     silent = none_mark n (ops.Alloc reg q size) (answers.Full entry) tt
 
     pub refused_played : IsPlayed region partitions threads ls p final can.playing thread (ops.Alloc reg q size) (answers.Full entry)
@@ -140,7 +140,7 @@ module _ (region partitions threads : ℕ) (ls : List Line) (p : Player) (thread
       after = shown p;
       done = called.done;
       turn = none_goes_on threads ls h.ps (shown p) thread (ops.Alloc reg q size) (answers.Full entry) (can_play region partitions threads ls thread (ops.Alloc reg q size) p can) tt (λ cell k e. cc)
-          (request_row p.table (register_at p thread reg) (facts_of (shown p).usable (shown p).cells) ((shown p).regs thread) reg size
+          (request_row p.table (register_at p thread reg) (facts_of (rules_at p).version (shown p).usable (shown p).cells) ((shown p).regs thread) reg size
           (answers.Full entry) none (inr (inr (fits, entry, refl, λ k. refl))));
       like = like_same (shown p);
       lists = λ t k c. cache_same (caches p) thread t k c;
@@ -158,37 +158,37 @@ module _ (region partitions threads : ℕ) (ls : List Line) (p : Player) (thread
             (length-set p.told.journals q _) refl;
         marked = λ m e. absurd (none_some m (sym silent ∙ e));
       };
-      counts = counts_still region partitions threads ls p final (mark_of (played_at ls thread (ops.Alloc reg q size) (answers.Full entry))) h (subst AddsNone (sym silent) none_adds) refl refl refl (λ t k c. refl);
+      counts = counts_still region partitions threads ls p final (mark_of (played_at (rules_at p) ls thread (ops.Alloc reg q size) (answers.Full entry))) h (subst AddsNone (sym silent) none_adds) refl refl refl (λ t k c. refl);
     }
 
 -- no room for a slot of a class, whose list is empty
-pub full_plays : (p r : Player) (thread reg q size class entry : ℕ) → HasNone (register_at p thread reg) → size ≤ 33521656 → AsksForClass (ops.Alloc reg q size) q class → class < 59
+pub full_plays : (p r : Player) (thread reg q size class entry : ℕ) → HasNone (register_at p thread reg) → size ≤ 33521656 → IsClassOf (max size 1 + 8) class → class < 59
     → list_in p (list_place p.partitions thread q class) ≡ [] → IsUnfilled q class p r entry → Plays p thread (ops.Alloc reg q size) r (answers.Full entry)
-full_plays p r thread reg q size class entry none fits asks real empty u region partitions threads ls can =
+full_plays p r thread reg q size class entry none fits of real empty u region partitions threads ls can =
     let h = can.playing in
-    let x = played_at ls thread (ops.Alloc reg q size) (answers.Full entry) in
+    let x = played_at (rules_at p) ls thread (ops.Alloc reg q size) (answers.Full entry) in
     let inner : q < p.partitions = subst (λ z. q < z) (sym h.shaped.many) can.within.1.1 in
     let no_list : caches p thread q class ≡ [] = caches_here p thread q class inner real ∙ ap (λ zs. map (numbered_at p.table) zs) empty in
     let did : FillDid class (fill_of class) (pool_at region p.told.pools) u.plan (root_at p.told.pools (journals p) q) u.after u.placed =
     subst (λ s. FillDid class (fill_of class) (pool_at region p.told.pools) u.plan s u.after u.placed) (h.roots q)
     (subst (λ z. FillDid class (fill_of class) z u.plan (root_of p q) u.after u.placed) h.plan u.did) in
-    let called = full_is_done region partitions (length ls + 2) q class u.asked entry h.ps x p.told.pools (journals p) (caches p) u.plan u.after u.placed h.placed refl refl u.told asks can.within.1.1 no_list
+    let called = full_is_done region partitions (length ls + 2) q class u.asked entry h.ps x p.told.pools (journals p) (caches p) u.plan u.after u.placed h.placed refl refl u.told (reg, size, refl, of) can.within.1.1 no_list
     did u.asks u.none in
     let played = refused_played region partitions threads ls p thread reg q size can none fits 1 u.asked entry (Some class) u.after u.plan called in
     playing_more region partitions threads ls p r can.playing thread (ops.Alloc reg q size) (answers.Full entry) can.short
     (subst (λ z. IsPlayed region partitions threads ls p z can.playing thread (ops.Alloc reg q size) (answers.Full entry)) (sym u.acted) played)
 
 -- no room for a direct map
-pub full_map_plays : (p r : Player) (thread reg q size entry : ℕ) → HasNone (register_at p thread reg) → AsksForMap (ops.Alloc reg q size) q size
+pub full_map_plays : (p r : Player) (thread reg q size entry : ℕ) → HasNone (register_at p thread reg) → IsDirectSize size
     → IsMapRefused q (shape_of size).slot (shape_of size).supers p r entry → Plays p thread (ops.Alloc reg q size) r (answers.Full entry)
-full_map_plays p r thread reg q size entry none asks u region partitions threads ls can =
+full_map_plays p r thread reg q size entry none direct u region partitions threads ls can =
     let h = can.playing in
-    let x = played_at ls thread (ops.Alloc reg q size) (answers.Full entry) in
+    let x = played_at (rules_at p) ls thread (ops.Alloc reg q size) (answers.Full entry) in
     let did : MapDid (shape_of size).slot (pool_at region p.told.pools) u.plan (root_at p.told.pools (journals p) q) u.after u.placed =
     subst (λ s. MapDid (shape_of size).slot (pool_at region p.told.pools) u.plan s u.after u.placed) (h.roots q)
     (subst (λ z. MapDid (shape_of size).slot z u.plan (root_of p q) u.after u.placed) h.plan u.did) in
-    let called = full_map_is_done region partitions (length ls + 2) q size u.asked entry h.ps x p.told.pools (journals p) (caches p) u.plan u.after u.placed h.placed refl refl u.told asks can.within.1.1
+    let called = full_map_is_done region partitions (length ls + 2) q size u.asked entry h.ps x p.told.pools (journals p) (caches p) u.plan u.after u.placed h.placed refl refl u.told (reg, refl, direct) can.within.1.1
     did u.asks u.none in
-    let played = refused_played region partitions threads ls p thread reg q size can none asks.2.1 (shape_of size).supers u.asked entry None u.after u.plan called in
+    let played = refused_played region partitions threads ls p thread reg q size can none direct.1 (shape_of size).supers u.asked entry None u.after u.plan called in
     playing_more region partitions threads ls p r can.playing thread (ops.Alloc reg q size) (answers.Full entry) can.short
     (subst (λ z. IsPlayed region partitions threads ls p z can.playing thread (ops.Alloc reg q size) (answers.Full entry)) (sym u.acted) played)

@@ -6,6 +6,7 @@ use Rattle.std.proofs.lemmas.List.Elements.{All-nil, All-cons, All-append, All-w
 use Rattle.std.proofs.lemmas.List.Sums.{sum_by_push, count_by-le-length}
 use Rattle.pa_trace.specs.declared.script.Line.{Line}
 use Rattle.pa_trace.specs.declared.script.Line.TheVariants.{Phase, Do}
+use Rattle.pa_trace.specs.declared.script.Rules.{Rules}
 use Rattle.pa_record.specs.declared.pool.PoolEntry.{PoolEntry}
 use Rattle.pa_record.specs.declared.report.ReportLine.{ReportLine}
 use Rattle.pa_record.specs.Census.{census}
@@ -22,7 +23,7 @@ use Rattle.pa_slot_effects.proofs.Ending.{ends_right}
 use Rattle.pa_rules.proofs.Lined.{phase_after, phases_are, phase_on}
 use Rattle.pa_slot_effects.proofs.Starting.{phase_goes_on}
 use Rattle.pa_player.specs.Player.{Player}
-use Rattle.pa_player.specs.Playing.{shown, journals, caches, home_in, len_in, AreShaped, AreBounded, IsToldLine, IsPlaying}
+use Rattle.pa_player.specs.Playing.{shown, journals, caches, home_in, len_in, AreShaped, AreBounded, IsToldLine, IsPlaying, rules_at}
 use Rattle.pa_player.specs.Changes.{report_line, report_lines, phase_ended, phase_begun}
 use Rattle.pa_player.specs.Plays.{GoesTo}
 use Rattle.pa_player.specs.Told.{history_in}
@@ -31,17 +32,17 @@ use Rattle.pa_rules.proofs.ReportLines.{phases_push}
 
 -- ---- the phases of the records
 
-lines_until : (n phase : ℕ) (ls : List Line) (a : OpLine) → Contains (op_lines n phase ls) a → a.phase ≤ phase_after phase ls
-lines_until n phase [] a c = absurd (omega (arith, c.1))
-lines_until n phase (Phase ∷ ls) a c = lines_until (n + 1) (phase + 1) ls a c
-lines_until n phase (Do t o ∷ ls) a (zero, c, e) = omega (arith, phase_on phase ls, ap (λ (x : OpLine). x.phase) e)
-lines_until n phase (Do t o ∷ ls) a (suc i, c, e) = lines_until (n + 1) phase ls a (i, omega (arith, c), e)
+lines_until : (rules : Rules) (n phase : ℕ) (ls : List Line) (a : OpLine) → Contains (op_lines rules n phase ls) a → a.phase ≤ phase_after phase ls
+lines_until rules n phase [] a c = absurd (omega (arith, c.1))
+lines_until rules n phase (Phase ∷ ls) a c = lines_until rules (n + 1) (phase + 1) ls a c
+lines_until rules n phase (Do t o ∷ ls) a (zero, c, e) = omega (arith, phase_on phase ls, ap (λ (x : OpLine). x.phase) e)
+lines_until rules n phase (Do t o ∷ ls) a (suc i, c, e) = lines_until rules (n + 1) phase ls a (i, omega (arith, c), e)
 
 -- the records so far are in the phases so far
-played_until : (ls : List Line) (ps : List Played) → AreLines ls ps → (x : Played) → Contains ps x → x.phase ≤ phases_in ls
-played_until ls ps lines x (i, lt, e) =
+played_until : (rules : Rules) (ls : List Line) (ps : List Played) → AreLines rules ls ps → (x : Played) → Contains ps x → x.phase ≤ phases_in ls
+played_until rules ls ps lines x (i, lt, e) =
     let among : Contains (map op_line_of ps) (op_line_of x) = (i, omega (arith, lt, length-map ps op_line_of), get_or-map op_line_of ps i x (op_line_of x) lt ∙ ap op_line_of e) in
-    omega (arith, lines_until 2 1 ls (op_line_of x) (subst (λ zs. Contains zs (op_line_of x)) lines among), phases_are ls)
+    omega (arith, lines_until rules 2 1 ls (op_line_of x) (subst (λ zs. Contains zs (op_line_of x)) lines among), phases_are ls)
 
 pub phases_begin : (ls : List Line) → phases_in (ls ++ Phase ∷ []) ≡ phases_in ls + 1
 phases_begin ls =
@@ -119,7 +120,7 @@ module _ (region partitions threads : ℕ) (ls : List Line) (p : Player) (h : Is
         placed = h.placed;
         slots = (ends_right threads ls h.ps (shown p) h.told).slots;
         goes_on = run_goes_on.here (length ls + 2) h.ps p.told.pools (journals p);
-        within = λ x among. omega (arith, played_until ls h.ps h.told.lines x among, h.phase);
+        within = λ x among. omega (arith, played_until (rules_at p) ls h.ps h.told.lines x among, h.phase);
         later = λ x among past. absurd (omega (arith, h.placed.recorded x among, past));
         homes = h.marked;
         live = t.is_live;

@@ -23,11 +23,11 @@ slot_request_plays p r thread reg q size class answer none fits of (inl front) =
 slot_request_plays p r thread reg q size class answer none fits of (inr (inl filled)) = fill_plays p r thread reg q size class answer none of filled
 slot_request_plays p r thread reg q size class answer none fits of (inr (inr refused)) =
     plays_as p thread (ops.Alloc reg q size) r r (answers.Full refused.entry) answer refl refused.says
-    (full_plays p r thread reg q size class refused.entry none fits (reg, size, refl, of) of.real refused.empty refused.unfilled)
+    (full_plays p r thread reg q size class refused.entry none fits of of.real refused.empty refused.unfilled)
 
 -- a direct map, or no room
 pub map_request_plays : (p r : Player) (thread reg q size : ℕ) (answer : Answer) → HasNone (register_at p thread reg) → IsDirectSize size
     → AllocatesMap thread reg q (shape_of size).slot (shape_of size).supers p r answer → Plays p thread (ops.Alloc reg q size) r answer
-map_request_plays p r thread reg q size answer none direct (inl made) = map_plays p r thread reg q size answer none (reg, refl, direct) made
+map_request_plays p r thread reg q size answer none direct (inl made) = map_plays p r thread reg q size answer none direct made
 map_request_plays p r thread reg q size answer none direct (inr (entry, refused, says)) =
-    plays_as p thread (ops.Alloc reg q size) r r (answers.Full entry) answer refl says (full_map_plays p r thread reg q size entry none (reg, refl, direct) refused)
+    plays_as p thread (ops.Alloc reg q size) r r (answers.Full entry) answer refl says (full_map_plays p r thread reg q size entry none direct refused)

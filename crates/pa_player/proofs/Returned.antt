@@ -77,6 +77,7 @@ module _ (p : Player) (thread reg i : ℕ) (own : register_at p thread reg ≡ O
         told = refl;
         turn = free_goes_on threads ls h.ps (shown p) thread reg seen (can_play region partitions threads ls thread (ops.Free reg) p can) can.within.1 (ap (reg_of p.table) own) (sym is);
         like = record {
+          rules = refl;
           regs = shows.regs;
           held = shows.held;
           cells = λ k. refl;
@@ -146,6 +147,7 @@ module _ (p : Player) (thread reg i : ℕ) (ref : register_at p thread reg ≡ R
         told = refl;
         turn = reset_goes_on threads ls h.ps (shown p) thread reg seen (can_play region partitions threads ls thread (ops.Reset reg) p can) can.within.1 (ap (reg_of p.table) ref) (sym is);
         like = record {
+          rules = refl;
           regs = shows.regs;
           held = shows.held;
           cells = λ k. refl;

@@ -147,12 +147,12 @@ pub record IsReturn (region partitions threads : ℕ) (ls : List Line) (p : Play
   pub idle : held_of y.word.0 + refs_of y.word.0 ≡ 0
   pub makes : step_of op ≡ Some step
   pub returning : IsReturning step (slot_at p.table i).word.0
-  pub told : mark_of (played_at ls thread op (Done (seen_at p.table i))) ≡ Some (mark_at (length ls + 2) (seen_at p.table i) (Some step))
+  pub told : mark_of (played_at after.rules ls thread op (Done (seen_at p.table i))) ≡ Some (mark_at (length ls + 2) (seen_at p.table i) (Some step))
   pub turn : LeadsTo threads ls h.ps thread op (Done (seen_at p.table i)) after
   pub like : IsLike after (shown (changed_at p i y registers lives waits))
   pub shaped : AreShaped partitions threads (changed_at p i y registers lives waits)
-  pub live : (k : ℕ) → k < partitions → IsTallyMore issues frees (set p.table i y) k (mark_of (played_at ls thread op (Done (seen_at p.table i)))) (tally_at p.live.of k) (tally_at lives.of k)
-  pub quarantined : (k : ℕ) → k < partitions → IsTallyMore enters leaves (set p.table i y) k (mark_of (played_at ls thread op (Done (seen_at p.table i)))) (tally_at p.quarantined.of k) (tally_at waits.of k)
+  pub live : (k : ℕ) → k < partitions → IsTallyMore issues frees (set p.table i y) k (mark_of (played_at after.rules ls thread op (Done (seen_at p.table i)))) (tally_at p.live.of k) (tally_at lives.of k)
+  pub quarantined : (k : ℕ) → k < partitions → IsTallyMore enters leaves (set p.table i y) k (mark_of (played_at after.rules ls thread op (Done (seen_at p.table i)))) (tally_at p.quarantined.of k) (tally_at waits.of k)
 
 module _ (region partitions threads : ℕ) (ls : List Line) (p : Player) (thread : ℕ) (op : Op) (can : CanGoOn region partitions threads ls (Do thread op) p)
     (reg i : ℕ) (small : reg < 64) (points : Points (register_at p thread reg) i) (y : Slot) (registers : List (List (Register ℕ))) (lives waits : Tallies)
@@ -188,7 +188,7 @@ module _ (region partitions threads : ℕ) (ls : List Line) (p : Player) (thread
   seen = seen_at p.table i
 
   abbrev pub x : Played
-  x = played_at ls thread op (Done seen)
+  x = played_at r.after.rules ls thread op (Done seen)
 
   pub returns : Returns h.ps x seen
   returns = record { step = r.step; answer = refl; makes = r.makes; returning = r.returning; word = has_word region partitions threads ls p h i inside }

@@ -84,11 +84,11 @@ pub record IsPlayed (region partitions threads : ℕ) (ls : List Line) (p q : Pl
   pub acts : Acts
   pub next : Cache
   pub after : Shown
-  pub done : IsDone region partitions (length ls + 2) (played_at ls thread op answer) p.told.pools more (journals p) acts (caches p thread) next
+  pub done : IsDone region partitions (length ls + 2) (played_at after.rules ls thread op answer) p.told.pools more (journals p) acts (caches p thread) next
   pub turn : LeadsTo threads ls h.ps thread op answer after
   pub like : IsLike after (shown q)
   pub lists : (t k class : ℕ) → caches q t k class ≡ with_cache (caches p) thread next t k class
   pub told : TellsMore p q (length ls + 2) more acts
   pub heap : HasHeap region p q (length ls + 2) more acts
-  pub table : HasSlots partitions threads p q (length ls + 2) more acts (mark_of (played_at ls thread op answer))
-  pub counts : CountsMore partitions threads p q (mark_of (played_at ls thread op answer))
+  pub table : HasSlots partitions threads p q (length ls + 2) more acts (mark_of (played_at after.rules ls thread op answer))
+  pub counts : CountsMore partitions threads p q (mark_of (played_at after.rules ls thread op answer))

@@ -28,7 +28,7 @@ use Rattle.pa_player.specs.Player.{Player}
 use Rattle.pa_player.specs.Begun.{IsBegun}
 use Rattle.pa_player.specs.Tables.{held_of, IsIn, handle_in}
 use Rattle.pa_player.specs.Tallies.{tally_at, no_tally}
-use Rattle.pa_player.specs.Playing.{shown, journals, caches, root_of, list_place, list_at, numbered_at, reg_of, word_in, content_in, home_in, len_in, AreAllSlots, AreShaped, AreBounded, AreTallied, IsToldLine, IsPlaying}
+use Rattle.pa_player.specs.Playing.{shown, journals, caches, root_of, list_place, list_at, numbered_at, reg_of, word_in, content_in, home_in, len_in, AreAllSlots, AreShaped, AreBounded, AreTallied, IsToldLine, IsPlaying, rules_at}
 
 -- a list that is one without members has none
 none_in : {X : Type 0} (xs : List X) (x : X) → xs ≡ [] → Contains xs x → ⊥
@@ -68,8 +68,9 @@ module _ (region partitions threads : ℕ) (p : Player) (head : IsHeadWithin reg
       empty_if (nat_lt q p.partitions && nat_lt class 59) (map (numbered_at p.table) (list_at p t q class))
       (ap (map (numbered_at p.table)) (b.caches.empty (list_place p.partitions t q class)))
 
-  like : IsLike nothing_shown (shown p)
+  like : IsLike (nothing_shown (rules_at p)) (shown p)
   like = record {
+    rules = refl;
     regs = λ t r. ap (reg_of p.table) (b.registers.clear t r);
     held = λ k. ap (held_of p.table) (b.cell k);
     cells = λ k. b.told.histories.empty k;
@@ -159,7 +160,7 @@ module _ (region partitions threads : ℕ) (p : Player) (head : IsHeadWithin reg
   pub playing : IsPlaying region partitions threads [] p
   playing = record {
     ps = [];
-    told = like_is_told threads [] [] nothing_shown (shown p) (starts_told threads) like;
+    told = like_is_told threads [] [] (nothing_shown (rules_at p)) (shown p) (starts_told threads (rules_at p)) like;
     entries = sym b.told.entries;
     line = b.told.line;
     phase = b.phase;

@@ -103,15 +103,15 @@ module _ (region partitions threads : ℕ) (ls : List Line) (p : Player) (thread
 
   pub step_quiet : (answer : Answer) (y : Slot) (registers : List (List (Register ℕ))) (live quarantined : Tallies) (after : Shown) (o : Option Step)
       → IsSame (slot_at p.table i) y → KeepsLists op answer
-      → mark_of (played_at ls thread op answer) ≡ Some (mark_at (length ls + 2) (seen_at p.table i) o)
+      → mark_of (played_at after.rules ls thread op answer) ≡ Some (mark_at (length ls + 2) (seen_at p.table i) o)
       → LeadsTo threads ls h.ps thread op answer after → IsLike after (shown (changed_at p i y registers live quarantined))
       → AreShaped partitions threads (changed_at p i y registers live quarantined)
-      → CountsMore partitions threads p (changed_at p i y registers live quarantined) (mark_of (played_at ls thread op answer))
+      → CountsMore partitions threads p (changed_at p i y registers live quarantined) (mark_of (played_at after.rules ls thread op answer))
       → IsQuiet region partitions threads ls p (changed_at p i y registers live quarantined) h thread op answer
   step_quiet answer y registers live quarantined after o same keeps told turn like shaped counts = record {
     next = caches p thread;
     after = after;
-    done = nothing_moves region partitions (length ls + 2) h.ps (played_at ls thread op answer) p.told.pools (journals p) (caches p) h.placed refl keeps;
+    done = nothing_moves region partitions (length ls + 2) h.ps (played_at after.rules ls thread op answer) p.told.pools (journals p) (caches p) h.placed refl keeps;
     turn = turn;
     like = like;
     lists = λ t k class. caches_kept partitions threads p (set p.table i y) h.shaped (unmoved y) t k class ∙ cache_same (caches p) thread t k class;

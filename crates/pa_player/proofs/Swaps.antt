@@ -19,7 +19,7 @@ use Rattle.pa_player.specs.declared.table.Slot.{Slot}
 use Rattle.pa_player.specs.Player.{Player}
 use Rattle.pa_player.specs.Tables.{held_of as told_of, handle_in, IsIn}
 use Rattle.pa_player.specs.Told.{history_in}
-use Rattle.pa_player.specs.Playing.{shown, journals, caches, reg_of, register_at, cell_at, AreShaped, IsPlaying}
+use Rattle.pa_player.specs.Playing.{shown, journals, caches, reg_of, register_at, cell_at, AreShaped, IsPlaying, rules_at}
 use Rattle.pa_player.specs.Changes.{celled, exchanged, swapped}
 use Rattle.pa_player.specs.Plays.{CanGoOn, Plays}
 use Rattle.pa_player.proofs.Slots.{keeps_all}
@@ -85,6 +85,7 @@ module _ (p : Player) (thread cell reg : ℕ) where
 
     like : IsLike (after_swap (shown p) (length ls + 2) thread cell reg) (shown (swapped thread cell reg p))
     like = record {
+      rules = refl;
       regs = λ t r.
           regs_registered p p.table thread reg found t r (omega (arith, can.within.0, h.shaped.registers)) (omega (arith, can.within.1.1, h.shaped.sixty_four thread can.within.0))
           ∙ with_reg_same (shown p).regs (shown p).regs thread reg (reg_of_held (told_of p.table found)) (reg_of p.table found) t r (λ v j. refl) found_is;
@@ -131,7 +132,7 @@ module _ (p : Player) (thread cell reg : ℕ) where
       record {
         next = caches p thread;
         after = after_swap (shown p) (length ls + 2) thread cell reg;
-        done = nothing_moves region partitions (length ls + 2) h.ps (played_at ls thread (ops.Swap cell reg) (answers.Swapped n)) p.told.pools (journals p) (caches p) h.placed refl tt;
+        done = nothing_moves region partitions (length ls + 2) h.ps (played_at (rules_at p) ls thread (ops.Swap cell reg) (answers.Swapped n)) p.told.pools (journals p) (caches p) h.placed refl tt;
         turn = swap_goes_on threads ls h.ps (shown p) thread cell reg (can_play region partitions threads ls thread (ops.Swap cell reg) p can) can.within.1.0 can.within.1.1;
         like = like region partitions threads ls can;
         lists = λ t k class. cache_same (caches p) thread t k class;

@@ -18,7 +18,7 @@ use Rattle.pa_slot_effects.proofs.Ending.{ends_right}
 use Rattle.pa_player.specs.Player.{Player}
 use Rattle.pa_player.specs.Tables.{slot_at, named_at}
 use Rattle.pa_player.specs.Tallies.{tally_at}
-use Rattle.pa_player.specs.Playing.{shown, journals, caches, home_in, len_in, IsPlaying}
+use Rattle.pa_player.specs.Playing.{shown, journals, caches, home_in, len_in, IsPlaying, rules_at}
 use Rattle.pa_player.proofs.Going.{let_out_sized}
 use Rattle.pa_player.proofs.Alone.{has_word}
 
@@ -57,7 +57,7 @@ tally_counts P roots ps q t s len w one size word so (slots, sizes, are, count, 
 
 module _ (region partitions threads : ℕ) (ls : List Line) (p : Player) (h : IsPlaying region partitions threads ls p) (i : ℕ) (low : i < length p.table) where
   run_of : AreRoots partitions h.ps p.told.pools (journals p) × IsPoolOf region h.ps p.told.pools (journals p)
-  run_of = placed_are_roots region partitions (length ls + 2) ls h.ps p.told.pools (journals p) (caches p) h.told.lines h.placed h.pooled
+  run_of = placed_are_roots region partitions (length ls + 2) (rules_at p) ls h.ps p.told.pools (journals p) (caches p) h.told.lines h.placed h.pooled
 
   tallied : IsTallied region partitions h.ps h.ps p.told.pools (journals p)
   tallied = record {

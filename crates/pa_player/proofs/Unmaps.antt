@@ -107,10 +107,10 @@ module _ (region partitions threads : ℕ) (ls : List Line) (p : Player) (thread
           some_none k e = cc
       of_none None e m = m (used region partitions threads ls p thread op can reg i small points y registers lives waits r)
 
-  called : IsCalled region partitions n (played_at ls thread op (Done (seen_at p.table i))) p.told.pools (unmap_made n home title ∷ []) (journals p) home (act ∷ []) (caches p thread) (caches p thread)
+  called : IsCalled region partitions n (played_at r.after.rules ls thread op (Done (seen_at p.table i))) p.told.pools (unmap_made n home title ∷ []) (journals p) home (act ∷ []) (caches p thread) (caches p thread)
       (unmapped (named_at p.table i) (root_of p home)) (gave (super_page_at title.start) p.heap.pool)
   called =
-      let x = played_at ls thread op (Done (seen_at p.table i)) in
+      let x = played_at r.after.rules ls thread op (Done (seen_at p.table i)) in
       let C : Root → PoolState → Type 0 = λ s plan. IsCalled region partitions n x p.told.pools (unmap_made n home title ∷ []) (journals p) home (act ∷ []) (caches p thread) (caches p thread)
       (unmapped (named_at p.table i) s) (gave (super_page_at title.start) plan) in
       subst (λ s. C s p.heap.pool) (sym (h.roots home)) (subst (λ plan. C (root_at p.told.pools (journals p) home) plan) (sym h.plan)
@@ -150,7 +150,7 @@ module _ (region partitions threads : ℕ) (ls : List Line) (p : Player) (thread
 
   heap_then : HasHeap region p final n (unmap_made n home title ∷ []) (only_in home (act ∷ []))
   heap_then =
-      heap_called region partitions n (played_at ls thread op (Done (seen_at p.table i))) p final (unmap_made n home title ∷ []) home (act ∷ []) (caches p thread) (caches p thread)
+      heap_called region partitions n (played_at r.after.rules ls thread op (Done (seen_at p.table i))) p final (unmap_made n home title ∷ []) home (act ∷ []) (caches p thread) (caches p thread)
       (unmapped (named_at p.table i) (root_of p home)) (gave (super_page_at title.start) p.heap.pool) called h.roots root_then roots_there
       (ap (λ (t : Title). gave (super_page_at t.start) p.heap.pool) title_then) (omega arith) (omega arith)
       (unmapped_born (named_at p.table i) p.heap.pool.entries (p.heap.pool.entries + 1) (root_of p home) (omega arith) (h.bounded.born home)) h.bounded.born

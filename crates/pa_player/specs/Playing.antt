@@ -8,6 +8,8 @@ use Rattle.pa_buckets.specs.Limits.{sparse_count}
 use Rattle.pa_buckets.specs.Table.{slot_of}
 use Rattle.pa_buckets.specs.Bands.{limit_of}
 use Rattle.pa_trace.specs.declared.script.Line.{Line}
+use Rattle.pa_trace.specs.declared.script.Rules.{Rules}
+use Rattle.pa_trace.specs.Rules.{first_rules}
 use Rattle.pa_record.specs.declared.numbered.Numbered.{Numbered}
 use Rattle.pa_record.specs.declared.pool.PoolEntry.{PoolEntry}
 use Rattle.pa_record.specs.declared.report.ReportLine.{ReportLine}
@@ -82,10 +84,15 @@ register_at p t r = slice_index_or (slice_index_or p.registers t []) r Empty
 abbrev pub cell_at : Player → ℕ → Register ℕ
 cell_at p k = slice_index_or p.cells k Empty
 
--- what the player shows of registers, cells, histories and slots, by the names of slots
+-- the rules by which the player plays: those of version 1
+abbrev pub rules_at : Player → Rules
+rules_at p = first_rules p.partitions
+
+-- what the player shows of its rules, registers, cells, histories and slots, by the names of slots
 abbrev pub shown : Player → Shown
 shown p =
     record {
+      rules = rules_at p;
       regs = λ t r. reg_of p.table (register_at p t r);
       held = λ k. told_of p.table (cell_at p k);
       cells = λ k. slice_index_or p.told.histories k [];

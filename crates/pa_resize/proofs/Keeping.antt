@@ -31,17 +31,17 @@ use Rattle.pa_resize.proofs.Moving.{line_thread, line_op, four, Move, freed_alon
 -- ---- one record of a thread
 
 abbrev pub facts_in : List Played → Told → Facts
-facts_in ps r = record { usable_of = usable_of; usable_at = usable_in ps; cells = r.cells }
+facts_in ps r = record { usable_of = usable_of 1; usable_at = usable_in ps; cells = r.cells }
 
 pub record Lead (ps : List Played) (r : Told) (all : AllRegs) (thread : ℕ) (op : Op) (x : Played) (xs : List Played) (after : AllRegs) : Type 0 where
   pub next : Regs
-  pub row : Row (record { usable_of = usable_of; usable_at = usable_in ps; cells = r.cells }) op (all thread) x.answer next
+  pub row : Row (record { usable_of = usable_of 1; usable_at = usable_in ps; cells = r.cells }) op (all thread) x.answer next
   pub rest : LeadsOver ps r (with_thread all thread next) xs after
 
 pub lead : (ps : List Played) (r : Told) (all : AllRegs) (thread : ℕ) (op : Op) (x : Played) (xs : List Played) (after : AllRegs) → did x ≡ Do thread op
     → LeadsOver ps r all (x ∷ xs) after → Lead ps r all thread op x xs after
 lead ps r all thread op x xs after is (next, row, rest) =
-    let F : Facts = record { usable_of = usable_of; usable_at = usable_in ps; cells = r.cells } in
+    let F : Facts = record { usable_of = usable_of 1; usable_at = usable_in ps; cells = r.cells } in
     let here : Row F op (all x.thread) x.answer next = subst (λ o. Row F o (all x.thread) x.answer next) (line_op x thread op is) row in
     let at : x.thread ≡ thread = line_thread x thread op is in
     record {

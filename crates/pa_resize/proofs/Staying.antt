@@ -50,7 +50,7 @@ module _ (t : Trace) (r : Told) (limits : IsWithinLimits t) (run : IsFileTold t 
       → ((own : Regs) (k : ℕ) → changed own (change_of r.cells z.op z.answer) k ≡ own k) → ((k i : ℕ) → z.op ≡ ops.Swap k i → ⊥)
       → ((s : SlotName) → word_after (before ++ z ∷ []) s ≡ word_after before s) → LeadsOver (records_of t r) r regs (z ∷ []) mid → IsAsBefore r before (z ∷ []) rest regs mid
   stay_one before rest z regs mid parts kept apart words (next, row, end) =
-      let F : Facts = record { usable_of = usable_of; usable_at = usable_in (records_of t r); cells = r.cells } in
+      let F : Facts = record { usable_of = usable_of 1; usable_at = usable_in (records_of t r); cells = r.cells } in
       record {
         registers = λ i k. ap (λ (q : AllRegs). q i k) end
             ∙ same_left regs z.thread next (λ j. (row_leads F z.op (regs z.thread) z.answer next row).registers j ∙ kept (regs z.thread) j) i k;

@@ -9,6 +9,7 @@ use Rattle.pa_trace.specs.declared.script.Line.{Line}
 use Rattle.pa_trace.specs.declared.script.Line.TheVariants.{Phase, Do}
 use Rattle.pa_trace.specs.declared.script.Op.{Op}
 use Rattle.pa_trace.specs.declared.script.Op.TheVariants.{Alloc, Read}
+use Rattle.pa_trace.specs.declared.script.Rules.{Rules}
 use Rattle.pa_record.specs.declared.entry.Seen.{Seen}
 use Rattle.pa_record.specs.declared.entry.Answer.{Answer}
 use Rattle.pa_record.specs.declared.entry.Answer.TheVariants.{Value}
@@ -114,7 +115,7 @@ module _ (p : Player) (thread reg size : ℕ) (h : Handed) (owned : Owns p threa
   pub resizes_large : (q : Player) → Went p (looked ∷ []) q → refs_of seen.found.0 ≡ 0 → greatest_size < size → Resizes p thread reg size TooLarge q
   resizes_large q went alone large = resizes_by q TooLarge (looked ∷ []) went (omega arith) (λ roots regs look. (object, looked, look, alone, large, refl))
 
-  pub resizes_kept : (q : Player) → Went p (looked ∷ []) q → refs_of seen.found.0 ≡ 0 → size ≤ greatest_size → slot_size_for size ≡ h.len
+  pub resizes_kept : (q : Player) → Went p (looked ∷ []) q → refs_of seen.found.0 ≡ 0 → size ≤ greatest_size → slot_size_for 1 size ≡ h.len
       → Resizes p thread reg size Kept q
   resizes_kept q went alone small same = resizes_by q Kept (looked ∷ []) went (omega arith) (λ roots regs look. (object, looked, look, alone, small, same, refl))
 
@@ -136,11 +137,11 @@ module _ (p : Player) (thread reg size : ℕ) (h : Handed) (owned : Owns p threa
 
 -- ---- a line of a script
 
-recorded_is : (n phase : ℕ) (l : Line) (answer : Option Answer) (added : List Played) → IsRecorded n phase l answer added → IsRecordOf l added
-recorded_is n phase Phase None added h = h
-recorded_is n phase Phase (Some answer) added h = absurd h
-recorded_is n phase (Do thread op) None added h = absurd h
-recorded_is n phase (Do thread op) (Some answer) added h = (record { line = n; thread = thread; phase = phase; op = op; answer = answer }, refl, h)
+recorded_is : (rules : Rules) (n phase : ℕ) (l : Line) (answer : Option Answer) (added : List Played) → IsRecorded rules n phase l answer added → IsRecordOf l added
+recorded_is rules n phase Phase None added h = h
+recorded_is rules n phase Phase (Some answer) added h = absurd h
+recorded_is rules n phase (Do thread op) None added h = absurd h
+recorded_is rules n phase (Do thread op) (Some answer) added h = (record { line = n; thread = thread; phase = phase; rules = rules; op = op; answer = answer }, refl, h)
 
 pub plays_plain : (p q : Player) (l : Line) (answer : Option Answer) → PlaysLine p l answer q → PlaysScriptLine p (Plain l) None q
 plays_plain p q l answer h = record {
@@ -153,7 +154,7 @@ plays_plain p q l answer h = record {
   records = h.records;
   few = omega arith;
   later = h.later;
-  is = λ ps r on. (refl, recorded_is _ _ l answer h.added h.recorded, refl);
+  is = λ ps r on. (refl, recorded_is _ _ _ l answer h.added h.recorded, refl);
 }
 
 pub plays_resize : (p q : Player) (thread reg size : ℕ) (v : Verdict) → Resizes p thread reg size v q → PlaysScriptLine p (Resize thread reg size) (Some v) q

@@ -68,7 +68,7 @@ IsAlone a = refs_of a.seen.found.0 ≡ 0
 
 -- there are slots for the size, of another length than the object's
 abbrev pub NeedsOther : Object → ℕ → Type 0
-NeedsOther a size = IsAlone a × (size ≤ greatest_size) × (slot_size_for size ≡ a.len → ⊥)
+NeedsOther a size = IsAlone a × (size ≤ greatest_size) × (slot_size_for 1 size ≡ a.len → ⊥)
 
 -- the answer says that there was no room
 abbrev pub HasNoRoom : Answer → Type 0
@@ -83,7 +83,7 @@ IsResized TooLarge roots held thread reg size xs =
     (a : Object) × (x : Played) × IsLook roots held thread reg a x × IsAlone a × (greatest_size < size) × (xs ≡ x ∷ [])
 IsResized Kept roots held thread reg size xs =
     (a : Object) × (x : Played) × IsLook roots held thread reg a x × IsAlone a × (size ≤ greatest_size)
-    × (slot_size_for size ≡ a.len) × (xs ≡ x ∷ [])
+    × (slot_size_for 1 size ≡ a.len) × (xs ≡ x ∷ [])
 IsResized NoRoom roots held thread reg size xs =
     (a : Object) × (x y : Played) × IsLook roots held thread reg a x × NeedsOther a size
     × (did y ≡ Do thread (Alloc spare a.partition size)) × HasNoRoom y.answer × (xs ≡ x ∷ y ∷ [])

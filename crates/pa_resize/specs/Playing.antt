@@ -5,6 +5,7 @@ use Rattle.pa_trace.specs.declared.line.Head.{Head}
 use Rattle.pa_trace.specs.declared.script.Line.TheVariants.{Do}
 use Rattle.pa_trace.specs.declared.script.Op.{Op}
 use Rattle.pa_trace.specs.Unread.{Unread}
+use Rattle.pa_trace.specs.Rules.{rules_of}
 use Rattle.pa_record.specs.declared.entry.Answer.{Answer}
 use Rattle.pa_script.specs.declared.script.Script.{Script}
 use Rattle.pa_script.specs.declared.script.ScriptLine.{ScriptLine}
@@ -13,14 +14,21 @@ use Rattle.pa_rules.specs.declared.played.Played.{Played}
 use Rattle.pa_rules.specs.Legal.{phases_in}
 use Rattle.pa_rules.specs.Registers.{AllRegs}
 use Rattle.pa_rules.specs.Told.{Told}
-use Rattle.pa_model.specs.Player.{Player, records_so_far, IsGoing, GoesOnFrom, IsLater, AreRegsAfter}
+use Rattle.pa_model.specs.Player.{Player, records_so_far, IsGoing, GoesOnFrom, IsLater, AreRegsAfter, trace_so_far}
 use Rattle.pa_resize.specs.declared.verdict.Verdict.{Verdict}
 use Rattle.pa_resize.specs.Expansion.{did, ScriptPiece, IsResized, IsPiece, ArePieces, verdicts_of}
 
 -- the record of an op that is played next
 abbrev pub next_record : Player → ℕ → Op → Answer → Played
 next_record p thread op answer =
-    record { line = length p.lines.items + 2; thread = thread; phase = phases_in p.lines.items; op = op; answer = answer }
+    record {
+      line = length p.lines.items + 2;
+      thread = thread;
+      phase = phases_in p.lines.items;
+      rules = rules_of (trace_so_far p);
+      op = op;
+      answer = answer;
+    }
 
 -- Ops were played, and left these records.
 pub record Went (p : Player) (xs : List Played) (q : Player) : Type 0 where

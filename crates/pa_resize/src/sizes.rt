@@ -8,7 +8,7 @@ use pa_direct::shape;
 // The length of a slot for a request of this many bytes.
 pub(crate) fn slot_size_for(size: u32) -> u32
     requires { size ≤ greatest_size }
-    ensures { result ≡ slot_size_for size }
+    ensures { result ≡ slot_size_for 1 size }
 {
     match class_of(raw_of(size)) {
         Some(class) => slot_size(class),

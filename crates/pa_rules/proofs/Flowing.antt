@@ -12,6 +12,7 @@ use Rattle.pa_slot.specs.Run.{Mark, IsReturning, same_slot}
 use Rattle.pa_slot.proofs.Runs.{same_slot_eq}
 use Rattle.pa_trace.specs.declared.script.Op.{Op}
 use Rattle.pa_trace.specs.declared.script.Op.TheVariants as ops
+use Rattle.pa_rules.proofs.Versions.{real_in}
 use Rattle.pa_record.specs.declared.entry.Seen.{Seen}
 use Rattle.pa_record.specs.declared.entry.Answer.{Answer}
 use Rattle.pa_record.specs.declared.entry.Answer.TheVariants as answers
@@ -97,7 +98,7 @@ made_keeps s p roots x seen cache after own known (inl (q, class, xs, rest, asks
           let turned : FirstKeeps s roots x.line p class (cache p class) xs = subst (λ z. FirstKeeps s roots x.line z class (cache z class) xs) same f in
           let left = turned.flow in
           let back = turned.back in
-          let change = listed_changed s cache after p class rest (omega (arith, asks.3.real)) (λ c. becomes p c ∙ ap (λ z. with_list cache z class rest p c) same) in
+          let change = listed_changed s cache after p class rest (real_in x.rules.version class (asks.3.from, asks.3.real)) (λ c. becomes p c ∙ ap (λ z. with_list cache z class rest p c) same) in
           omega arith
       | inr other ↦
           let none = none_left s (acts_of roots x.line p) (f.others p (λ e. other (sym e))) in

@@ -7,7 +7,9 @@ pub mod Flowing
 pub mod Marking
 pub mod Running
 pub mod Owned
+pub mod Versions
 pub mod Asking
+pub mod Ruling
 pub mod Leading
 pub mod CachesAfter
 pub mod ByLines

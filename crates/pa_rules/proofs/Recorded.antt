@@ -37,8 +37,8 @@ beside_of (p ∷ ps) = ap (λ zs. p ∷ zs) (beside_of ps)
 
 pub records_are_lines : RecordsAreLines
 records_are_lines = record {
-  lines = λ ls es h. lines_of (op_lines 2 1 ls) es h;
-  told = λ ls es h. told_of (op_lines 2 1 ls) es h;
-  due = λ ls ps h. keys_of ps ∙ ap (map key_of_line) h;
-  same = λ ls ps h. ap (λ os. map beside (zip os (map entry_of ps))) (sym h) ∙ beside_of ps;
+  lines = λ rules ls es h. lines_of (op_lines rules 2 1 ls) es h;
+  told = λ rules ls es h. told_of (op_lines rules 2 1 ls) es h;
+  due = λ rules ls ps h. keys_of ps ∙ ap (map key_of_line) h;
+  same = λ rules ls ps h. ap (λ os. map beside (zip os (map entry_of ps))) (sym h) ∙ beside_of ps;
 }

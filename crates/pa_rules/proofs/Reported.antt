@@ -2,6 +2,7 @@
 use Rattle.std.proofs.Common.{◌≡◌, ℕ, zero, suc, ◌+◌, ◌<◌, List, get_or, ap, subst, arith, inl, inr}
 use Rattle.std.specs.Prelude.{Contains}
 use Rattle.std.proofs.lemmas.List.Elements.{Contains-get_or, Contains-append_cases, All-contains}
+use Rattle.pa_trace.specs.Rules.{rules_of}
 use Rattle.pa_record.specs.declared.report.ReportLine.{ReportLine}
 use Rattle.pa_lists.proofs.Members.{not_in_none, in_cases}
 use Rattle.pa_lists.proofs.Joined.{map_in}
@@ -43,14 +44,14 @@ place_of l = (l.phase, l.partition)
 pub report_adds_up : ReportAddsUp
 report_adds_up t r l limits legal among =
     let ps = records_of t r in
-    let lines = records_are_lines.lines t.lines r.entries legal.lines in
+    let lines = records_are_lines.lines (rules_of t) t.lines r.entries legal.lines in
     let right = All-contains (IsReportLine t.partitions t.threads ps r.pools r.roots) r.report l legal.report.right among in
     let place : Contains (phases_of t.partitions 1 (phases_in t.lines)) (place_of l) =
     subst (λ z. Contains z (place_of l)) legal.report.places (map_in place_of r.report l among) in
     let (before, parts, census) = right.root in (
       before,
       parts,
-      places_add_up t.region t.partitions t.threads ps r.pools r.roots l before legal.roots legal.pool (lines_differ t.lines ps lines)
+      places_add_up t.region t.partitions t.threads ps r.pools r.roots l before legal.roots legal.pool (lines_differ (rules_of t) t.lines ps lines)
           (λ k d low. (records_within t ps (get_or ps k d) limits lines (Contains-get_or ps k d low)).0) legal.slots
           (seen_in_phases _ ps legal.seen) (in_phases t.partitions 1 (phases_in t.lines) (place_of l) place) right parts,
     )

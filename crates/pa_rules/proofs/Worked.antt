@@ -3,7 +3,7 @@ use Rattle.std.proofs.Common.{◌≡◌, ℕ, zero, suc, ◌<◌, List, [], ◌�
 use Rattle.pa_slot.specs.declared.word.Step.TheVariants as steps
 use Rattle.pa_buckets.specs.Table.{rows, row_of, slot_of, pages_of, slots_of}
 use Rattle.pa_buckets.specs.Bands.{limit_of, fill_of}
-use Rattle.pa_buckets.specs.Classes.{IsClassOf}
+use Rattle.pa_buckets.specs.Classes.{IsClassIn}
 use Rattle.pa_trace.specs.declared.script.Op.TheVariants as ops
 use Rattle.pa_record.specs.declared.entry.Answer.TheVariants as answers
 use Rattle.pa_record.specs.declared.numbered.Numbered.{Numbered}
@@ -15,7 +15,7 @@ use Rattle.pa_rules.specs.Caches.{Cache, with_list, acts_of, purge_acts, listed_
 use Rattle.pa_rules.specs.Worked.{first_slot, of_first_thread, PurgeIsCached, IsCountedAs, PurgeIsCounted}
 
 -- a request of 8 bytes is of class 0
-pub class_0 : IsClassOf 16 0
+pub class_0 : IsClassIn 1 16 0
 unfolding rows row_of slot_of
 class_0 = record { from = omega arith; real = lit< tt; fits = omega arith; least = λ d from below. absurd (omega arith) }
 

@@ -80,17 +80,17 @@ FilledFirst roots line p class (y ∷ ys) xs = (xs ≡ y ∷ ys) × NoActs roots
 -- line's only entry, and the lists stay as they were.
 abbrev pub MadeRow : Journals → Played → Seen → Cache → Cache → Type 0
 MadeRow roots x seen cache after =
-    ((p class : ℕ) × (xs rest : List Numbered) × AsksForClass x.op p class × FilledFirst roots x.line p class (cache p class) xs
+    ((p class : ℕ) × (xs rest : List Numbered) × AsksForClass x p class × FilledFirst roots x.line p class (cache p class) xs
     × FrontIs seen xs rest × SameLists after (with_list cache p class rest))
-    ⊎ ((p size asked len : ℕ) × AsksForMap x.op p size × OnlyActs roots x.line p (Map asked seen.slot len ∷ []) × SameLists after cache)
+    ⊎ ((p size asked len : ℕ) × AsksForMap x p size × OnlyActs roots x.line p (Map asked seen.slot len ∷ []) × SameLists after cache)
 
 -- there was no room for a class with an empty list, or for a direct map: one Full is the line's only entry, and the lists stay
 -- as they were
 abbrev pub FullRow : Journals → Played → Cache → Cache → Type 0
 FullRow roots x cache after =
-    ((p class asked : ℕ) × AsksForClass x.op p class × (cache p class ≡ []) × OnlyActs roots x.line p (Full (Some class) asked ∷ [])
+    ((p class asked : ℕ) × AsksForClass x p class × (cache p class ≡ []) × OnlyActs roots x.line p (Full (Some class) asked ∷ [])
     × SameLists after cache)
-    ⊎ ((p size asked : ℕ) × AsksForMap x.op p size × OnlyActs roots x.line p (Full None asked ∷ []) × SameLists after cache)
+    ⊎ ((p size asked : ℕ) × AsksForMap x p size × OnlyActs roots x.line p (Full None asked ∷ []) × SameLists after cache)
 
 -- how many slots of a list stay when a slot came to its front: all of it up to the limit, else the first half of the limit
 abbrev pub kept : ℕ → List Numbered → List Numbered

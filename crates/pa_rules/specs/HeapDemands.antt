@@ -45,7 +45,7 @@ pub record EntryFits (partitions : ℕ) (ps : List Played) (pools : List PoolEnt
   pub partition : p < partitions
   pub fits : RootActFits pools e.act (root_replayed pools (take j (roots p)) new_root)
   pub rises : (i a b : ℕ) (f : RootEntry) → IsEntry roots p i f → i < j → asked_by f.act ≡ Some a → asked_by e.act ≡ Some b → a < b
-  pub line : (x : Played) × IsOfLine ps e.line x × MakesEntry pools p e.act x.op
+  pub line : (x : Played) × IsOfLine ps e.line x × MakesEntry pools p e.act x
   pub order : ComesInOrder ps (map (λ (f : RootEntry). f.line) (roots p)) j
 
 -- roots: a record that is full names a Full of its line; each entry of a journal fits

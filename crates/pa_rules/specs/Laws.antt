@@ -1,6 +1,7 @@
 -- The laws of titles and super pages over all partitions, and of the report.
 use Rattle.std.specs.Prelude.{◌≡◌, ◌≢◌, ℕ, ◌+◌, ◌<◌, List, map, length, All, AllPairs, Contains, Some, slice_get}
 use Rattle.pa_trace.specs.declared.script.Trace.{Trace}
+use Rattle.pa_trace.specs.declared.script.Rules.{Rules}
 use Rattle.pa_trace.specs.declared.script.Line.{Line}
 use Rattle.pa_trace.specs.Limits.{IsWithinLimits}
 use Rattle.pa_record.specs.declared.pool.PoolEntry.{PoolEntry}
@@ -28,7 +29,7 @@ pub record TitlesFollow : Type 0 where
 
 -- each record of a trace has a line of its own
 abbrev pub LinesDiffer : Type 0
-LinesDiffer = (ls : List Line) (ps : List Played) → AreLines ls ps → AllPairs (λ (x y : Played). x.line ≢ y.line) ps
+LinesDiffer = (rules : Rules) (ls : List Line) (ps : List Played) → AreLines rules ls ps → AllPairs (λ (x y : Played). x.line ≢ y.line) ps
 
 -- The four counts of a line of the report add up, if each record's line is its own and each slot's steps are one run,
 -- in the order of the phases: live, quarantined and cached slots and those with the root are together the slots that were
@@ -54,7 +55,7 @@ ReportAddsUp =
 -- The records that are due are all of the trace's op lines and all of the run's, and lists of which this holds are the
 -- records with their ops.
 pub record RecordsAreLines : Type 0 where
-  pub lines : (ls : List Line) (es : List Entry) → AreDue ls es → AreLines ls (played ls es)
-  pub told : (ls : List Line) (es : List Entry) → AreDue ls es → map entry_of (played ls es) ≡ es
-  pub due : (ls : List Line) (ps : List Played) → AreLines ls ps → AreDue ls (map entry_of ps)
-  pub same : (ls : List Line) (ps : List Played) → AreLines ls ps → played ls (map entry_of ps) ≡ ps
+  pub lines : (rules : Rules) (ls : List Line) (es : List Entry) → AreDue rules ls es → AreLines rules ls (played rules ls es)
+  pub told : (rules : Rules) (ls : List Line) (es : List Entry) → AreDue rules ls es → map entry_of (played rules ls es) ≡ es
+  pub due : (rules : Rules) (ls : List Line) (ps : List Played) → AreLines rules ls ps → AreDue rules ls (map entry_of ps)
+  pub same : (rules : Rules) (ls : List Line) (ps : List Played) → AreLines rules ls ps → played rules ls (map entry_of ps) ≡ ps

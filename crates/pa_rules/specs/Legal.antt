@@ -2,6 +2,7 @@
 use Rattle.std.specs.Prelude.{ℕ, ◌+◌, Bool, true, false, List, count_by}
 use Rattle.pa_slot.specs.Run.{Slots}
 use Rattle.pa_trace.specs.declared.script.Trace.{Trace}
+use Rattle.pa_trace.specs.Rules.{rules_of}
 use Rattle.pa_trace.specs.declared.script.Line.{Line}
 use Rattle.pa_trace.specs.declared.script.Line.TheVariants.{Phase, Do}
 use Rattle.pa_record.specs.declared.run.Run.{Run}
@@ -31,11 +32,11 @@ phases_in ls = count_by is_phase ls + 1
 -- The clauses of a legal run, in the order in which they are tested. What a run contains is legal by these records, which
 -- are paired with the ops of their lines.
 pub record IsLegalBy (t : Trace) (r : Told) (ps : List Played) : Type 0 where
-  pub lines : AreDue t.lines r.entries
+  pub lines : AreDue (rules_of t) t.lines r.entries
   pub cells : AreCells r.cells ps
-  pub registers : AreRegisters usable_of r.cells ps
+  pub registers : AreRegisters (usable_of t.version) r.cells ps
   pub slots : Slots (marks_of ps)
-  pub contents : AreContents usable_of r.cells ps
+  pub contents : AreContents (usable_of t.version) r.cells ps
   pub pool : IsPoolOf t.region ps r.pools r.roots
   pub roots : AreRoots t.partitions ps r.pools r.roots
   pub titles : AreAllTitles r.pools r.roots

@@ -4,6 +4,7 @@ use Rattle.std.specs.List.{filter_map}
 use Rattle.pa_slot.specs.declared.word.Step.{Step}
 use Rattle.pa_slot.specs.declared.word.Step.TheVariants as steps
 use Rattle.pa_slot.specs.Run.{Mark}
+use Rattle.pa_trace.specs.declared.script.Rules.{Rules}
 use Rattle.pa_trace.specs.declared.script.Line.{Line}
 use Rattle.pa_trace.specs.declared.script.Line.TheVariants.{Phase, Do}
 use Rattle.pa_trace.specs.declared.script.Op.{Op}
@@ -14,38 +15,40 @@ use Rattle.pa_record.specs.declared.entry.Answer.{Answer}
 use Rattle.pa_record.specs.declared.entry.Answer.TheVariants.{Made, Done, Value, Dangling, SecondFree, NotOwner, StaleReset, StaleUse, Nothing, Filled, NotRef, Shared, OutOfRange, TooLarge, Full, Swapped, Purged}
 use Rattle.pa_rules.specs.declared.played.Played.{Played}
 
--- an op line: its number in the trace, its thread, its phase and its op
+-- an op line: its number in the trace, its thread, its phase, the rules by which it is played and its op
 pub record OpLine : Type 0 where
   pub line : ℕ
   pub thread : ℕ
   pub phase : ℕ
+  pub rules : Rules
   pub op : Op
 
--- the op lines of a trace from a line on that has this number and is in this phase
-abbrev pub op_lines : ℕ → ℕ → List Line → List OpLine
-op_lines n phase [] = []
-op_lines n phase (Phase ∷ ls) = op_lines (n + 1) (phase + 1) ls
-op_lines n phase (Do thread op ∷ ls) = record { line = n; thread = thread; phase = phase; op = op } ∷ op_lines (n + 1) phase ls
+-- the op lines of a trace with these rules, from a line on that has this number and is in this phase
+abbrev pub op_lines : Rules → ℕ → ℕ → List Line → List OpLine
+op_lines rules n phase [] = []
+op_lines rules n phase (Phase ∷ ls) = op_lines rules (n + 1) (phase + 1) ls
+op_lines rules n phase (Do thread op ∷ ls) =
+    record { line = n; thread = thread; phase = phase; rules = rules; op = op } ∷ op_lines rules (n + 1) phase ls
 
 -- the op line of a record
 abbrev pub op_line_of : Played → OpLine
-op_line_of p = record { line = p.line; thread = p.thread; phase = p.phase; op = p.op }
+op_line_of p = record { line = p.line; thread = p.thread; phase = p.phase; rules = p.rules; op = p.op }
 
 -- what the run says of a record: its line, its thread and its answer
 abbrev pub entry_of : Played → Entry
 entry_of p = record { line = p.line; thread = p.thread; answer = p.answer }
 
--- the records are those of all op lines of the trace, the first of which is line 2, after the head, in phase 1
-abbrev pub AreLines : List Line → List Played → Type 0
-AreLines ls ps = map op_line_of ps ≡ op_lines 2 1 ls
+-- the records are those of all op lines of the trace with these rules, the first of which is line 2, after the head, in phase 1
+abbrev pub AreLines : Rules → List Line → List Played → Type 0
+AreLines rules ls ps = map op_line_of ps ≡ op_lines rules 2 1 ls
 
 -- the record of an op line whose answer is the entry's
 abbrev pub beside : OpLine × Entry → Played
-beside (o, e) = record { line = o.line; thread = o.thread; phase = o.phase; op = o.op; answer = e.answer }
+beside (o, e) = record { line = o.line; thread = o.thread; phase = o.phase; rules = o.rules; op = o.op; answer = e.answer }
 
 -- the entries of a run, each with the op line at its place; what one list has beyond the other's end is left out
-abbrev pub played : List Line → List Entry → List Played
-played ls es = map beside (zip (op_lines 2 1 ls) es)
+abbrev pub played : Rules → List Line → List Entry → List Played
+played rules ls es = map beside (zip (op_lines rules 2 1 ls) es)
 
 -- the line and the thread of an op line
 abbrev pub key_of_line : OpLine → ℕ × ℕ
@@ -56,8 +59,8 @@ abbrev pub key_of_entry : Entry → ℕ × ℕ
 key_of_entry e = (e.line, e.thread)
 
 -- the entries of the run have the lines and the threads of the trace's op lines, in order
-abbrev pub AreDue : List Line → List Entry → Type 0
-AreDue ls es = map key_of_entry es ≡ map key_of_line (op_lines 2 1 ls)
+abbrev pub AreDue : Rules → List Line → List Entry → Type 0
+AreDue rules ls es = map key_of_entry es ≡ map key_of_line (op_lines rules 2 1 ls)
 
 -- the step that an op makes if its answer is `done`; an allocation has an answer of its own, and
 -- reads, exchanges and purges make no step

@@ -3,6 +3,7 @@ use Rattle.std.specs.Prelude.{◌≡◌, ℕ, zero, suc, ◌<◌, ◌≤◌, ◌
 use Rattle.pa_slot.specs.declared.word.Step.{Step}
 use Rattle.pa_slot.specs.Count.{CanStep, number_of}
 use Rattle.pa_slot.specs.Run.{Mark, IsFirstAt, IsRunFrom}
+use Rattle.pa_trace.specs.declared.script.Rules.{Rules}
 use Rattle.pa_trace.specs.declared.script.Line.{Line}
 use Rattle.pa_trace.specs.declared.script.Op.TheVariants.{Swap}
 use Rattle.pa_record.specs.declared.entry.Entry.{Entry}
@@ -25,9 +26,10 @@ abbrev pub IsRecord : List Played → ℕ → Played → Type 0
 IsRecord ps i x = slice_get ps i ≡ Some x
 
 -- lines: the record is the one that is due, by its line and thread; one too many, a missing one and a wrong one don't meet this
-abbrev pub LinesDemand : List Line → List Entry → Place → Type 0
-LinesDemand ls es (places.Record i) = slice_get (map key_of_entry es) i ≡ slice_get (map key_of_line (op_lines 2 1 ls)) i
-LinesDemand ls es place = Unit {0}
+abbrev pub LinesDemand : Rules → List Line → List Entry → Place → Type 0
+LinesDemand rules ls es (places.Record i) =
+    slice_get (map key_of_entry es) i ≡ slice_get (map key_of_line (op_lines rules 2 1 ls)) i
+LinesDemand rules ls es place = Unit {0}
 
 -- None of the entries on these lines before index j should come after it, by their threads' lines and their phases.
 abbrev pub ComesInOrder : List Played → List ℕ → ℕ → Type 0

@@ -1,8 +1,8 @@
 -- The journals of the roots and the pool's entries, beside the records of the run.
 use Rattle.std.specs.Prelude.{◌≡◌, ℕ, ◌+◌, ◌≤◌, ◌⊎◌, max, List, [], Option, Some, None, Contains, slice_get, slice_index_or}
 use Rattle.pa_slot.specs.declared.title.Title.{Title}
-use Rattle.pa_buckets.specs.Classes.{IsClassOf}
-use Rattle.pa_direct.specs.Shapes.{shape_of, IsDirectSize}
+use Rattle.pa_buckets.specs.Classes.{IsClassIn}
+use Rattle.pa_direct.specs.Shapes.{shape_of}
 use Rattle.pa_trace.specs.declared.script.Op.{Op}
 use Rattle.pa_trace.specs.declared.script.Op.TheVariants as ops
 use Rattle.pa_record.specs.declared.entry.Answer.TheVariants as answers
@@ -14,6 +14,7 @@ use Rattle.pa_record.specs.Pool.{IsPool, FoundNone}
 use Rattle.pa_record.specs.Root.{IsJournal, asked_by}
 use Rattle.pa_record.specs.Sound.{IsMadeBy, AreTitles}
 use Rattle.pa_rules.specs.declared.played.Played.{Played}
+use Rattle.pa_rules.specs.Sizes.{IsMapSize}
 use Rattle.pa_rules.specs.Order.{IsOfLine, StandInOrder}
 
 -- the journals, by their partitions
@@ -24,47 +25,49 @@ Journals = ℕ → List RootEntry
 abbrev pub IsEntry : Journals → ℕ → ℕ → RootEntry → Type 0
 IsEntry roots p j e = slice_get (roots p) j ≡ Some e
 
--- the op is an allocation from partition p, and its size gets a slot of this class
-abbrev pub AsksForClass : Op → ℕ → ℕ → Type 0
-AsksForClass op p class = (reg size : ℕ) × (op ≡ ops.Alloc reg p size) × IsClassOf (max size 1 + 8) class
+-- the record's op is an allocation from partition p, and by its rules the size gets a slot of this class
+abbrev pub AsksForClass : Played → ℕ → ℕ → Type 0
+AsksForClass x p class = (reg size : ℕ) × (x.op ≡ ops.Alloc reg p size) × IsClassIn x.rules.version (max size 1 + 8) class
 
--- the op is an allocation of this size from partition p, and the size gets a direct map
-abbrev pub AsksForMap : Op → ℕ → ℕ → Type 0
-AsksForMap op p size = (reg : ℕ) × (op ≡ ops.Alloc reg p size) × IsDirectSize size
+-- the record's op is an allocation of this size from partition p, and by its rules the size gets a direct map
+abbrev pub AsksForMap : Played → ℕ → ℕ → Type 0
+AsksForMap x p size = (reg : ℕ) × (x.op ≡ ops.Alloc reg p size) × IsMapSize x.rules.version size
 
 -- the op is a free or a reset, the ops that may give a slot back
 abbrev pub IsFreeing : Op → Type 0
 IsFreeing op = ((reg : ℕ) × (op ≡ ops.Free reg)) ⊎ ((reg : ℕ) × (op ≡ ops.Reset reg))
 
--- if a class is named, the op asks for a slot of it, and else for a direct map for whose super pages the pool's entry `asked`
--- found no room
-abbrev pub MakesFull : List PoolEntry → ℕ → Option ℕ → ℕ → Op → Type 0
-MakesFull pools p None asked op = (size : ℕ) × AsksForMap op p size × FoundNone pools asked (shape_of size).supers
-MakesFull pools p (Some class) asked op = AsksForClass op p class
+-- if a class is named, the record asks for a slot of it, and else for a direct map for whose super pages the pool's entry
+-- `asked` found no room
+abbrev pub MakesFull : List PoolEntry → ℕ → Option ℕ → ℕ → Played → Type 0
+MakesFull pools p None asked x = (size : ℕ) × AsksForMap x p size × FoundNone pools asked (shape_of size).supers
+MakesFull pools p (Some class) asked x = AsksForClass x p class
 
--- The op makes this entry of partition p's journal. An allocation fills from its class, maps the shape of its size or finds no
--- room for them. A free or a reset gives back. A purge gives back and purges.
-abbrev pub MakesEntry : List PoolEntry → ℕ → RootAct → Op → Type 0
-MakesEntry pools p (Fill class asked slots) op = AsksForClass op p class
-MakesEntry pools p (Map asked slot len) op = (size : ℕ) × AsksForMap op p size × (len ≡ (shape_of size).slot)
-MakesEntry pools p (Full class asked) op = MakesFull pools p class asked op
-MakesEntry pools p (Give slots) op = IsFreeing op ⊎ (op ≡ ops.Purge)
-MakesEntry pools p (Unmap asked slot) op = IsFreeing op
-MakesEntry pools p Purge op = op ≡ ops.Purge
+-- The record's op makes this entry of partition p's journal. An allocation fills from its class, maps the shape of its size or
+-- finds no room for them. A free or a reset gives back. A purge gives back and purges.
+abbrev pub MakesEntry : List PoolEntry → ℕ → RootAct → Played → Type 0
+MakesEntry pools p (Fill class asked slots) x = AsksForClass x p class
+MakesEntry pools p (Map asked slot len) x = (size : ℕ) × AsksForMap x p size × (len ≡ (shape_of size).slot)
+MakesEntry pools p (Full class asked) x = MakesFull pools p class asked x
+MakesEntry pools p (Give slots) x = IsFreeing x.op ⊎ (x.op ≡ ops.Purge)
+MakesEntry pools p (Unmap asked slot) x = IsFreeing x.op
+MakesEntry pools p Purge x = x.op ≡ ops.Purge
 
 -- the act is a Full
 abbrev pub IsFull : RootAct → Type 0
 IsFull act = (class : Option ℕ) × (asked : ℕ) × (act ≡ Full class asked)
 
 -- The journals are those of the records.
+--   one: all records are played by the same rules
 --   journals: each is one of a root, replayed with the pool's entries
---   lines: each entry's line is an op that makes it
+--   lines: each entry's line is a record that makes it
 --   order: the entries of a journal are in the order of their records
 --   none_past: there are none past the trace's
 --   refusals: a record with the answer Full names a Full of its line
 pub record AreRoots (partitions : ℕ) (ps : List Played) (pools : List PoolEntry) (roots : Journals) : Type 0 where
+  pub one : (x y : Played) → Contains ps x → Contains ps y → x.rules ≡ y.rules
   pub journals : (p : ℕ) → IsJournal pools (roots p)
-  pub lines : (p j : ℕ) (e : RootEntry) → IsEntry roots p j e → (x : Played) × IsOfLine ps e.line x × MakesEntry pools p e.act x.op
+  pub lines : (p j : ℕ) (e : RootEntry) → IsEntry roots p j e → (x : Played) × IsOfLine ps e.line x × MakesEntry pools p e.act x
   pub order : (p : ℕ) → StandInOrder (λ e. e.line) ps (roots p)
   pub none_past : (p : ℕ) → partitions ≤ p → roots p ≡ []
   pub refusals : (x : Played) (j reg p size : ℕ) → Contains ps x → x.answer ≡ answers.Full j → x.op ≡ ops.Alloc reg p size

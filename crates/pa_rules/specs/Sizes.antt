@@ -1,19 +1,34 @@
--- How many bytes of the slot of a request are usable.
-use Rattle.std.specs.Prelude.{◌≡◌, ℕ, ◌+◌, ◌-◌, max, nat_le, find}
+-- Which classes and direct maps a version has, and how many bytes of the slot of a request are usable.
+use Rattle.std.specs.Prelude.{◌≡◌, ℕ, ◌+◌, ◌-◌, ◌<◌, ◌≤◌, max, nat_le, find}
 use Rattle.std.specs.Option.{option_map_or}
+use Rattle.pa_buckets.specs.Limits.{first_class, past_class, greatest_raw}
 use Rattle.pa_buckets.specs.Table.{rows_of, slot_of}
-use Rattle.pa_buckets.specs.Classes.{IsClassOf}
-use Rattle.pa_direct.specs.Shapes.{shape_of, IsDirectSize}
+use Rattle.pa_buckets.specs.Classes.{IsClassIn}
+use Rattle.pa_direct.specs.Shapes.{shape_of, greatest_size}
 
--- the size of a request's slot: that of the first class whose slots are large enough, or of a direct map if there is none
-unfoldable pub slot_size_for : ℕ → ℕ
-slot_size_for size = option_map_or (λ r. r.slot) (find (λ r. nat_le (max size 1 + 8) r.slot) (rows_of 1)) (shape_of size).slot
+-- the version has the class of this number
+abbrev pub HasClass : ℕ → ℕ → Type 0
+HasClass version c = (first_class version ≤ c) × (c < past_class version)
+
+-- the greatest request that has a class in the version: all bytes of its greatest slot but the count word
+abbrev pub most_with_class : ℕ → ℕ
+most_with_class version = greatest_raw version - 8
+
+-- a request that gets a direct map in the version: too large for a class there, and not too large for the region
+abbrev pub IsMapSize : ℕ → ℕ → Type 0
+IsMapSize version size = (most_with_class version < size) × (size ≤ greatest_size)
+
+-- the size of a request's slot in the version: that of its first class whose slots are large enough, or of a direct map if
+-- there is none
+unfoldable pub slot_size_for : ℕ → ℕ → ℕ
+slot_size_for version size =
+    option_map_or (λ r. r.slot) (find (λ r. nat_le (max size 1 + 8) r.slot) (rows_of version)) (shape_of size).slot
 
 -- how many bytes of a request's slot are usable: all but the count word
-abbrev pub usable_of : ℕ → ℕ
-usable_of size = slot_size_for size - 8
+abbrev pub usable_of : ℕ → ℕ → ℕ
+usable_of version size = slot_size_for version size - 8
 
--- a request's slot has the size of its class's slots, or of its direct map
+-- in each version a request's slot has the size of its class's slots, or of its direct map
 pub record SizesFit : Type 0 where
-  pub class : (size class : ℕ) → IsClassOf (max size 1 + 8) class → slot_size_for size ≡ slot_of class
-  pub direct : (size : ℕ) → IsDirectSize size → slot_size_for size ≡ (shape_of size).slot
+  pub class : (version size class : ℕ) → IsClassIn version (max size 1 + 8) class → slot_size_for version size ≡ slot_of class
+  pub direct : (version size : ℕ) → IsMapSize version size → slot_size_for version size ≡ (shape_of size).slot

@@ -1,6 +1,7 @@
 -- What a run contains, as lists.
 use Rattle.std.specs.Prelude.{ℕ, List}
 use Rattle.pa_trace.specs.declared.script.Trace.{Trace}
+use Rattle.pa_trace.specs.Rules.{rules_of}
 use Rattle.pa_record.specs.declared.entry.Entry.{Entry}
 use Rattle.pa_record.specs.declared.history.CellEntry.{CellEntry}
 use Rattle.pa_record.specs.declared.pool.PoolEntry.{PoolEntry}
@@ -26,4 +27,4 @@ told_by r = record { entries = r.entries.items; roots = journal_of r; pools = r.
 
 -- a run's records with the ops of the trace
 abbrev pub records_of : Trace → Told → List Played
-records_of t r = played t.lines r.entries
+records_of t r = played (rules_of t) t.lines r.entries

@@ -1,6 +1,7 @@
 -- What each clause requires of each place of a run's text, at which line it fails, and what a run's verdict is.
 use Rattle.std.specs.Prelude.{◌≡◌, ℕ, ◌<◌}
 use Rattle.pa_trace.specs.declared.script.Trace.{Trace}
+use Rattle.pa_trace.specs.Rules.{rules_of}
 use Rattle.pa_record.specs.declared.run.Run.{Run}
 use Rattle.pa_rules.specs.declared.verdict.Clause.{Clause}
 use Rattle.pa_rules.specs.declared.verdict.Clause.TheVariants as clauses
@@ -16,11 +17,11 @@ use Rattle.pa_rules.specs.Legal.{phases_in, IsLegal}
 
 -- the demand of a clause on a place: a fact that holds there
 abbrev pub Demand : Clause → Trace → Told → Place → Type 0
-Demand clauses.Lines t r place = LinesDemand t.lines r.entries place
+Demand clauses.Lines t r place = LinesDemand (rules_of t) t.lines r.entries place
 Demand clauses.Cells t r place = CellsDemand r.cells (records_of t r) place
-Demand clauses.Registers t r place = RegistersDemand usable_of r.cells (records_of t r) place
+Demand clauses.Registers t r place = RegistersDemand (usable_of t.version) r.cells (records_of t r) place
 Demand clauses.Slots t r place = SlotsDemand (records_of t r) place
-Demand clauses.Contents t r place = ContentsDemand usable_of r.cells (records_of t r) place
+Demand clauses.Contents t r place = ContentsDemand (usable_of t.version) r.cells (records_of t r) place
 Demand clauses.Pool t r place = PoolDemand t.region (records_of t r) r.pools r.roots place
 Demand clauses.Roots t r place = RootsDemand t.partitions (records_of t r) r.pools r.roots place
 Demand clauses.Titles t r place = TitlesDemand r.pools r.roots place

@@ -1,6 +1,7 @@
 -- A run that was worked out by hand: an allocation, its free, a purge and another allocation.
 use Rattle.std.specs.Prelude.{◌≡◌, ℕ, List, [], ◌∷◌, length}
 use Rattle.pa_slot.specs.declared.word.SlotName.{SlotName}
+use Rattle.pa_trace.specs.Rules.{first_rules}
 use Rattle.pa_trace.specs.declared.script.Op.{Op}
 use Rattle.pa_trace.specs.declared.script.Op.TheVariants as ops
 use Rattle.pa_record.specs.declared.entry.Seen.{Seen}
@@ -19,9 +20,9 @@ use Rattle.pa_rules.specs.Flow.{issues_of, returns_of, left_on, back_on}
 abbrev pub first_slot : ℕ → Seen
 first_slot word = record { slot = record { start = 16384; born = 0 }; found = record { 0 = word } }
 
--- a record of thread 0 in phase 1
+-- a record of thread 0 in phase 1, of version 1 and one partition
 abbrev pub of_first_thread : ℕ → Op → Answer → Played
-of_first_thread line op answer = record { line = line; thread = 0; phase = 1; op = op; answer = answer }
+of_first_thread line op answer = record { line = line; thread = 0; phase = 1; rules = first_rules 1; op = op; answer = answer }
 
 -- lines 2 to 5: 8 bytes get the first slot, its free returns it, a purge gives 8 slots back, and 8 bytes get the slot again
 abbrev pub purge_records : List Played

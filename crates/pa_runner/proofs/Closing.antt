@@ -9,6 +9,7 @@ use Rattle.pa_lists.proofs.Elements.{all_from_members}
 use Rattle.pa_slot.specs.declared.title.Title.{Title}
 use Rattle.pa_slot.specs.Links.{AreLinked, first_word}
 use Rattle.pa_slot.proofs.Links.{links_stay}
+use Rattle.pa_trace.specs.Rules.{rules_of}
 use Rattle.pa_record.specs.declared.entry.Entry.{Entry}
 use Rattle.pa_record.specs.declared.numbered.Numbered.{Numbered}
 use Rattle.pa_record.specs.declared.report.ReportLine.{ReportLine}
@@ -97,7 +98,8 @@ module _ (t : Trace) (workers : List WorkerValue) (seat : View) (report : List R
       let count = went.same_count in
       let theirs = workers_have_theirs t c limits course in
       record {
-        due = records_are_lines.due t.lines (played_in ts) (are_lines t c limits course);
+        rules = rules_of t;
+        due = records_are_lines.due (rules_of t) t.lines (played_in ts) (are_lines t c limits course);
         theirs = λ k below.
             let few : k < t.threads = omega arith in
             let told : (worker_in workers k).records ≡ (worker_in went.ends k).records = ap (λ (w : WorkerValue). w.records) (went.told.told k few) in

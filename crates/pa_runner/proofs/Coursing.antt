@@ -1,5 +1,8 @@
 -- A phase that passed is one more of the execution. When all workers have their stakes back, the next one begins.
 use Rattle.std.proofs.Common.{◌≡◌, ℕ, ◌+◌, ◌<◌, ◌≤◌, List, length, map, sym, ◌∙◌, ap, subst, arith}
+use Rattle.pa_trace.specs.declared.script.Rules.{Rules}
+use Rattle.pa_trace.specs.Rules.{rules_of}
+use Rattle.pa_op_specs.specs.Stocks.{rules_at}
 use Rattle.pa_region.specs.declared.view.View.{View}
 use Rattle.pa_region.specs.Views.{stake_of}
 use Rattle.pa_region.specs.Aware.{IsAware}
@@ -23,13 +26,16 @@ module _ (t : Trace) (n : ℕ) (c : Course) (queues : List (List LineOp)) (befor
 
   -- one phase more
   pub phase_grows : AreReady queues before → HasBegun t n c (worker_in before) → (1 ≤ n → HasSeenAll (c.seats n) first) →
-      ((k : ℕ) → k < t.threads → map (in_phase (n + 1) k) (queue_in queues k) ≡ lines_in t.lines (n + 1) k) →
+      ((k : ℕ) → k < t.threads → rules_at (worker_in before k).stock ≡ rules_of t) →
+      ((k : ℕ) → k < t.threads → map (in_phase (rules_of t) (n + 1) k) (queue_in queues k) ≡ lines_in (rules_of t) t.lines (n + 1) k) →
       (d : Course) × Agree n c d × HasEnded t (n + 1) d (worker_in passed.ends) seat
-  phase_grows ready begun more lines =
+  phase_grows ready begun more rules lines =
       courses_grow.ends t n c (worker_in before) (worker_in passed.ends) seat begun
       (λ k few.
       let (xs, all, of) = (passed.played k (omega arith)).plays (n + 1) in
-      (xs, all, of ∙ (ap (λ j. map (in_phase (n + 1) j) (queue_in queues k)) (thread_is queues before ready k (omega arith)) ∙ lines k few), passed.settled k (omega arith)))
+      let played_by = ap (λ (by : Rules). map (in_phase by (n + 1) (worker_in before k).stock.thread) (queue_in queues k)) (rules k few) in
+      let of_thread = ap (λ j. map (in_phase (rules_of t) (n + 1) j) (queue_in queues k)) (thread_is queues before ready k (omega arith)) in
+      (xs, all, of ∙ (played_by ∙ (of_thread ∙ lines k few)), passed.settled k (omega arith)))
       heard_all (λ some. sees_then (c.seats n) first seat (more some) passed.heard.grows)
 
   -- a worker that got its stake back from the main seat

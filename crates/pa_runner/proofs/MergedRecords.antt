@@ -6,6 +6,7 @@ use Rattle.std.proofs.lemmas.List.Elements.{filter-append}
 use Rattle.pa_trace.specs.declared.script.Line.{Line}
 use Rattle.pa_trace.specs.declared.script.Line.TheVariants.{Phase, Do}
 use Rattle.pa_trace.specs.declared.script.Op.{Op}
+use Rattle.pa_trace.specs.declared.script.Rules.{Rules}
 use Rattle.pa_record.specs.declared.entry.Entry.{Entry}
 use Rattle.pa_rules.specs.Played.{op_lines, key_of_line, key_of_entry}
 use Rattle.std.specs.List.{AllByRecursion}
@@ -23,10 +24,10 @@ keys_from n [] = []
 keys_from n (Phase ∷ ls) = keys_from (n + 1) ls
 keys_from n (Do thread op ∷ ls) = (n, thread) ∷ keys_from (n + 1) ls
 
-keys_are : (n phase : ℕ) (ls : List Line) → map key_of_line (op_lines n phase ls) ≡ keys_from n ls
-keys_are n phase [] = refl
-keys_are n phase (Phase ∷ ls) = keys_are (n + 1) (phase + 1) ls
-keys_are n phase (Do thread op ∷ ls) = ap (λ ks. (n, thread) ∷ ks) (keys_are (n + 1) phase ls)
+keys_are : (rules : Rules) (n phase : ℕ) (ls : List Line) → map key_of_line (op_lines rules n phase ls) ≡ keys_from n ls
+keys_are rules n phase [] = refl
+keys_are rules n phase (Phase ∷ ls) = keys_are rules (n + 1) (phase + 1) ls
+keys_are rules n phase (Do thread op ∷ ls) = ap (λ ks. (n, thread) ∷ ks) (keys_are rules (n + 1) phase ls)
 
 -- The records of the lines before index i were merged. For each thread it is known how many of its records that took.
 pub record IsMerging (i : ℕ) (ls : List Line) (next : List ℕ) (merged es : List Entry) : Type 0 where
@@ -35,9 +36,9 @@ pub record IsMerging (i : ℕ) (ls : List Line) (next : List ℕ) (merged es : L
   pub due : map key_of_entry rest ≡ keys_from (i + 2) (drop i ls)
   pub at : (k : ℕ) → k < 16 → slice_index next k ≡ length (filter (is_entry_of k) merged)
 
-pub merge_start : (ls : List Line) (next : List ℕ) (es : List Entry) → map key_of_entry es ≡ map key_of_line (op_lines 2 1 ls) →
+pub merge_start : (rules : Rules) (ls : List Line) (next : List ℕ) (es : List Entry) → map key_of_entry es ≡ map key_of_line (op_lines rules 2 1 ls) →
     ((k : ℕ) → k < 16 → slice_index next k ≡ 0) → IsMerging 0 ls next [] es
-merge_start ls next es due zeros = record { rest = es; is = refl; due = due ∙ keys_are 2 1 ls; at = zeros }
+merge_start rules ls next es due zeros = record { rest = es; is = refl; due = due ∙ keys_are rules 2 1 ls; at = zeros }
 
 drop_at : (ls : List Line) (i : ℕ) (d : Line) → i < length ls → drop i ls ≡ get_or ls i d ∷ drop (suc i) ls
 drop_at [] i d low = absurd (omega arith)
@@ -155,7 +156,7 @@ no_next (suc n) zero = refl
 no_next (suc n) (suc k) = no_next n k
 
 pub none_merged : (ls : List Line) (workers : List WorkerValue) (merged es : List Entry) → merged ≡ [] → IsMergeOf ls workers es → IsMerging 0 ls (replicate 16 0) merged es
-none_merged ls workers merged es none of = subst (λ m. IsMerging 0 ls (replicate 16 0) m es) (sym none) (merge_start ls (replicate 16 0) es of.due (λ k low. no_next 16 k))
+none_merged ls workers merged es none of = subst (λ m. IsMerging 0 ls (replicate 16 0) m es) (sym none) (merge_start of.rules ls (replicate 16 0) es of.due (λ k low. no_next 16 k))
 
 pub phase_merged : (i : ℕ) (ls : List Line) (d : Line) (next then : List ℕ) (merged now es : List Entry) → IsMerging i ls next merged es → i < length ls → get_or ls i d ≡ Phase →
     then ≡ next → now ≡ merged → IsMerging (i + 1) ls then now es

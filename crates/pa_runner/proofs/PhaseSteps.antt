@@ -4,6 +4,9 @@ use Rattle.std.proofs.Math.Seq.{take_all}
 use Rattle.std.proofs.lemmas.Bool.{cases_eq}
 use Rattle.std.proofs.lemmas.List.{length-set, length-replicate, get_or-set_same, get_or-set_other, get_or_default}
 use Rattle.std.proofs.lemmas.List.Elements.{All-from_recursion, All-get_or}
+use Rattle.pa_trace.specs.Rules.{rules_of, first_rules}
+use Rattle.pa_trace.specs.declared.script.Rules.{Rules}
+use Rattle.pa_op_specs.specs.Stocks.{rules_at}
 use Rattle.pa_record.specs.declared.report.ReportLine.{ReportLine}
 use Rattle.pa_region.specs.declared.view.View.{View}
 use Rattle.pa_region.specs.Aware.{IsAware}
@@ -118,6 +121,12 @@ module _ (t : Trace) (i phase : ℕ) (workers : List WorkerValue) (queues : List
       reported = going.reported;
     }
 
+  -- the workers play by the trace's rules
+  rules_are : (k : ℕ) → k < t.threads → rules_at (worker_in workers k).stock ≡ rules_of t
+  rules_are k few =
+      let by : ℕ → Rules = λ version. record { version = version; plain_from = t.partitions } in
+      ap first_rules (going.each k few).partitions ∙ ap by (sym within.version)
+
   -- what the end of the phase needs
   pub many_here : (0 < length workers) × (length workers ≤ 16)
   many_here =
@@ -167,12 +176,12 @@ module _ (t : Trace) (i phase : ℕ) (workers : List WorkerValue) (queues : List
     }
 
     module _ (aware : IsAware next) (told : View) (now : List ReportLine) (said : IsReported phase t.partitions (length workers) (worker_in after) told next report now) where
-      is_over : ((k : ℕ) → lines_in t.lines phase k ≡ lines_in (take i t.lines) phase k) → IsOver t phase passed.ends next now
+      is_over : ((k : ℕ) → lines_in (rules_of t) t.lines phase k ≡ lines_in (rules_of t) (take i t.lines) phase k) → IsOver t phase passed.ends next now
       is_over whole =
-          let lines : (k : ℕ) → k < t.threads → map (in_phase (going.over + 1) k) (queue_in queues k) ≡ lines_in t.lines (going.over + 1) k = λ k few.
-          subst (λ n. map (in_phase n k) (queue_in queues k) ≡ lines_in t.lines n k) going.phase_is
-          (subst (λ n. map (in_phase n k) (queue_in queues k) ≡ lines_in (take i t.lines) n k) going.here (going.each k few).lines ∙ sym (whole k)) in
-          let (d, agree, ended) = phase_grows t going.over going.course queues workers after seat next going.many passed aware ready_here going.begun going.seen lines in
+          let lines : (k : ℕ) → k < t.threads → map (in_phase (rules_of t) (going.over + 1) k) (queue_in queues k) ≡ lines_in (rules_of t) t.lines (going.over + 1) k = λ k few.
+          subst (λ n. map (in_phase (rules_of t) n k) (queue_in queues k) ≡ lines_in (rules_of t) t.lines n k) going.phase_is
+          (subst (λ n. map (in_phase (rules_of t) n k) (queue_in queues k) ≡ lines_in (rules_of t) (take i t.lines) n k) going.here (going.each k few).lines ∙ sym (whole k)) in
+          let (d, agree, ended) = phase_grows t going.over going.course queues workers after seat next going.many passed aware ready_here going.begun going.seen rules_are lines in
           let reported : IsReported (going.over + 1) t.partitions t.threads (worker_in after) told next report now =
           subst (λ n. IsReported n t.partitions t.threads (worker_in after) told next report now) going.phase_is
           (subst (λ n. IsReported phase t.partitions n (worker_in after) told next report now) going.many said) in
@@ -187,8 +196,8 @@ module _ (t : Trace) (i phase : ℕ) (workers : List WorkerValue) (queues : List
       pub going_ends : length t.lines ≤ i → length after ≡ length workers → HasPlayed t after next now
       going_ends past count =
           let all : phases_in t.lines ≡ phase = ap phases_in (sym (take_all i t.lines past)) ∙ going.here in
-          let over = is_over (λ k. subst (λ n. lines_in t.lines n k ≡ lines_in (take i t.lines) n k) all
-          (all_seen t.lines i k past ∙ ap (λ n. lines_in (take i t.lines) n k) (going.here ∙ sym all))) in
+          let over = is_over (λ k. subst (λ n. lines_in (rules_of t) t.lines n k ≡ lines_in (rules_of t) (take i t.lines) n k) all
+          (all_seen (rules_of t) t.lines i k past ∙ ap (λ n. lines_in (rules_of t) (take i t.lines) n k) (going.here ∙ sym all))) in
           record {
             course = over.course;
             ends = passed.ends;
@@ -227,7 +236,7 @@ module _ (t : Trace) (i phase : ℕ) (workers : List WorkerValue) (queues : List
             IsUnderWay t (i + 1) (phase + 1) again cleared last now
         going_next long none answered =
             let m = going.many in
-            let over = is_over (λ k. subst (λ n. lines_in t.lines n k ≡ lines_in (take i t.lines) n k) going.here (phase_whole t.lines i begins.low k begins.is)) in
+            let over = is_over (λ k. subst (λ n. lines_in (rules_of t) t.lines n k ≡ lines_in (rules_of t) (take i t.lines) n k) going.here (phase_whole t.lines i begins.low (rules_of t) k begins.is)) in
             let begun : HasBegun t (going.over + 1) over.course (worker_in again) =
             phase_begins t going.over over.course queues workers after seat next going.many passed aware over.course
             (subst (λ n. HasEnded t n over.course (worker_in passed.ends) next) going.phase_is over.ended) again

@@ -9,6 +9,7 @@ use Rattle.pa_trace.specs.declared.script.Line.TheVariants.{Phase, Do}
 use Rattle.pa_trace.specs.declared.script.Op.{Op}
 use Rattle.pa_trace.specs.declared.script.Trace.{Trace}
 use Rattle.pa_trace.specs.Limits.{IsOpWithin}
+use Rattle.pa_trace.specs.Rules.{rules_of}
 use Rattle.pa_record.specs.declared.entry.Entry.{Entry}
 use Rattle.pa_lists.proofs.Members.{in_cases, not_in_none}
 use Rattle.pa_region.specs.declared.view.View.{View}
@@ -120,9 +121,9 @@ module _ (t : Trace) (i : ℕ) (low : i < length t.lines) where
           let place : i + 2 + 1 ≡ i + 1 + 2 = omega arith in
           (n, before, subst (RiseTo n (queue ++ due ∷ [])) place (rise_push n queue (i + 2) due up refl));
       lines =
-          subst (λ n. map (in_phase n thread) (queue ++ due ∷ []) ≡ lines_in (take (i + 1) t.lines) n thread) (sym (phase_same t.lines i low thread op is))
-          (map-append (in_phase (phase_at i t.lines) thread) queue (due ∷ [])
-          ∙ (ap (λ (os : List OpLine). os ++ here t.lines i low thread op is ∷ []) at.lines ∙ sym (line_mine t.lines i low thread op is)));
+          subst (λ n. map (in_phase (rules_of t) n thread) (queue ++ due ∷ []) ≡ lines_in (rules_of t) (take (i + 1) t.lines) n thread) (sym (phase_same t.lines i low thread op is))
+          (map-append (in_phase (rules_of t) (phase_at i t.lines) thread) queue (due ∷ [])
+          ∙ (ap (λ (os : List OpLine). os ++ here t.lines i low thread op is (rules_of t) ∷ []) at.lines ∙ sym (line_mine t.lines i low thread op is (rules_of t))));
     }
 
     pub place_other : (k : ℕ) (queue : List LineOp) (w : WorkerValue) → (k ≡ thread → ⊥) → IsAtPlace t i k queue w → IsAtPlace t (i + 1) k queue w
@@ -144,8 +145,8 @@ module _ (t : Trace) (i : ℕ) (low : i < length t.lines) where
           let place : i + 2 + 1 ≡ i + 1 + 2 = omega arith in
           (n, before, subst (RiseTo n queue) place (rise_more n queue (i + 2) up));
       lines =
-          subst (λ n. map (in_phase n k) queue ≡ lines_in (take (i + 1) t.lines) n k) (sym (phase_same t.lines i low thread op is))
-          (at.lines ∙ sym (line_other t.lines i low thread op is k ne));
+          subst (λ n. map (in_phase (rules_of t) n k) queue ≡ lines_in (rules_of t) (take (i + 1) t.lines) n k) (sym (phase_same t.lines i low thread op is))
+          (at.lines ∙ sym (line_other t.lines i low thread op is (rules_of t) k ne));
     }
 
   -- a new phase begins: the worker played its lines, and has heard
@@ -168,7 +169,7 @@ module _ (t : Trace) (i : ℕ) (low : i < length t.lines) where
             omega arith;
         limits = tt;
         rise = (i + 2, before, omega arith);
-        lines = sym (phase_new t.lines i low k is);
+        lines = sym (phase_new t.lines i low (rules_of t) k is);
       }
     where
       before : AreBefore (i + 2) ended.records

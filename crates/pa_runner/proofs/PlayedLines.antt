@@ -12,6 +12,7 @@ use Rattle.std.specs.declared.result.Result.{Result}
 use Rattle.std.specs.declared.result.Result.TheVariants.{Ok, Err}
 use Rattle.std.specs.List.{AllByRecursion}
 use Rattle.pa_trace.specs.Limits.{IsOpWithin}
+use Rattle.pa_trace.specs.Rules.{first_rules}
 use Rattle.pa_record.specs.declared.entry.Answer.{Answer}
 use Rattle.pa_record.specs.declared.entry.Entry.{Entry}
 use Rattle.pa_lists.proofs.Members.{in_cases, not_in_none}
@@ -19,7 +20,7 @@ use Rattle.pa_rules.specs.declared.played.Played.{Played}
 use Rattle.pa_rules.specs.Played.{op_line_of, entry_of}
 use Rattle.pa_logs.specs.Told.{ToldRecord, played_in}
 use Rattle.pa_totals.specs.Settled.{none_owed, all_added}
-use Rattle.pa_op_specs.specs.Stocks.{StockValue}
+use Rattle.pa_op_specs.specs.Stocks.{StockValue, rules_at}
 use Rattle.pa_op_specs.specs.Workers.{WorkerValue, IsWorker, HasItsStake, CanPlayOp, KeepsOn}
 use Rattle.pa_op_specs.specs.Plays.{PlaysOp, PlaysAll}
 use Rattle.pa_op_specs.specs.Settling.{SettlingEndsPhase, last_lengthened, settled_worker}
@@ -67,11 +68,12 @@ plays_then xs ys u v w first second = record {
       let (thread, many) = stays u v a played in
       let joined : map op_line_of (played_in (a ++ b)) ≡ map op_line_of (played_in a) ++ map op_line_of (played_in b) =
       ap (map op_line_of) (map-append (λ (x : ToldRecord). x.played) a b) ∙ map-append op_line_of (played_in a) (played_in b) in
-      let same : map (in_phase phase v.stock.thread) ys ≡ map (in_phase phase u.stock.thread) ys = ap (λ k. map (in_phase phase k) ys) thread in (
+      let same : map (in_phase (rules_at v.stock) phase v.stock.thread) ys ≡ map (in_phase (rules_at u.stock) phase u.stock.thread) ys =
+      ap (λ n. map (in_phase (first_rules n) phase v.stock.thread) ys) many ∙ ap (λ k. map (in_phase (rules_at u.stock) phase k) ys) thread in (
         a ++ b,
         composes u v w a b played more,
         joined ∙ (ap (λ os. os ++ map op_line_of (played_in b)) lines
-            ∙ (ap (λ os. map (in_phase phase u.stock.thread) xs ++ os) (rest ∙ same) ∙ sym (map-append (in_phase phase u.stock.thread) xs ys))),
+            ∙ (ap (λ os. map (in_phase (rules_at u.stock) phase u.stock.thread) xs ++ os) (rest ∙ same) ∙ sym (map-append (in_phase (rules_at u.stock) phase u.stock.thread) xs ys))),
       );
   going = second.going;
   stake = second.stake;
@@ -210,9 +212,9 @@ some_there (suc n) b is none = omega arith
 -- ---- it settles what it owes
 
 module _ (ends : SettlingEndsPhase) (ds : List LineOp) (u v : WorkerValue) (some : 0 < length ds) (kept : IsWorker v) (played : PlaysLines ds u v) where
-  settled_plays : (phase : ℕ) (xs : List ToldRecord) → PlaysAll u xs v → map op_line_of (played_in xs) ≡ map (in_phase phase u.stock.thread) ds →
-      (ys : List ToldRecord) × PlaysAll u ys (settled_worker v) × (map op_line_of (played_in ys) ≡ map (in_phase phase u.stock.thread) ds)
-  settled_plays phase [] all of = absurd (let a = ap (λ os. length os) of in let b = length-map ds (in_phase phase u.stock.thread) in omega arith)
+  settled_plays : (phase : ℕ) (xs : List ToldRecord) → PlaysAll u xs v → map op_line_of (played_in xs) ≡ map (in_phase (rules_at u.stock) phase u.stock.thread) ds →
+      (ys : List ToldRecord) × PlaysAll u ys (settled_worker v) × (map op_line_of (played_in ys) ≡ map (in_phase (rules_at u.stock) phase u.stock.thread) ds)
+  settled_plays phase [] all of = absurd (let a = ap (λ os. length os) of in let b = length-map ds (in_phase (rules_at u.stock) phase u.stock.thread) in omega arith)
   settled_plays phase (x ∷ xs) all of =
       let (more, same) = ends u v x xs all kept played.stake in
       (last_lengthened (all_added v.owed) (x ∷ xs), more, ap (map op_line_of) same ∙ of)
@@ -244,9 +246,9 @@ back_none ds i u v past none played settled =
     let (xs, all, of) = whole.plays 0 in
     back_whole ds u v whole (owes xs all of)
   where
-    owes : (xs : List ToldRecord) → PlaysAll u xs v → map op_line_of (played_in xs) ≡ map (in_phase 0 u.stock.thread) ds → v.owed ≡ none_owed
+    owes : (xs : List ToldRecord) → PlaysAll u xs v → map op_line_of (played_in xs) ≡ map (in_phase (rules_at u.stock) 0 u.stock.thread) ds → v.owed ≡ none_owed
     owes [] same of = ap (λ (w : WorkerValue). w.owed) same ∙ settled
-    owes (x ∷ xs) more of = absurd (let a = ap (λ os. length os) of in let b = length-map ds (in_phase 0 u.stock.thread) in omega arith)
+    owes (x ∷ xs) more of = absurd (let a = ap (λ os. length os) of in let b = length-map ds (in_phase (rules_at u.stock) 0 u.stock.thread) in omega arith)
 
 -- it had some, and settled then
 pub back_settled : SettlingEndsPhase → (ds : List LineOp) (i : ℕ) (u v w : WorkerValue) → length ds ≤ i → 0 < length ds → PlaysLines (take i ds) u v → IsWorker v → w ≡ settled_worker v →

@@ -2,6 +2,8 @@
 use Rattle.std.specs.Prelude.{◌≡◌, ℕ, ◌+◌, ◌<◌, ◌≤◌, List, [], ◌∷◌, ◌++◌, Some, true, false, map, length, take, slice_get, Contains}
 use Rattle.std.specs.List.{AllByRecursion}
 use Rattle.pa_trace.specs.Limits.{IsOpWithin}
+use Rattle.pa_trace.specs.declared.script.Rules.{Rules}
+use Rattle.pa_op_specs.specs.Stocks.{rules_at}
 use Rattle.pa_record.specs.declared.entry.Entry.{Entry}
 use Rattle.pa_rules.specs.Played.{OpLine, op_line_of}
 use Rattle.pa_logs.specs.Told.{ToldRecord, played_in}
@@ -12,9 +14,9 @@ use Rattle.pa_thread_state.specs.Stopping.{KeepsItsStake}
 use Rattle.pa_runner.specs.declared.thread_lines.LineOp.{LineOp}
 use Rattle.pa_runner.specs.Stopped.{StopsOp}
 
--- the op line that this is, of a thread in a phase
-abbrev pub in_phase : (phase thread : ℕ) → LineOp → OpLine
-in_phase phase thread due = record { line = due.line; thread = thread; phase = phase; op = due.op }
+-- the op line that this is, by these rules, of a thread in a phase
+abbrev pub in_phase : Rules → (phase thread : ℕ) → LineOp → OpLine
+in_phase rules phase thread due = record { line = due.line; thread = thread; phase = phase; rules = rules; op = due.op }
 
 -- the line numbers rise, from line n on
 abbrev pub RiseFrom : ℕ → List LineOp → Type 0
@@ -42,7 +44,7 @@ pub record CanPlay (lines : List LineOp) (w : WorkerValue) : Type 0 where
 -- and room for as many records in all as before.
 pub record PlaysLines (lines : List LineOp) (before after : WorkerValue) : Type 0 where
   pub plays : (phase : ℕ) → (xs : List ToldRecord) × PlaysAll before xs after
-      × (map op_line_of (played_in xs) ≡ map (in_phase phase before.stock.thread) lines)
+      × (map op_line_of (played_in xs) ≡ map (in_phase (rules_at before.stock) phase before.stock.thread) lines)
   pub going : after.stopped ≡ false
   pub stake : HasItsStake after.stock
   pub records : (es : List Entry) × (after.records ≡ before.records ++ es)

@@ -6,6 +6,7 @@ use Rattle.pa_trace.specs.declared.script.Line.{Line}
 use Rattle.pa_trace.specs.declared.script.Line.TheVariants.{Phase}
 use Rattle.pa_trace.specs.declared.script.Trace.{Trace}
 use Rattle.pa_trace.specs.Limits.{IsOpWithin}
+use Rattle.pa_trace.specs.Rules.{rules_of}
 use Rattle.pa_record.specs.declared.report.ReportLine.{ReportLine}
 use Rattle.pa_region.specs.declared.view.View.{View}
 use Rattle.pa_region.specs.Views.{HasEveryStake}
@@ -39,7 +40,8 @@ pub record IsAtPlace (t : Trace) (i k : ℕ) (queue : List LineOp) (w : WorkerVa
   pub count : length w.records + length queue ≡ lines_by k (take i t.lines)
   pub limits : AllByRecursion (λ (due : LineOp). IsOpWithin t.partitions due.op) queue
   pub rise : (n : ℕ) × AreBefore n w.records × RiseTo n queue (i + 2)
-  pub lines : map (in_phase (phases_in (take i t.lines)) k) queue ≡ lines_in (take i t.lines) (phases_in (take i t.lines)) k
+  pub lines : map (in_phase (rules_of t) (phases_in (take i t.lines)) k) queue
+      ≡ lines_in (rules_of t) (take i t.lines) (phases_in (take i t.lines)) k
 
 -- The report has a line for each partition of each of the first phases, and each is right at the end of its phase.
 pub record IsReportOf (t : Trace) (phases : ℕ) (course : Course) (report : List ReportLine) : Type 0 where

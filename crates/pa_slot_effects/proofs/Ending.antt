@@ -76,10 +76,10 @@ steps_past s l k (n ∷ ms) m le lt (suc i, c, same) at made =
     omega (arith, steps_cons s l n ms, steps_cons s k n ms, one_on s l k n (omega arith), steps_past s l k ms m le lt (i, omega (arith, c), same) at made)
 
 -- a record that is before another has a smaller line
-module _ (ls : List Line) (ps : List Played) (a : Shown) (lines : AreLines ls ps) (h : HasExchanged a.cells a.held ps (length ls + 2)) where
+module _ (ls : List Line) (ps : List Played) (a : Shown) (lines : AreLines a.rules ls ps) (h : HasExchanged a.cells a.held ps (length ls + 2)) where
   stands : (x y : Played) → Contains ps x → Contains ps y → StandsBefore x y → x.line < y.line
   stands x y c d (inl t) = t.1
-  stands x y c d (inr p) = played_phases ls ps lines x y c d p
+  stands x y c d (inr p) = played_phases a.rules ls ps lines x y c d p
 
   before_line : (x y : Played) → Contains ps x → Contains ps y → IsBefore a.cells ps x y → x.line < y.line
   before_line x y c d (Standing s) = stands x y c d s
@@ -104,24 +104,24 @@ seen_in_file_order threads ls ps a h = record {
 }
 
 -- what was read exactly is allowed
-allowed : (cells : ℕ → List CellEntry) (ps : List Played) (x : Played) (answer : Answer) → IsReadExact ps answer → IsReadAllowed usable_of cells ps x answer
-allowed cells ps x (Made seen n) h = tt
-allowed cells ps x (Done seen) h = tt
-allowed cells ps x (Value seen value) h = inl h
-allowed cells ps x (Dangling seen value) h = h
-allowed cells ps x (SecondFree seen) h = tt
-allowed cells ps x (NotOwner seen) h = tt
-allowed cells ps x StaleReset h = tt
-allowed cells ps x (StaleUse seen) h = tt
-allowed cells ps x Nothing h = tt
-allowed cells ps x Filled h = tt
-allowed cells ps x NotRef h = tt
-allowed cells ps x (Shared seen) h = tt
-allowed cells ps x OutOfRange h = tt
-allowed cells ps x TooLarge h = tt
-allowed cells ps x (Full entry) h = tt
-allowed cells ps x (Swapped entry) h = tt
-allowed cells ps x (Purged slots) h = tt
+allowed : (version : ℕ) (cells : ℕ → List CellEntry) (ps : List Played) (x : Played) (answer : Answer) → IsReadExact ps answer → IsReadAllowed (usable_of version) cells ps x answer
+allowed version cells ps x (Made seen n) h = tt
+allowed version cells ps x (Done seen) h = tt
+allowed version cells ps x (Value seen value) h = inl h
+allowed version cells ps x (Dangling seen value) h = h
+allowed version cells ps x (SecondFree seen) h = tt
+allowed version cells ps x (NotOwner seen) h = tt
+allowed version cells ps x StaleReset h = tt
+allowed version cells ps x (StaleUse seen) h = tt
+allowed version cells ps x Nothing h = tt
+allowed version cells ps x Filled h = tt
+allowed version cells ps x NotRef h = tt
+allowed version cells ps x (Shared seen) h = tt
+allowed version cells ps x OutOfRange h = tt
+allowed version cells ps x TooLarge h = tt
+allowed version cells ps x (Full entry) h = tt
+allowed version cells ps x (Swapped entry) h = tt
+allowed version cells ps x (Purged slots) h = tt
 
 path_last_word : (ms : List Mark) (s : SlotName) (u : ℕ) (vs : List ℕ) (w : ℕ) → IsPath ms s u vs w → last_word u vs ≡ w
 path_last_word ms s u [] w h = h
@@ -136,8 +136,8 @@ word_at_end threads ls ps a h s =
     )
 
 -- the rows lead from empty registers to these
-pub rows_told : (threads : ℕ) (ls : List Line) (ps : List Played) (a : Shown) → IsToldTo threads ls ps a → RowsTo (facts_of (usable_in ps) a.cells) no_regs ps a.regs
-rows_told threads ls ps a h = rows_end a.word a.word a.usable (usable_in ps) a.cells a.cells (record {
+pub rows_told : (threads : ℕ) (ls : List Line) (ps : List Played) (a : Shown) → IsToldTo threads ls ps a → RowsTo (facts_of a.rules.version (usable_in ps) a.cells) no_regs ps a.regs
+rows_told threads ls ps a h = rows_end a.rules.version a.word a.word a.usable (usable_in ps) a.cells a.cells (record {
   used = λ s u. u;
   sizes = λ s up.
       let m = used_made ps a.word s h.runs up in
@@ -147,12 +147,12 @@ rows_told threads ls ps a h = rows_end a.word a.word a.usable (usable_in ps) a.c
 
 pub ends_right : EndsRight
 ends_right threads ls ps a h = record {
-  rising = lines_rise ls ps h.lines;
-  due = records_are_lines.due ls ps h.lines;
-  cells = exchanged_cells a.cells a.held ps (length ls + 2) h.exchanged (played_phases ls ps h.lines);
+  rising = lines_rise a.rules ls ps h.lines;
+  due = records_are_lines.due a.rules ls ps h.lines;
+  cells = exchanged_cells a.cells a.held ps (length ls + 2) h.exchanged (played_phases a.rules ls ps h.lines);
   registers = (a.regs, rows_told threads ls ps a h);
   slots = slots_of_runs (marks_of ps) a.word h.runs;
-  contents = λ x c. allowed a.cells ps x x.answer (h.contents.read x c);
+  contents = λ x c. allowed a.rules.version a.cells ps x x.answer (h.contents.read x c);
   seen = seen_in_file_order threads ls ps a h;
   used = h.used;
   words = word_at_end threads ls ps a h;

@@ -24,12 +24,13 @@ use Rattle.pa_slot_effects.proofs.Turn.{Tells, turn_extends, same_regs}
 -- a turn that changes nothing
 still : (threads : ℕ) (ls : List Line) (ps : List Played) (a : Shown) (thread : ℕ) (op : Op) (answer : Answer) → CanPlay threads ls ps a thread
     → ((cell r : ℕ) → op ≡ ops.Swap cell r → ⊥) → ((u : Seen) (n : ℕ) → answer ≡ Made u n → ⊥)
-    → Tells (mark_of (played_at ls thread op answer)) a.word a.word → HasFound a.word (played_at ls thread op answer)
-    → IsReadExact (ps ++ played_at ls thread op answer ∷ []) answer
-    → Row (facts_of a.usable a.cells) op (a.regs thread) answer (a.regs thread) → LeadsTo threads ls ps thread op answer a
+    → Tells (mark_of (played_at a.rules ls thread op answer)) a.word a.word → HasFound a.word (played_at a.rules ls thread op answer)
+    → IsReadExact (ps ++ played_at a.rules ls thread op answer ∷ []) answer
+    → Row (facts_of a.rules.version a.usable a.cells) op (a.regs thread) answer (a.regs thread) → LeadsTo threads ls ps thread op answer a
 still threads ls ps a thread op answer can other unmade tells found read row =
-    let x = played_at ls thread op answer in
+    let x = played_at a.rules ls thread op answer in
     turn_extends threads ls ps thread op answer a a can.told (record {
+      rules = refl;
       row = row;
       regs = same_regs a.regs thread;
       usable = refl;
@@ -83,7 +84,7 @@ none_read ps (Purged slots) h = tt
 
 pub none_goes_on : NoneGoesOn
 none_goes_on threads ls ps a thread op answer can none other row =
-    let x = played_at ls thread op answer in
+    let x = played_at a.rules ls thread op answer in
     let silent : mark_of x ≡ None = none_mark (length ls + 2) op answer none in
     still threads ls ps a thread op answer can other
     (λ u n e. let P : Answer → Type 0 = λ z. TellsNone z in subst P e none)
@@ -138,7 +139,7 @@ look_read ps a s (Purged slots) h is = absurd h
 
 pub look_goes_on : LookGoesOn
 look_goes_on threads ls ps a thread reg op answer seen can hr names found looks other row =
-    let x = played_at ls thread op answer in
+    let x = played_at a.rules ls thread op answer in
     let m : Mark = mark_at (length ls + 2) seen None in
     let told : mark_of x ≡ Some m = look_mark (length ls + 2) op a seen answer looks in
     let U : ℕ → Type 0 = λ w. 0 < held_of w + refs_of w in

@@ -36,22 +36,23 @@ becomes regs thread reg x k = ap (λ (row : Regs). row k) (reg_here regs thread 
 -- a turn that steps the slot that was seen, and changes one register
 step_turn : (threads : ℕ) (ls : List Line) (ps : List Played) (a : Shown) (thread reg : ℕ) (op : Op) (answer : Answer) (seen : Seen) (p : Step) (old new : Reg) (content : SlotName → ℕ)
     → CanPlay threads ls ps a thread → reg < 64 → a.regs thread reg ≡ old
-    → mark_of (played_at ls thread op answer) ≡ Some (mark_at (length ls + 2) seen (Some p))
+    → mark_of (played_at a.rules ls thread op answer) ≡ Some (mark_at (length ls + 2) seen (Some p))
     → ((cell r : ℕ) → op ≡ ops.Swap cell r → ⊥)
     → ((u : Seen) (n : ℕ) → answer ≡ Made u n → n ≡ a.usable u.slot)
     → seen.found.0 ≡ a.word seen.slot → CanStep p seen.found.0 → Balances seen.slot p seen.found.0 old new
     → IsUsed (with_slot a.word seen.slot (stepped p seen.found.0)) new
-    → Row (facts_of a.usable a.cells) op (a.regs thread) answer (with_reg a.regs thread reg new thread)
-    → HasContents (ps ++ played_at ls thread op answer ∷ []) (with_slot a.word seen.slot (stepped p seen.found.0)) content
+    → Row (facts_of a.rules.version a.usable a.cells) op (a.regs thread) answer (with_reg a.regs thread reg new thread)
+    → HasContents (ps ++ played_at a.rules ls thread op answer ∷ []) (with_slot a.word seen.slot (stepped p seen.found.0)) content
     → LeadsTo threads ls ps thread op answer (record a { regs = with_reg a.regs thread reg new; word = with_slot a.word seen.slot (stepped p seen.found.0); content = content })
 step_turn threads ls ps a thread reg op answer seen p old new content can hr was mark other sized found able balance used row contents =
     let after = with_slot a.word seen.slot (stepped p seen.found.0) in
     let b : Shown = record a { regs = with_reg a.regs thread reg new; word = after; content = content } in
-    let x = played_at ls thread op answer in
+    let x = played_at a.rules ls thread op answer in
     let m : Mark = mark_at (length ls + 2) seen (Some p) in
     let st : StepsTo seen.slot p seen.found.0 a.word after = steps_slot a.word seen.slot p seen.found.0 found able in
     let up : (t : SlotName) → 0 < a.word t → 0 < after t = stays_used (Some m) a.word after st in
     turn_extends threads ls ps thread op answer a b can.told (record {
+      rules = refl;
       row = row;
       regs = ap (λ (r : Regs). with_thread a.regs thread r) (sym (reg_here a.regs thread reg new));
       usable = refl;
@@ -76,11 +77,11 @@ neither x op seen e o unwritten = (
 
 -- the contents over a step that leaves them
 contents_left : (threads : ℕ) (ls : List Line) (ps : List Played) (a : Shown) (thread : ℕ) (op : Op) (seen : Seen) (p : Step) → IsToldTo threads ls ps a
-    → mark_of (played_at ls thread op (Done seen)) ≡ Some (mark_at (length ls + 2) seen (Some p)) → ((reg value : ℕ) → op ≡ ops.Write reg value → ⊥)
+    → mark_of (played_at a.rules ls thread op (Done seen)) ≡ Some (mark_at (length ls + 2) seen (Some p)) → ((reg value : ℕ) → op ≡ ops.Write reg value → ⊥)
     → seen.found.0 ≡ a.word seen.slot → CanStep p seen.found.0 → (p ≡ steps.Issue → ⊥)
-    → HasContents (ps ++ played_at ls thread op (Done seen) ∷ []) (with_slot a.word seen.slot (stepped p seen.found.0)) a.content
+    → HasContents (ps ++ played_at a.rules ls thread op (Done seen) ∷ []) (with_slot a.word seen.slot (stepped p seen.found.0)) a.content
 contents_left threads ls ps a thread op seen p t mark unwritten found can issue =
-    let x = played_at ls thread op (Done seen) in
+    let x = played_at a.rules ls thread op (Done seen) in
     let after = with_slot a.word seen.slot (stepped p seen.found.0) in
     let m : Mark = mark_at (length ls + 2) seen (Some p) in
     let st : StepsTo seen.slot p seen.found.0 a.word after = steps_slot a.word seen.slot p seen.found.0 found can in
@@ -126,8 +127,8 @@ copy_row Cleared s regs to seen after n h e b = absurd n
 pub made_goes_on : MadeGoesOn
 made_goes_on threads ls ps a thread reg partition size seen can hr none le found held refs usable =
     let op = ops.Alloc reg partition size in
-    let answer = Made seen (usable_of size) in
-    let x = played_at ls thread op answer in
+    let answer = Made seen (usable_of a.rules.version size) in
+    let x = played_at a.rules ls thread op answer in
     let s = seen.slot in
     let after = with_slot a.word s (stepped steps.Issue seen.found.0) in
     let now = with_slot a.content s 0 in
@@ -139,15 +140,15 @@ made_goes_on threads ls ps a thread reg partition size seen can hr none le found
     let V : ℕ → Type 0 = λ v. IsContent (ps ++ x ∷ []) s (number_of (after s)) v in
     step_turn threads ls ps a thread reg op answer seen steps.Issue (a.regs thread reg) (Own s) now can hr refl refl (λ k r e. cc)
     (λ u n e.
-    let same : Made seen (usable_of size) ≡ Made u n = e in
+    let same : Made seen (usable_of a.rules.version size) ≡ Made u n = e in
     let one : seen ≡ u = cc in
-    let two : usable_of size ≡ n = cc in
+    let two : usable_of a.rules.version size ≡ n = cc in
     sym two ∙ sym usable ∙ ap (λ (z : Seen). a.usable z.slot) one)
     found c (issue_balances s seen.found.0 (a.regs thread reg) none held refs) (stepped_up a.word s steps.Issue seen.found.0 c)
-    (alloc_row (a.regs thread reg) (facts_of a.usable a.cells) (a.regs thread) reg size seen (with_reg a.regs thread reg (Own s) thread) none le (becomes a.regs thread reg (Own s)))
+    (alloc_row (a.regs thread reg) (facts_of a.rules.version a.usable a.cells) (a.regs thread) reg size seen (with_reg a.regs thread reg (Own s) thread) none le (becomes a.regs thread reg (Own s)))
     (contents_step ps x (length ls + 2) a.word a.content after now s can.told.numbers can.told.contents (found_by a.word x m refl found)
     st.others (λ t ne. at_other_slot a.content s 0 t ne)
-    (λ h. subst V (sym (at_slot a.content s 0)) (content_made ps x a.word after seen (usable_of size) can.told.runs refl st))
+    (λ h. subst V (sym (at_slot a.content s 0)) (content_made ps x a.word after seen (usable_of a.rules.version size) can.told.runs refl st))
     tt)
 
 pub copy_goes_on : CopyGoesOn
@@ -199,7 +200,7 @@ pub write_goes_on : WriteGoesOn
 write_goes_on threads ls ps a thread reg value seen can hr was found alone =
     let s = seen.slot in
     let op = ops.Write reg value in
-    let x = played_at ls thread op (Done seen) in
+    let x = played_at a.rules ls thread op (Done seen) in
     let after = with_slot a.word s (stepped steps.Write seen.found.0) in
     let now = with_slot a.content s value in
     let lets = handle_lets threads ls ps a thread reg can hr in

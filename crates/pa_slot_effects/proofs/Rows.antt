@@ -28,9 +28,9 @@ used_on word next up (Ref s) h = up s h
 used_on word next up Freed h = tt
 used_on word next up Cleared h = tt
 
-module _ (word next usable later : SlotName → ℕ) (cells after : ℕ → List CellEntry) (like : GoesOn word next usable later cells after) where
+module _ (version : ℕ) (word next usable later : SlotName → ℕ) (cells after : ℕ → List CellEntry) (like : GoesOn word next usable later cells after) where
   alloc_like : (r : Reg) (regs : Regs) (reg size : ℕ) (answer : Answer) (then' : Regs)
-      → AllocRow r (facts_of usable cells) regs reg size answer then' → AllocRow r (facts_of later after) regs reg size answer then'
+      → AllocRow r (facts_of version usable cells) regs reg size answer then' → AllocRow r (facts_of version later after) regs reg size answer then'
   alloc_like Empty regs reg size answer then' h = h
   alloc_like (Own s) regs reg size answer then' h = h
   alloc_like (Ref s) regs reg size answer then' h = h
@@ -38,13 +38,13 @@ module _ (word next usable later : SlotName → ℕ) (cells after : ℕ → List
   alloc_like Cleared regs reg size answer then' h = h
 
   read_from_like : (s : SlotName) (regs : Regs) (place : ℕ) (answer : Answer) (then' : Regs) → 0 < word s
-      → ReadFromRow s (facts_of usable cells) regs place answer then' → ReadFromRow s (facts_of later after) regs place answer then'
+      → ReadFromRow s (facts_of version usable cells) regs place answer then' → ReadFromRow s (facts_of version later after) regs place answer then'
   read_from_like s regs place answer then' used h =
-      let P : ℕ → Type 0 = λ u. ReadFromRow s (facts_of (λ t. u) after) regs place answer then' in
+      let P : ℕ → Type 0 = λ u. ReadFromRow s (facts_of version (λ t. u) after) regs place answer then' in
       subst P (sym (like.sizes s used)) h
 
   read_like : (r : Reg) (regs : Regs) (place : ℕ) (answer : Answer) (then' : Regs) → IsUsed word r
-      → ReadRow r (facts_of usable cells) regs place answer then' → ReadRow r (facts_of later after) regs place answer then'
+      → ReadRow r (facts_of version usable cells) regs place answer then' → ReadRow r (facts_of version later after) regs place answer then'
   read_like Empty regs place answer then' used h = h
   read_like (Own s) regs place answer then' used h = read_from_like s regs place answer then' used h
   read_like (Ref s) regs place answer then' used h = read_from_like s regs place answer then' used h
@@ -52,7 +52,7 @@ module _ (word next usable later : SlotName → ℕ) (cells after : ℕ → List
   read_like Cleared regs place answer then' used h = h
 
   row_like : (op : Op) (regs : Regs) (answer : Answer) (then' : Regs) → ((r : ℕ) → IsUsed word (regs r))
-      → Row (facts_of usable cells) op regs answer then' → Row (facts_of later after) op regs answer then'
+      → Row (facts_of version usable cells) op regs answer then' → Row (facts_of version later after) op regs answer then'
   row_like (ops.Alloc reg partition size) regs answer then' used h = alloc_like (regs reg) regs reg size answer then' h
   row_like (ops.Copy from to) regs answer then' used h = h
   row_like (ops.Reset reg) regs answer then' used h = h
@@ -63,7 +63,7 @@ module _ (word next usable later : SlotName → ℕ) (cells after : ℕ → List
   row_like ops.Purge regs answer then' used h = h
 
   -- rows stay rows by longer histories, with more steps, more slots made and more exchanges
-  pub rows_on : (all : AllRegs) (ps : List Played) (end : AllRegs) → RowsNamed word usable cells all ps end → RowsNamed next later after all ps end
+  pub rows_on : (all : AllRegs) (ps : List Played) (end : AllRegs) → RowsNamed version word usable cells all ps end → RowsNamed version next later after all ps end
   rows_on all [] end h = h
   rows_on all (x ∷ xs) end h = (
     (λ r. used_on word next like.used (all x.thread r) (h.0 r)),
@@ -73,20 +73,20 @@ module _ (word next usable later : SlotName → ℕ) (cells after : ℕ → List
   )
 
   -- the rows as the rules ask
-  pub rows_end : (all : AllRegs) (ps : List Played) (end : AllRegs) → RowsNamed word usable cells all ps end → RowsTo (facts_of later after) all ps end
+  pub rows_end : (all : AllRegs) (ps : List Played) (end : AllRegs) → RowsNamed version word usable cells all ps end → RowsTo (facts_of version later after) all ps end
   rows_end all [] end h = h
   rows_end all (x ∷ xs) end h = (h.1, row_like x.op (all x.thread) x.answer h.1 h.0 h.2, rows_end (with_thread all x.thread h.1) xs end h.3)
 
 -- a row more
-pub rows_push : (word usable : SlotName → ℕ) (cells : ℕ → List CellEntry) (all : AllRegs) (ps : List Played) (mid : AllRegs) (x : Played) (next : Regs)
-    → RowsNamed word usable cells all ps mid → ((r : ℕ) → IsUsed word (mid x.thread r)) → Row (facts_of usable cells) x.op (mid x.thread) x.answer next
-    → RowsNamed word usable cells all (ps ++ x ∷ []) (with_thread mid x.thread next)
-rows_push word usable cells all [] mid x next h named r =
-    let P : AllRegs → Type 0 = λ y. Row (facts_of usable cells) x.op (y x.thread) x.answer next in
+pub rows_push : (version : ℕ) (word usable : SlotName → ℕ) (cells : ℕ → List CellEntry) (all : AllRegs) (ps : List Played) (mid : AllRegs) (x : Played) (next : Regs)
+    → RowsNamed version word usable cells all ps mid → ((r : ℕ) → IsUsed word (mid x.thread r)) → Row (facts_of version usable cells) x.op (mid x.thread) x.answer next
+    → RowsNamed version word usable cells all (ps ++ x ∷ []) (with_thread mid x.thread next)
+rows_push version word usable cells all [] mid x next h named r =
+    let P : AllRegs → Type 0 = λ y. Row (facts_of version usable cells) x.op (y x.thread) x.answer next in
     let N : AllRegs → Type 0 = λ y. (r : ℕ) → IsUsed word (y x.thread r) in
     (subst N h named, next, subst P h r, ap (λ (y : AllRegs). with_thread y x.thread next) h)
-rows_push word usable cells all (q ∷ ps) mid x next h named r =
-    (h.0, h.1, h.2, rows_push word usable cells (with_thread all q.thread h.1) ps mid x next h.3 named r)
+rows_push version word usable cells all (q ∷ ps) mid x next h named r =
+    (h.0, h.1, h.2, rows_push version word usable cells (with_thread all q.thread h.1) ps mid x next h.3 named r)
 
 -- a record says how many bytes of a slot are usable, or leaves it to the later ones
 usable_told : (usable : SlotName → ℕ) (a : Answer) (s : SlotName) (other : ℕ) → ((seen : Seen) (n : ℕ) → a ≡ Made seen n → n ≡ usable seen.slot)

@@ -6,6 +6,7 @@ use Rattle.pa_slot.specs.Count.{held_of, number_of}
 use Rattle.pa_slot.proofs.Runs.{runs_none}
 use Rattle.pa_trace.specs.declared.script.Line.{Line}
 use Rattle.pa_trace.specs.declared.script.Line.TheVariants.{Phase}
+use Rattle.pa_trace.specs.declared.script.Rules.{Rules}
 use Rattle.pa_record.specs.declared.history.CellEntry.{CellEntry}
 use Rattle.pa_record.specs.declared.history.Held.{Held}
 use Rattle.pa_record.specs.declared.history.Held.TheVariants.{Nothing}
@@ -34,7 +35,7 @@ amount_none threads f e =
     omega (arith, over_none threads row (λ t. over_none 64 (λ r. f (no_regs t r)) (λ r. e)), over_none 64 (λ k. f (reg_of Nothing)) (λ k. e))
 
 pub starts_told : StartsTold
-starts_told threads = record {
+starts_told threads rules = record {
   lines = refl;
   rows = refl;
   sized = λ x seen n c e. absurd (omega (arith, c.1));
@@ -57,7 +58,7 @@ phase_goes_on threads ls ps a h =
     let X : ℕ → Type 0 = λ l. HasExchanged a.cells a.held ps l in
     let N : ℕ → Type 0 = λ l. HasNumbers (marks_of ps) l a.word in
     record {
-      lines = h.lines ∙ sym (lines_phase 2 1 ls);
+      lines = h.lines ∙ sym (lines_phase a.rules 2 1 ls);
       rows = h.rows;
       sized = h.sized;
       exchanged = subst X (sym later) (exchanged_later a.cells a.held ps (length ls + 2) h.exchanged);
@@ -74,7 +75,7 @@ changed : (threads : ℕ) (ls : List Line) (ps : List Played) (a : Shown) (conte
     → IsToldTo threads ls ps (record a { content = content; usable = usable })
 changed threads ls ps a content usable h same sizes = record {
   lines = h.lines;
-  rows = rows_on a.word a.word a.usable usable a.cells a.cells (record { used = λ s u. u; sizes = sizes; exchanges = λ k j e i. i }) no_regs ps a.regs h.rows;
+  rows = rows_on a.rules.version a.word a.word a.usable usable a.cells a.cells (record { used = λ s u. u; sizes = sizes; exchanges = λ k j e i. i }) no_regs ps a.regs h.rows;
   sized = λ x seen n c e.
       let made : 0 < a.word seen.slot = made_used ps a.word x seen n h.runs c e in
       h.sized x seen n c e ∙ sym (sizes seen.slot made);
@@ -95,8 +96,10 @@ like_is_told threads ls ps a b h like =
     let held : b.held ≡ a.held = fun_ext like.held in
     let cells : b.cells ≡ a.cells = fun_ext like.cells in
     let word : b.word ≡ a.word = fun_ext like.word in
-    let R : AllRegs → Type 0 = λ x. IsToldTo threads ls ps (record b { regs = x; held = a.held; cells = a.cells; word = a.word }) in
-    let H : (ℕ → Held) → Type 0 = λ x. IsToldTo threads ls ps (record b { held = x; cells = a.cells; word = a.word }) in
-    let C : (ℕ → List CellEntry) → Type 0 = λ x. IsToldTo threads ls ps (record b { cells = x; word = a.word }) in
-    let W : (SlotName → ℕ) → Type 0 = λ x. IsToldTo threads ls ps (record b { word = x }) in
-    subst W (sym word) (subst C (sym cells) (subst H (sym held) (subst R (sym regs) (changed threads ls ps a b.content b.usable h like.content like.usable))))
+    let R : AllRegs → Type 0 = λ x. IsToldTo threads ls ps (record b { rules = a.rules; regs = x; held = a.held; cells = a.cells; word = a.word }) in
+    let H : (ℕ → Held) → Type 0 = λ x. IsToldTo threads ls ps (record b { rules = a.rules; held = x; cells = a.cells; word = a.word }) in
+    let C : (ℕ → List CellEntry) → Type 0 = λ x. IsToldTo threads ls ps (record b { rules = a.rules; cells = x; word = a.word }) in
+    let W : (SlotName → ℕ) → Type 0 = λ x. IsToldTo threads ls ps (record b { rules = a.rules; word = x }) in
+    let U : Rules → Type 0 = λ x. IsToldTo threads ls ps (record b { rules = x }) in
+    subst U (sym like.rules)
+    (subst W (sym word) (subst C (sym cells) (subst H (sym held) (subst R (sym regs) (changed threads ls ps a b.content b.usable h like.content like.usable)))))

@@ -69,7 +69,7 @@ swap_goes_on threads ls ps a thread cell reg can hk hr =
     let line = length ls + 2 in
     let op = ops.Swap cell reg in
     let answer = Swapped (length (a.cells cell)) in
-    let x = played_at ls thread op answer in
+    let x = played_at a.rules ls thread op answer in
     let e : CellEntry = exchange_of a line thread cell reg in
     let b = after_swap a line thread cell reg in
     let grows : GrowsBy cell e a.cells b.cells = record {
@@ -79,6 +79,7 @@ swap_goes_on threads ls ps a thread cell reg can hk hr =
     let G : List CellEntry → Type 0 = λ es. slice_get es (length (a.cells cell)) ≡ Some e in
     let finds : HasFound a.word x = λ m f. absurd cc in
     turn_extends threads ls ps thread op answer a b can.told (record {
+      rules = refl;
       row = (
         length (a.cells cell),
         e,

@@ -12,12 +12,13 @@ use Rattle.pa_slot.proofs.Runs.{runs_look, runs_step, same_slot_cases, number_st
 use Rattle.pa_trace.specs.declared.script.Op.{Op}
 use Rattle.pa_trace.specs.declared.script.Line.{Line}
 use Rattle.pa_trace.specs.declared.script.Line.TheVariants.{Do}
+use Rattle.pa_trace.specs.declared.script.Rules.{Rules}
 use Rattle.pa_record.specs.declared.entry.Seen.{Seen}
 use Rattle.pa_record.specs.declared.entry.Answer.{Answer}
 use Rattle.pa_record.specs.declared.entry.Answer.TheVariants.{Made}
 use Rattle.pa_record.specs.declared.history.CellEntry.{CellEntry}
 use Rattle.pa_rules.specs.declared.played.Played.{Played}
-use Rattle.pa_rules.specs.Played.{mark_of, marks_of}
+use Rattle.pa_rules.specs.Played.{mark_of, marks_of, AreLines}
 use Rattle.pa_rules.specs.Registers.{AllRegs, Row, no_regs, with_thread}
 use Rattle.pa_rules.specs.Cells.{IsExchange}
 use Rattle.pa_slot_effects.specs.Shown.{Shown, AreHandles}
@@ -96,7 +97,8 @@ looks_used (Some n) word after t m e none =
 
 -- What the record x of the next line does. Its exchange, if it is one, and its contents are stated for all records so far.
 pub record IsTurn (threads : ℕ) (ps : List Played) (x : Played) (a b : Shown) : Type 0 where
-  pub row : Row (facts_of a.usable b.cells) x.op (a.regs x.thread) x.answer (b.regs x.thread)
+  pub rules : b.rules ≡ a.rules
+  pub row : Row (facts_of b.rules.version a.usable b.cells) x.op (a.regs x.thread) x.answer (b.regs x.thread)
   pub regs : b.regs ≡ with_thread a.regs x.thread (b.regs x.thread)
   pub usable : b.usable ≡ a.usable
   pub sized : (seen : Seen) (n : ℕ) → x.answer ≡ Made seen n → n ≡ a.usable seen.slot
@@ -107,9 +109,9 @@ pub record IsTurn (threads : ℕ) (ps : List Played) (x : Played) (a b : Shown) 
   pub handles : AreHandles threads b
 
 pub turn_extends : (threads : ℕ) (ls : List Line) (ps : List Played) (thread : ℕ) (op : Op) (answer : Answer) (a b : Shown) → IsToldTo threads ls ps a
-    → IsTurn threads ps (played_at ls thread op answer) a b → LeadsTo threads ls ps thread op answer b
+    → IsTurn threads ps (played_at b.rules ls thread op answer) a b → LeadsTo threads ls ps thread op answer b
 turn_extends threads ls ps thread op answer a b h t =
-    let x = played_at ls thread op answer in
+    let x = played_at b.rules ls thread op answer in
     let line = length ls + 2 in
     let qs = ps ++ x ∷ [] in
     let later : length (ls ++ Do thread op ∷ []) + 2 ≡ line + 1 = omega (arith, length-append ls (Do thread op ∷ [])) in
@@ -118,12 +120,13 @@ turn_extends threads ls ps thread op answer a b h t =
     words_more (mark_of x) (marks_of ps) line a.word b.word (record { runs = h.runs; numbers = h.numbers }) (answer_line line op answer) t.tells in
     let W : List Mark → Type 0 = λ ms. HasWords ms (line + 1) b.word in
     let all : HasWords (marks_of qs) (line + 1) b.word = subst W (sym (marks_push ps x)) words in
-    let rows : RowsNamed b.word a.usable b.cells no_regs ps a.regs =
-    rows_on a.word b.word a.usable a.usable a.cells b.cells (record { used = up; sizes = λ s u. refl; exchanges = t.stand }) no_regs ps a.regs h.rows in
-    let R : AllRegs → Type 0 = λ end. RowsNamed b.word a.usable b.cells no_regs qs end in
+    let rows : RowsNamed b.rules.version b.word a.usable b.cells no_regs ps a.regs =
+    subst (λ (k : Rules). RowsNamed k.version b.word a.usable b.cells no_regs ps a.regs) (sym t.rules)
+    (rows_on a.rules.version a.word b.word a.usable a.usable a.cells b.cells (record { used = up; sizes = λ s u. refl; exchanges = t.stand }) no_regs ps a.regs h.rows) in
+    let R : AllRegs → Type 0 = λ end. RowsNamed b.rules.version b.word a.usable b.cells no_regs qs end in
     let more : R b.regs = subst R (sym t.regs)
-    (rows_push b.word a.usable b.cells no_regs ps a.regs x (b.regs thread) rows (λ r. used_on a.word b.word up (a.regs thread r) (h.handles.named thread r)) t.row) in
-    let U : (SlotName → ℕ) → Type 0 = λ u. RowsNamed b.word u b.cells no_regs qs b.regs in
+    (rows_push b.rules.version b.word a.usable b.cells no_regs ps a.regs x (b.regs thread) rows (λ r. used_on a.word b.word up (a.regs thread r) (h.handles.named thread r)) t.row) in
+    let U : (SlotName → ℕ) → Type 0 = λ u. RowsNamed b.rules.version b.word u b.cells no_regs qs b.regs in
     let S : (SlotName → ℕ) → Type 0 = λ u. AreSized u qs in
     let X : ℕ → Type 0 = λ l. HasExchanged b.cells b.held qs l in
     let N : ℕ → Type 0 = λ l. HasNumbers (marks_of qs) l b.word in
@@ -132,7 +135,7 @@ turn_extends threads ls ps thread op answer a b h t =
       | inr new ↦ t.sized seen n (ap (λ (z : Played). z.answer) new ∙ e)
     ] in
     record {
-      lines = lines_more ls ps thread op answer h.lines;
+      lines = lines_more b.rules ls ps thread op answer (subst (λ (k : Rules). AreLines k ls ps) (sym t.rules) h.lines);
       rows = subst U (sym t.usable) more;
       sized = subst S (sym t.usable) sized;
       exchanged = subst X (sym later) t.exchanged;

@@ -3,6 +3,7 @@ use Rattle.std.proofs.Common.{ℕ, ◌<◌, List, [], ◌∷◌, ◌++◌, lengt
 use Rattle.pa_trace.specs.declared.script.Line.{Line}
 use Rattle.pa_trace.specs.declared.script.Line.TheVariants.{Do}
 use Rattle.pa_trace.specs.declared.script.Op.TheVariants.{Alloc, Copy, Free, Reset}
+use Rattle.pa_trace.specs.Rules.{first_rules}
 use Rattle.pa_record.specs.declared.entry.Seen.{Seen}
 use Rattle.pa_record.specs.declared.entry.Answer.TheVariants.{Made, Done}
 use Rattle.pa_rules.specs.declared.played.Played.{Played}
@@ -16,7 +17,7 @@ use Rattle.pa_slot_effects.proofs.Starting.{starts_told, like_is_told}
 use Rattle.pa_slot_effects.proofs.Ops.{made_goes_on, copy_goes_on, free_goes_on, reset_goes_on}
 
 abbrev before : Shown
-before = record nothing_shown { usable = λ s. usable_of 1 }
+before = record (nothing_shown (first_rules 1)) { usable = λ s. usable_of 1 1 }
 
 abbrev made : Shown
 made = after_made before 0 0 (record { slot = record { start = 16384; born = 0 }; found = record { 0 = 0 } })
@@ -36,7 +37,8 @@ can ls ps a h short = record { told = h; among = omega arith; few = omega arith;
 pub worked_turns : WorkedTurns
 worked_turns =
     let start : IsToldTo 1 [] [] before =
-    like_is_told 1 [] [] nothing_shown before (starts_told 1) (record {
+    like_is_told 1 [] [] (nothing_shown (first_rules 1)) before (starts_told 1 (first_rules 1)) (record {
+      rules = refl;
       regs = λ t r. refl;
       held = λ k. refl;
       cells = λ k. refl;
@@ -47,11 +49,11 @@ worked_turns =
     let s : ℕ → Seen = λ w. record { slot = record { start = 16384; born = 0 }; found = record { 0 = w } } in
     let one = made_goes_on 1 [] [] before 0 0 0 1 (s 0) (can [] [] before start (omega arith)) (omega arith) tt (omega arith) refl refl refl refl in
     let ls = Do 0 (Alloc 0 0 1) ∷ [] in
-    let ps = played_at [] 0 (Alloc 0 0 1) (Made (s 0) (usable_of 1)) ∷ [] in
+    let ps = played_at (first_rules 1) [] 0 (Alloc 0 0 1) (Made (s 0) (usable_of 1 1)) ∷ [] in
     let two = copy_goes_on 1 ls ps made 0 0 1 (s 16777217) (can ls ps made one (omega arith)) (omega arith) (omega arith) refl tt refl in
     let ms = ls ++ Do 0 (Copy 0 1) ∷ [] in
-    let qs = ps ++ played_at ls 0 (Copy 0 1) (Done (s 16777217)) ∷ [] in
+    let qs = ps ++ played_at (first_rules 1) ls 0 (Copy 0 1) (Done (s 16777217)) ∷ [] in
     let three = free_goes_on 1 ms qs copied 0 0 (s 33554435) (can ms qs copied two (omega arith)) (omega arith) refl refl in
     let ns = ms ++ Do 0 (Free 0) ∷ [] in
-    let rs = qs ++ played_at ms 0 (Free 0) (Done (s 33554435)) ∷ [] in
-    (rs ++ played_at ns 0 (Reset 1) (Done (s 50331650)) ∷ [], gone, reset_goes_on 1 ns rs freed 0 1 (s 50331650) (can ns rs freed three (omega arith)) (omega arith) refl refl)
+    let rs = qs ++ played_at (first_rules 1) ms 0 (Free 0) (Done (s 33554435)) ∷ [] in
+    (rs ++ played_at (first_rules 1) ns 0 (Reset 1) (Done (s 50331650)) ∷ [], gone, reset_goes_on 1 ns rs freed 0 1 (s 50331650) (can ns rs freed three (omega arith)) (omega arith) refl refl)

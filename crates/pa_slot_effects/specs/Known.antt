@@ -22,17 +22,17 @@ use Rattle.pa_rules.specs.Sizes.{usable_of}
 use Rattle.pa_legal.specs.Known.{FindsInUse}
 use Rattle.pa_slot_effects.specs.Shown.{Shown, IsUsed, AreHandles}
 
--- what the rows need, by the usable numbers of slots and the histories so far
-abbrev pub facts_of : (SlotName → ℕ) → (ℕ → List CellEntry) → Facts
-facts_of usable cells = record { usable_of = usable_of; usable_at = usable; cells = cells }
+-- what the rows need, by the version, the usable numbers of slots and the histories so far
+abbrev pub facts_of : ℕ → (SlotName → ℕ) → (ℕ → List CellEntry) → Facts
+facts_of version usable cells = record { usable_of = usable_of version; usable_at = usable; cells = cells }
 
 -- Each answer is the one that the rows require, and leads to the next registers. Before each, the thread's registers name slots
 -- that were stepped on by now.
-abbrev pub RowsNamed : (SlotName → ℕ) → (SlotName → ℕ) → (ℕ → List CellEntry) → AllRegs → List Played → AllRegs → Type 0
-RowsNamed word usable cells all [] end = end ≡ all
-RowsNamed word usable cells all (x ∷ xs) end =
-    ((r : ℕ) → IsUsed word (all x.thread r)) × (next : Regs) × Row (facts_of usable cells) x.op (all x.thread) x.answer next
-    × RowsNamed word usable cells (with_thread all x.thread next) xs end
+abbrev pub RowsNamed : ℕ → (SlotName → ℕ) → (SlotName → ℕ) → (ℕ → List CellEntry) → AllRegs → List Played → AllRegs → Type 0
+RowsNamed version word usable cells all [] end = end ≡ all
+RowsNamed version word usable cells all (x ∷ xs) end =
+    ((r : ℕ) → IsUsed word (all x.thread r)) × (next : Regs) × Row (facts_of version usable cells) x.op (all x.thread) x.answer next
+    × RowsNamed version word usable cells (with_thread all x.thread next) xs end
 
 -- a slot is made with as many usable bytes as it has
 abbrev pub AreSized : (SlotName → ℕ) → List Played → Type 0
@@ -72,8 +72,8 @@ pub record HasContents (ps : List Played) (word content : SlotName → ℕ) : Ty
 -- These are the records of the lines so far, of that many threads, and this is what they left. The next line's number is
 -- `length ls + 2`, and its phase `phases_in ls`.
 pub record IsToldTo (threads : ℕ) (ls : List Line) (ps : List Played) (a : Shown) : Type 0 where
-  pub lines : AreLines ls ps
-  pub rows : RowsNamed a.word a.usable a.cells no_regs ps a.regs
+  pub lines : AreLines a.rules ls ps
+  pub rows : RowsNamed a.rules.version a.word a.usable a.cells no_regs ps a.regs
   pub sized : AreSized a.usable ps
   pub exchanged : HasExchanged a.cells a.held ps (length ls + 2)
   pub runs : HasRuns (marks_of ps) a.word

@@ -9,6 +9,7 @@ use Rattle.pa_trace.specs.declared.script.Op.{Op}
 use Rattle.pa_trace.specs.declared.script.Op.TheVariants as ops
 use Rattle.pa_trace.specs.declared.script.Line.{Line}
 use Rattle.pa_trace.specs.declared.script.Line.TheVariants.{Phase}
+use Rattle.pa_trace.specs.declared.script.Rules.{Rules}
 use Rattle.pa_record.specs.declared.entry.Seen.{Seen}
 use Rattle.pa_record.specs.declared.entry.Answer.{Answer}
 use Rattle.pa_record.specs.declared.entry.Answer.TheVariants.{Made, Done, Swapped}
@@ -30,12 +31,21 @@ use Rattle.pa_slot_effects.specs.Known.{IsToldTo, facts_of}
 use Rattle.pa_slot_effects.specs.Turns.{CanPlay, LeadsTo, Names, HoldsNone, TellsNone, Looks, after_made, after_copy, after_reset, after_free, after_write, after_swap}
 
 -- before the first line: no handle, no exchange, and every word is 0
-abbrev pub nothing_shown : Shown
-nothing_shown = record { regs = no_regs; held = λ k. Nothing; cells = λ k. []; word = λ s. 0; content = λ s. 0; usable = λ s. 0 }
+abbrev pub nothing_shown : Rules → Shown
+nothing_shown rules =
+    record {
+      rules = rules;
+      regs = no_regs;
+      held = λ k. Nothing;
+      cells = λ k. [];
+      word = λ s. 0;
+      content = λ s. 0;
+      usable = λ s. 0;
+    }
 
--- no lines and no records leave this, for any number of threads
+-- no lines and no records leave this, for any number of threads and any rules
 abbrev pub StartsTold : Type 0
-StartsTold = (threads : ℕ) → IsToldTo threads [] [] nothing_shown
+StartsTold = (threads : ℕ) (rules : Rules) → IsToldTo threads [] [] (nothing_shown rules)
 
 -- what looks the same was left by the same records
 abbrev pub LikeIsTold : Type 0
@@ -53,7 +63,7 @@ NoneGoesOn =
     (threads : ℕ) (ls : List Line) (ps : List Played) (a : Shown) (thread : ℕ) (op : Op) (answer : Answer) →
     CanPlay threads ls ps a thread →
     TellsNone answer → ((cell reg : ℕ) → op ≡ ops.Swap cell reg → ⊥) →
-    Row (facts_of a.usable a.cells) op (a.regs thread) answer (a.regs thread) → LeadsTo threads ls ps thread op answer a
+    Row (facts_of a.rules.version a.usable a.cells) op (a.regs thread) answer (a.regs thread) → LeadsTo threads ls ps thread op answer a
 
 -- a look at the slot that a register names leaves all as it is
 abbrev pub LookGoesOn : Type 0
@@ -62,7 +72,7 @@ LookGoesOn =
     CanPlay threads ls ps a thread →
     reg < register_count → Names seen.slot (a.regs thread reg) → seen.found.0 ≡ a.word seen.slot → Looks a seen answer →
     ((cell reg : ℕ) → op ≡ ops.Swap cell reg → ⊥) →
-    Row (facts_of a.usable a.cells) op (a.regs thread) answer (a.regs thread) → LeadsTo threads ls ps thread op answer a
+    Row (facts_of a.rules.version a.usable a.cells) op (a.regs thread) answer (a.regs thread) → LeadsTo threads ls ps thread op answer a
 
 -- an allocation of a free slot, into a register without a handle, leaves what `after_made` says
 abbrev pub MadeGoesOn : Type 0
@@ -72,8 +82,8 @@ MadeGoesOn =
     reg < register_count → HoldsNone (a.regs thread reg) → size ≤ greatest_size → seen.found.0 ≡ a.word seen.slot →
     held_of seen.found.0 ≡ 0 →
     refs_of seen.found.0 ≡ 0 →
-    a.usable seen.slot ≡ usable_of size →
-    LeadsTo threads ls ps thread (ops.Alloc reg partition size) (Made seen (usable_of size)) (after_made a thread reg seen)
+    a.usable seen.slot ≡ usable_of a.rules.version size →
+    LeadsTo threads ls ps thread (ops.Alloc reg partition size) (Made seen (usable_of a.rules.version size)) (after_made a thread reg seen)
 
 -- a copy from a register that has a handle to one that has none leaves what `after_copy` says
 abbrev pub CopyGoesOn : Type 0
@@ -129,11 +139,11 @@ HandleLets =
 -- what the records are at the end
 pub record IsToldRight (ls : List Line) (ps : List Played) (a : Shown) : Type 0 where
   pub rising : AllPairs (λ (x y : Played). x.line < y.line) ps
-  pub due : AreDue ls (map entry_of ps)
+  pub due : AreDue a.rules ls (map entry_of ps)
   pub cells : AreCells a.cells ps
-  pub registers : AreRegisters usable_of a.cells ps
+  pub registers : AreRegisters (usable_of a.rules.version) a.cells ps
   pub slots : Slots (marks_of ps)
-  pub contents : AreContents usable_of a.cells ps
+  pub contents : AreContents (usable_of a.rules.version) a.cells ps
   pub seen : IsSeenInOrder a.cells ps
   pub used : (x : Played) → Contains ps x → FindsInUse x
   pub words : (s : SlotName) → HasWord ps s (a.word s)

@@ -3,14 +3,17 @@ use Rattle.std.specs.Prelude.{◌≡◌, ℕ, zero, suc, ◌+◌, ◌<◌, ◌==
 use Rattle.pa_slot.specs.declared.word.SlotName.{SlotName}
 use Rattle.pa_slot.specs.Count.{held_of, refs_of}
 use Rattle.pa_slot.specs.Run.{same_slot}
+use Rattle.pa_trace.specs.declared.script.Rules.{Rules}
 use Rattle.pa_record.specs.declared.history.CellEntry.{CellEntry}
 use Rattle.pa_record.specs.declared.history.Held.{Held}
 use Rattle.pa_trace.specs.Limits.{register_count, cell_count}
 use Rattle.pa_rules.specs.declared.register.Register.TheVariants.{Empty, Own, Ref, Freed, Cleared}
 use Rattle.pa_rules.specs.Registers.{Reg, AllRegs, reg_of, with, with_thread}
 
--- the registers of all threads, what each cell holds, each cell's history, and what each slot has
+-- the rules by which the lines are played, the registers of all threads, what each cell holds, each cell's history, and what each
+-- slot has
 pub record Shown : Type 0 where
+  pub rules : Rules
   pub regs : AllRegs
   pub held : ℕ → Held
   pub cells : ℕ → List CellEntry
@@ -36,6 +39,7 @@ with_entry cells cell e k = if k == cell then cells k ++ e ∷ [] else cells k
 
 -- b looks the same as a: a content counts while the slot is held, and a usable number once the slot was stepped on
 pub record IsLike (a b : Shown) : Type 0 where
+  pub rules : b.rules ≡ a.rules
   pub regs : (t r : ℕ) → b.regs t r ≡ a.regs t r
   pub held : (k : ℕ) → b.held k ≡ a.held k
   pub cells : (k : ℕ) → b.cells k ≡ a.cells k

@@ -7,6 +7,7 @@ use Rattle.pa_slot.specs.Titles.{poison}
 use Rattle.pa_trace.specs.declared.script.Op.{Op}
 use Rattle.pa_trace.specs.declared.script.Line.{Line}
 use Rattle.pa_trace.specs.declared.script.Line.TheVariants.{Do}
+use Rattle.pa_trace.specs.declared.script.Rules.{Rules}
 use Rattle.pa_record.specs.declared.entry.Seen.{Seen}
 use Rattle.pa_record.specs.declared.entry.Answer.{Answer}
 use Rattle.pa_record.specs.declared.entry.Answer.TheVariants.{Made, Done, Value, Dangling, SecondFree, NotOwner, StaleReset, StaleUse, Nothing, Filled, NotRef, Shared, OutOfRange, TooLarge, Full, Swapped, Purged}
@@ -20,12 +21,14 @@ use Rattle.pa_slot_effects.specs.Shown.{Shown, with_reg, with_slot, with_held, w
 use Rattle.pa_slot_effects.specs.Known.{IsToldTo}
 
 -- the record of the next line, an op of this thread
-abbrev pub played_at : List Line → ℕ → Op → Answer → Played
-played_at ls thread op answer = record { line = length ls + 2; thread = thread; phase = phases_in ls; op = op; answer = answer }
+abbrev pub played_at : Rules → List Line → ℕ → Op → Answer → Played
+played_at rules ls thread op answer =
+    record { line = length ls + 2; thread = thread; phase = phases_in ls; rules = rules; op = op; answer = answer }
 
 -- with one more op and answer the records leave this
 abbrev pub LeadsTo : ℕ → List Line → List Played → ℕ → Op → Answer → Shown → Type 0
-LeadsTo threads ls ps thread op answer after = IsToldTo threads (ls ++ Do thread op ∷ []) (ps ++ played_at ls thread op answer ∷ []) after
+LeadsTo threads ls ps thread op answer after =
+    IsToldTo threads (ls ++ Do thread op ∷ []) (ps ++ played_at after.rules ls thread op answer ∷ []) after
 
 -- the thread can play the next line
 pub record CanPlay (threads : ℕ) (ls : List Line) (ps : List Played) (a : Shown) (thread : ℕ) : Type 0 where

@@ -4,6 +4,7 @@ use Rattle.std.specs.Prelude.{Contains}
 use Rattle.std.specs.List.{filter_map}
 use Rattle.std.specs.List.{AllByRecursion as Each}
 use Rattle.std.proofs.lemmas.Bool.{cases_lt, ne_eqb}
+use Rattle.pa_trace.specs.Rules.{rules_of}
 use Rattle.pa_region.specs.declared.view.Stake.{Stake}
 use Rattle.pa_region.specs.declared.view.View.{View}
 use Rattle.pa_region.specs.Lists.{list_of, entered_in}
@@ -106,7 +107,7 @@ module _ (t : Trace) (r : Told) (v : View) (ts : List ToldRecord) (says : Layers
       record {
         whole = whole ts all names are_named r.roots up t.partitions order;
         only = only ts all names are_named r.roots;
-        in_order = in_order ts all names are_named r.roots up (phases_rise t.lines (played_in ts) (are_lines t r v ts says));
+        in_order = in_order ts all names are_named r.roots up (phases_rise (rules_of t) t.lines (played_in ts) (are_lines t r v ts says));
         found = found (sizes_in t r) ts says.heap.told all names are_named r.roots one_order.ordered.found (in_phases r.cells (played_in ts) legal.seen);
         journals = λ p. journals_made ts all names are_named r.roots p (kept_journals p) (legal.roots.order p);
         pool = pool_asked ts all names are_named r.roots (list_of 4 v) r.pools (listed 4) (list_is t r v ts says 4 (omega arith)) (are_lists t r v ts says).pool legal.pool.order;
@@ -178,10 +179,10 @@ module _ (t : Trace) (r : Told) (v : View) (ts : List ToldRecord) (says : Layers
 
     is_timeline : IsTimeline (usable_in (played_in ts)) t.partitions (played_in ts) r.pools r.roots r.cells (sorted phase_at ms)
     is_timeline =
-        timeline usable_of (usable_in (played_in ts)) t.partitions r.pools r.roots r.cells (played_in ts) ms marked
+        timeline (usable_of t.version) (usable_in (played_in ts)) t.partitions r.pools r.roots r.cells (played_in ts) ms marked
         (one_played ts all names are_named r.roots up)
         (whole_due run t.partitions order (usable_in (played_in ts)) fits)
-        (phases_rise t.lines (played_in ts) (are_lines t r v ts says)) (in_phases r.cells (played_in ts) legal.seen) legal.contents
+        (phases_rise (rules_of t) t.lines (played_in ts) (are_lines t r v ts says)) (in_phases r.cells (played_in ts) legal.seen) legal.contents
         (issued_again sizes ts says.heap.told histories)
         (lines run)
         (subst (λ zs. IsStepOrder (outline_parts t.partitions r.roots) (played_in ts) r.pools r.roots r.cells (sorted phase_at zs)) (sym same_moments) (step_order order))

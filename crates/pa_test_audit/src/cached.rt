@@ -4,6 +4,7 @@ use crate::caches::{
     FREE, alloc_of, are_homed, are_short, are_within, dense_of, done, fill, give, made, numbered,
     purge, row,
 };
+use crate::contents::RULES;
 use pa_audit_holders::{Books, CachesFound, caches_meet, homes_of};
 use pa_audit_records::{Salt, record_ends, records_of};
 use pa_buckets::Class;
@@ -25,7 +26,7 @@ fn found_in(
     requires lines { length lines.now < 2 ^ 32 - 2 }
     requires phases { phases < 2 ^ 32 - 1 }
 {
-    let told = records_of(alloc, lines, entries)?;
+    let told = records_of(alloc, RULES, lines, entries)?;
     let records = told.as_slice();
     if records.len() >= 1000 || roots.len() > 4 || !are_short(roots) || !are_within(records) {
         return Ok(None);

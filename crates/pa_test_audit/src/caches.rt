@@ -9,6 +9,7 @@ ghost use Rattle.pa_audit_holders.specs.Homes.{AreHomedIn, HasOneHome, home_by};
 ghost use Rattle.pa_audit_holders.specs.Rows.{IsOfThreads};
 ghost use Rattle.pa_test_audit.specs.Sparse.{IsSparse, AreSparseIn};
 
+use crate::contents::RULES;
 use pa_audit_holders::{Books, Home, caches_meet, found_home, homes_of};
 use pa_audit_records::{ByKey, Salt};
 use pa_buckets::{Class, SPARSE_CLASSES, slot_size};
@@ -50,7 +51,7 @@ fn first_of(
     }
 }
 
-// Whether the records are of 16 threads and four partitions.
+// Whether the records are of 16 threads, four partitions and version 1.
 pub(crate) fn are_within(records: &[Played]) -> bool
     ensures { IsTrue result → All IsOfThreads records.now }
 {
@@ -66,8 +67,10 @@ fn is_within(found: Played) -> bool
     ensures { IsTrue result → IsOfThreads found }
 {
     match found.op {
-        Op::Alloc { partition, .. } => found.thread < 16 && partition < 4,
-        _ => found.thread < 16,
+        Op::Alloc { partition, .. } => {
+            found.thread < 16 && partition < 4 && found.rules.version == 1
+        }
+        _ => found.thread < 16 && found.rules.version == 1,
     }
 }
 
@@ -222,6 +225,7 @@ fn record(line: u32, op: Op, answer: Answer) -> Played {
         line,
         thread: 0,
         phase: 1,
+        rules: RULES,
         op,
         answer,
     }

@@ -7,7 +7,7 @@ use pa_audit_records::{Salt, records_of, registers_meet, slots_meet};
 use pa_record::{Answer, CellEntry, Entry, Held, History, Seen};
 use pa_rules::Played;
 use pa_slot::{OutOfMemory, SlotName, Word};
-use pa_trace::{Line, Op};
+use pa_trace::{Line, Op, Rules};
 use std::alloc::Global;
 use std::test::Fail;
 
@@ -15,6 +15,12 @@ use std::test::Fail;
 pub(crate) const FIRST: SlotName = SlotName {
     start: 16384,
     born: 0,
+};
+
+// The rules of version 1 in a trace of four partitions.
+pub(crate) const RULES: Rules = Rules {
+    version: 1,
+    plain_from: 4,
 };
 
 const POISON: u64 = 0xefef_efef_efef_efef;
@@ -104,7 +110,7 @@ fn contents_of(
 ) -> Result<Option<u32>, OutOfMemory>
     requires { length lines.now < 2 ^ 32 - 2 }
 {
-    let told = records_of(alloc, lines, entries)?;
+    let told = records_of(alloc, RULES, lines, entries)?;
     let records = told.as_slice();
     if !all_within(records) {
         return Ok(Some(u32::MAX));

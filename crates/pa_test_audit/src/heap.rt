@@ -3,6 +3,7 @@ ghost use Rattle.pa_rules.specs.Roots.{journal_at};
 ghost use Rattle.pa_audit_heap.specs.Ordered.{AreOfThreads16};
 ghost use Rattle.pa_rules.specs.Rising.{RiseByLine};
 
+use crate::contents::RULES;
 use pa_audit_heap::{JournalsFound, journals_meet, pool_meets, refusals_meet};
 use pa_dense::DenseJournal;
 use pa_record::{
@@ -108,6 +109,7 @@ pub(crate) fn record(line: u32, op: Op, answer: Answer) -> Played {
         line,
         thread: 0,
         phase: 1,
+        rules: RULES,
         op,
         answer,
     }

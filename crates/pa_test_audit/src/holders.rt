@@ -3,6 +3,7 @@ ghost use Rattle.std.specs.Prelude.{◌-◌, ◌<◌, ◌^◌, length};
 use crate::caches::{
     FREE, alloc_of, are_short, dense_of, done, fill, give, made, numbered, row, single,
 };
+use crate::contents::RULES;
 use pa_audit_holders::holders_meet;
 use pa_audit_records::{Salt, records_of, slots_meet};
 use pa_buckets::Class;
@@ -31,7 +32,7 @@ fn first_of(
 ) -> Result<First, OutOfMemory>
     requires lines { length lines.now < 2 ^ 32 - 2 }
 {
-    let told = records_of(alloc, lines, entries)?;
+    let told = records_of(alloc, RULES, lines, entries)?;
     let records = told.as_slice();
     if roots.len() > 4 || !are_short(roots) {
         return Ok(First::Unfit);

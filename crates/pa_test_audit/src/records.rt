@@ -2,6 +2,7 @@ ghost use Rattle.std.specs.Prelude.{◌≡◌, ◌↔◌, ◌<◌, ◌-◌, ◌^
 ghost use Rattle.std.specs.Bool.{OnTrue};
 ghost use Rattle.pa_audit_records.specs.Rows.{NamesRegisters, IsPlayedWithin};
 
+use crate::contents::RULES;
 use pa_audit_records::{
     Salt, exchanges_meet, lines_meet, records_of, registers_meet, slots_meet, swaps_meet,
 };
@@ -97,7 +98,7 @@ fn registers_of(
 ) -> Result<Option<u32>, OutOfMemory>
     requires { length lines.now < 2 ^ 32 - 2 }
 {
-    let records = records_of(alloc, lines, entries)?;
+    let records = records_of(alloc, RULES, lines, entries)?;
     if all_within(&records) {
         registers_meet(alloc, Salt::of(&records, &[]), &records, cells)
     } else {
@@ -109,7 +110,7 @@ fn registers_of(
 fn slots_of(alloc: Global, lines: &[Line], entries: &[Entry]) -> Result<Option<u32>, OutOfMemory>
     requires { length lines.now < 2 ^ 32 - 2 }
 {
-    let records = records_of(alloc, lines, entries)?;
+    let records = records_of(alloc, RULES, lines, entries)?;
     slots_meet(alloc, Salt::of(&records, &[]), &records)
 }
 
@@ -290,7 +291,7 @@ fn exchanges_of(
 ) -> Result<Option<(u32, usize)>, OutOfMemory>
     requires { length lines.now < 2 ^ 32 - 2 }
 {
-    let records = records_of(alloc, lines, entries)?;
+    let records = records_of(alloc, RULES, lines, entries)?;
     exchanges_meet(
         alloc,
         Salt::of(&records, &[]),
@@ -308,7 +309,7 @@ fn swaps_of(
 ) -> Result<Option<u32>, OutOfMemory>
     requires { length lines.now < 2 ^ 32 - 2 }
 {
-    let records = records_of(alloc, lines, entries)?;
+    let records = records_of(alloc, RULES, lines, entries)?;
     Ok(swaps_meet(&records, &[history(alloc, exchanges)?]))
 }
 

@@ -1,7 +1,7 @@
 ghost use Rattle.std.specs.Prelude.{◌-◌, ◌<◌, ◌^◌, length};
 
 use crate::contents::{
-    ALLOC, FIRST, READ, all_within, done, entry, gave, history, line, made, value,
+    ALLOC, FIRST, READ, RULES, all_within, done, entry, gave, history, line, made, value,
 };
 use pa_audit_order::seen_meets;
 use pa_audit_records::{Salt, exchanges_meet, records_of, swaps_meet};
@@ -21,7 +21,7 @@ fn seen_of(
     requires lines { length lines.now < 2 ^ 32 - 2 }
     requires cells { length cells.now < 2 ^ 32 }
 {
-    let told = records_of(alloc, lines, entries)?;
+    let told = records_of(alloc, RULES, lines, entries)?;
     let records = told.as_slice();
     if !all_within(records) {
         return Ok(Some(u32::MAX));

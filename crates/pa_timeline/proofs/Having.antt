@@ -8,6 +8,7 @@ use Rattle.pa_slot.specs.Count.{number_of}
 use Rattle.pa_slot.specs.Run.{Mark}
 use Rattle.pa_trace.specs.declared.script.Op.{Op}
 use Rattle.pa_trace.specs.declared.script.Op.TheVariants as ops
+use Rattle.pa_trace.specs.Rules.{first_rules}
 use Rattle.pa_record.specs.declared.entry.Seen.{Seen}
 use Rattle.pa_record.specs.declared.entry.Answer.{Answer}
 use Rattle.pa_record.specs.declared.entry.Answer.TheVariants as answers
@@ -135,7 +136,7 @@ past_one x d (suc (suc q)) other = refl
 -- ---- the run
 
 abbrev at_line : ℕ → Played
-at_line i = get_or read_records i (record { line = 0; thread = 0; phase = 0; op = ops.Purge; answer = answers.Nothing })
+at_line i = get_or read_records i (record { line = 0; thread = 0; phase = 0; rules = first_rules 1; op = ops.Purge; answer = answers.Nothing })
 
 abbrev first_act : RootAct
 first_act = (get_or one_fill 0 (record { line = 0; act = Purge })).act

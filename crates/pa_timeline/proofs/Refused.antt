@@ -2,6 +2,7 @@
 use Rattle.std.proofs.Common.{◌≡◌, ℕ, List, [], ◌∷◌, get_or, Some, None, refl, sym, ◌∙◌, ap, arith, inl, inr}
 use Rattle.pa_slot.specs.declared.word.Step.TheVariants as steps
 use Rattle.pa_trace.specs.declared.script.Op.TheVariants as ops
+use Rattle.pa_trace.specs.Rules.{first_rules, rules_of}
 use Rattle.pa_record.specs.declared.entry.Answer.TheVariants as answers
 use Rattle.pa_record.specs.declared.root.RootAct.TheVariants.{Purge}
 use Rattle.pa_record.specs.declared.root.RootEntry.{RootEntry}
@@ -18,7 +19,7 @@ use Rattle.pa_timeline.proofs.Places.{in_two, in_three, by_list, part_on, parts_
 -- ---- two slots
 
 abbrev slots_at : ℕ → Played
-slots_at i = get_or two_slots_records i (record { line = 0; thread = 0; phase = 0; op = ops.Purge; answer = answers.Nothing })
+slots_at i = get_or two_slots_records i (record { line = 0; thread = 0; phase = 0; rules = first_rules 1; op = ops.Purge; answer = answers.Nothing })
 
 abbrev slots_due : ℕ → List Part
 slots_due i = outline_parts 1 (journal_at (one_fill ∷ [])) (slots_at i)
@@ -26,7 +27,7 @@ slots_due i = outline_parts 1 (journal_at (one_fill ∷ [])) (slots_at i)
 -- the counted steps on lines 12 to 15
 pub two_slots_have_none : TwoSlotsHaveNone
 two_slots_have_none report (ms, t) =
-    let differ = lines_differ two_slots_trace.lines two_slots_records refl in
+    let differ = lines_differ (rules_of two_slots_trace) two_slots_trace.lines two_slots_records refl in
     let (i, at_i) = placed _ _ _ _ _ ms t differ (slots_at 8) Counting (at_in two_slots_records 8 (slots_at 8) refl) (at_in (slots_due 8) 0 Counting refl) in
     let (j, at_j) = placed _ _ _ _ _ ms t differ (slots_at 9) Counting (at_in two_slots_records 9 (slots_at 9) refl) (at_in (slots_due 9) 0 Counting refl) in
     let (k, at_k) = placed _ _ _ _ _ ms t differ (slots_at 10) Counting (at_in two_slots_records 10 (slots_at 10) refl) (at_in (slots_due 10) 0 Counting refl) in
@@ -44,7 +45,7 @@ two_slots_have_none report (ms, t) =
 -- ---- two partitions
 
 abbrev purge_at : ℕ → Played
-purge_at i = get_or purges_records i (record { line = 0; thread = 0; phase = 0; op = ops.Purge; answer = answers.Nothing })
+purge_at i = get_or purges_records i (record { line = 0; thread = 0; phase = 0; rules = first_rules 1; op = ops.Purge; answer = answers.Nothing })
 
 abbrev purge_due : ℕ → List Part
 purge_due i = outline_parts 2 (journal_at (purged_in 3 4 2 ∷ purged_in 2 3 4 ∷ [])) (purge_at i)
@@ -57,7 +58,7 @@ entry_line x y e = ap (λ (z : RootEntry). z.line) e
 
 pub purges_have_none : PurgesHaveNone
 purges_have_none report (ms, t) =
-    let differ = lines_differ purges_trace.lines purges_records refl in
+    let differ = lines_differ (rules_of purges_trace) purges_trace.lines purges_records refl in
     let (i, at_i) = placed _ _ _ _ _ ms t differ (purge_at 2) (Entering 0 Purge) (at_in purges_records 2 (purge_at 2) refl) (at_in (purge_due 2) 0 (Entering 0 Purge) refl) in
     let (j, at_j) = placed _ _ _ _ _ ms t differ (purge_at 0) (Entering 0 Purge) (at_in purges_records 0 (purge_at 0) refl) (at_in (purge_due 0) 0 (Entering 0 Purge) refl) in
     let (k, at_k) = placed _ _ _ _ _ ms t differ (purge_at 0) (Entering 1 Purge) (at_in purges_records 0 (purge_at 0) refl) (at_in (purge_due 0) 1 (Entering 1 Purge) refl) in
@@ -83,7 +84,7 @@ purges_have_none report (ms, t) =
 -- ---- an exchange of nothing and a slot
 
 abbrev cell_at : ℕ → Played
-cell_at i = get_or slot_and_cell_records i (record { line = 0; thread = 0; phase = 0; op = ops.Purge; answer = answers.Nothing })
+cell_at i = get_or slot_and_cell_records i (record { line = 0; thread = 0; phase = 0; rules = first_rules 1; op = ops.Purge; answer = answers.Nothing })
 
 abbrev cell_due : ℕ → List Part
 cell_due i = outline_parts 1 (journal_at (one_fill ∷ [])) (cell_at i)
@@ -91,7 +92,7 @@ cell_due i = outline_parts 1 (journal_at (one_fill ∷ [])) (cell_at i)
 -- the steps on lines 7 to 10
 pub slot_and_cell_have_none : SlotAndCellHaveNone
 slot_and_cell_have_none report (ms, t) =
-    let differ = lines_differ slot_and_cell_trace.lines slot_and_cell_records refl in
+    let differ = lines_differ (rules_of slot_and_cell_trace) slot_and_cell_trace.lines slot_and_cell_records refl in
     let (i, at_i) = placed _ _ _ _ _ ms t differ (cell_at 4) Swapping (at_in slot_and_cell_records 4 (cell_at 4) refl) (at_in (cell_due 4) 0 Swapping refl) in
     let (j, at_j) = placed _ _ _ _ _ ms t differ (cell_at 5) Counting (at_in slot_and_cell_records 5 (cell_at 5) refl) (at_in (cell_due 5) 0 Counting refl) in
     let (k, at_k) = placed _ _ _ _ _ ms t differ (cell_at 6) Looking (at_in slot_and_cell_records 6 (cell_at 6) refl) (at_in (cell_due 6) 0 Looking refl) in
@@ -108,7 +109,7 @@ slot_and_cell_have_none report (ms, t) =
 -- ---- an exchange of nothing and a journal
 
 abbrev purger_at : ℕ → Played
-purger_at i = get_or journal_and_cell_records i (record { line = 0; thread = 0; phase = 0; op = ops.Purge; answer = answers.Nothing })
+purger_at i = get_or journal_and_cell_records i (record { line = 0; thread = 0; phase = 0; rules = first_rules 1; op = ops.Purge; answer = answers.Nothing })
 
 abbrev purger_due : ℕ → List Part
 purger_due i = outline_parts 1 (journal_at ((purge 3 ∷ purge 4 ∷ []) ∷ [])) (purger_at i)
@@ -118,7 +119,7 @@ purged_at i = moment (purger_at i) (Entering 0 Purge)
 
 pub journal_and_cell_have_none : JournalAndCellHaveNone
 journal_and_cell_have_none report (ms, t) =
-    let differ = lines_differ journal_and_cell_trace.lines journal_and_cell_records refl in
+    let differ = lines_differ (rules_of journal_and_cell_trace) journal_and_cell_trace.lines journal_and_cell_records refl in
     let all = journal_and_cell_records in
     let (i, at_i) = placed _ _ _ _ _ ms t differ (purger_at 0) Swapping (at_in all 0 (purger_at 0) refl) (at_in (purger_due 0) 0 Swapping refl) in
     let (j, at_j) = placed _ _ _ _ _ ms t differ (purger_at 1) (Entering 0 Purge) (at_in all 1 (purger_at 1) refl) (at_in (purger_due 1) 0 (Entering 0 Purge) refl) in

@@ -6,6 +6,7 @@ use Rattle.std.proofs.lemmas.Bool.{eqb-true, both_ways}
 use Rattle.pa_slot.specs.declared.word.Step.TheVariants as steps
 use Rattle.pa_slot.specs.Titles.{poison}
 use Rattle.pa_trace.specs.declared.script.Op.TheVariants as ops
+use Rattle.pa_trace.specs.Rules.{first_rules, rules_of}
 use Rattle.pa_record.specs.declared.entry.Answer.TheVariants as answers
 use Rattle.pa_record.specs.declared.history.CellEntry.{CellEntry}
 use Rattle.pa_record.specs.declared.pool.PoolEntry.{PoolEntry}
@@ -29,7 +30,7 @@ use Rattle.pa_timeline.proofs.Left.{leaves_as, either_of, left_stays, changed_be
 
 -- the record at a place, and its steps by the journal
 abbrev record_in : List Played → ℕ → Played
-record_in records i = get_or records i (record { line = 0; thread = 0; phase = 0; op = ops.Purge; answer = answers.Nothing })
+record_in records i = get_or records i (record { line = 0; thread = 0; phase = 0; rules = first_rules 1; op = ops.Purge; answer = answers.Nothing })
 
 abbrev due_in : List Played → List RootEntry → Played → List Part
 due_in records journal x = due_parts (usable_in records) 1 (journal_at (journal ∷ [])) x
@@ -141,7 +142,7 @@ gone_cleans = refl
 pub gone_poison_has_none : GonePoisonHasNone
 gone_poison_has_none report (ms, t) =
     let all = gone_poison_records in
-    let differ = lines_differ gone_poison_trace.lines gone_poison_records refl in
+    let differ = lines_differ (rules_of gone_poison_trace) gone_poison_trace.lines gone_poison_records refl in
     let (i, at_i) = placed _ _ _ _ _ ms t.ordered differ (gone_at 5) Loading (at_in all 5 (gone_at 5) refl) (at_in (gone_due (gone_at 5)) 1 Loading refl) in
     let (j, at_j) = placed _ _ _ _ _ ms t.ordered differ (gone_at 6) Loading (at_in all 6 (gone_at 6) refl) (at_in (gone_due (gone_at 6)) 1 Loading refl) in
     let a = by_line _ _ _ _ _ ms t.ordered i j (moment (gone_at 5) Loading) (moment (gone_at 6) Loading) at_i at_j (inl (refl, omega arith)) in
@@ -189,7 +190,7 @@ not_the_first e = both_ways (spoils 0 (Spoiling 1)) refl (sym (ap (spoils 0) e))
 pub second_word_has_none : SecondWordHasNone
 second_word_has_none report (ms, t) =
     let all = second_word_records in
-    let differ = lines_differ second_word_trace.lines second_word_records refl in
+    let differ = lines_differ (rules_of second_word_trace) second_word_trace.lines second_word_records refl in
     let (i, at_i) = placed _ _ _ _ _ ms t.ordered differ (second_at 5) Loading (at_in all 5 (second_at 5) refl) (at_in (second_due (second_at 5)) 1 Loading refl) in
     let (j, at_j) = placed _ _ _ _ _ ms t.ordered differ (second_at 6) Loading (at_in all 6 (second_at 6) refl) (at_in (second_due (second_at 6)) 1 Loading refl) in
     let (l, at_l) = placed _ _ _ _ _ ms t.ordered differ (second_at 4) (Spoiling 0) (at_in all 4 (second_at 4) refl) (at_in (second_due (second_at 4)) 0 (Spoiling 0) refl) in
@@ -218,7 +219,7 @@ early_frees = refl
 pub early_has_none : ReadBeforeFreeHasNone
 early_has_none report (ms, t) =
     let all = early_records in
-    let differ = lines_differ early_trace.lines early_records refl in
+    let differ = lines_differ (rules_of early_trace) early_trace.lines early_records refl in
     let (i, at_i) = placed _ _ _ _ _ ms t.ordered differ (early_at 4) Loading (at_in all 4 (early_at 4) refl) (at_in (early_due (early_at 4)) 1 Loading refl) in
     let (j, at_j) = placed _ _ _ _ _ ms t.ordered differ (early_at 5) Swapping (at_in all 5 (early_at 5) refl) (at_in (early_due (early_at 5)) 0 Swapping refl) in
     let (k, at_k) = placed _ _ _ _ _ ms t.ordered differ (early_at 6) Swapping (at_in all 6 (early_at 6) refl) (at_in (early_due (early_at 6)) 0 Swapping refl) in
@@ -249,7 +250,7 @@ copied_frees = refl
 pub copied_has_none : CopiedHasNone
 copied_has_none report (ms, t) =
     let all = copied_records in
-    let differ = lines_differ copied_trace.lines copied_records refl in
+    let differ = lines_differ (rules_of copied_trace) copied_trace.lines copied_records refl in
     let (i, at_i) = placed _ _ _ _ _ ms t.ordered differ (copied_at 4) Loading (at_in all 4 (copied_at 4) refl) (at_in (copied_due (copied_at 4)) 1 Loading refl) in
     let (j, at_j) = placed _ _ _ _ _ ms t.ordered differ (copied_at 5) Counting (at_in all 5 (copied_at 5) refl) (at_in (copied_due (copied_at 5)) 0 Counting refl) in
     let (k, at_k) = placed _ _ _ _ _ ms t.ordered differ (copied_at 6) Counting (at_in all 6 (copied_at 6) refl) (at_in (copied_due (copied_at 6)) 0 Counting refl) in

@@ -103,9 +103,9 @@ fault_behind bytes line after h one parts short read none =
     let t = head_read line h read in
     let taken : length bytes ≡ length line + (length after + 1) = ap length parts ∙ simp length-append (omega arith) in
     elim (found_behind h.partitions h.threads (omega (arith, t.1.1.1)) (omega (arith, t.1.2.1)) (length after) 2 (length line + 1) after (omega arith) (omega arith) short) [
-      | inl all ↦ absurd (none (record { region = h.region; partitions = h.partitions; threads = h.threads; lines = all.0 }) (record {
-        limits = record { head = t.1; lines = all.2; few = omega (arith, all.3) };
-        text = (line, after, t.0, all.1, parts);
+      | inl all ↦ absurd (none (record { version = 1; region = h.region; partitions = h.partitions; threads = h.threads; lines = all.0 }) (record {
+        limits = record { version = refl; head = t.1; lines = all.2; few = omega (arith, all.3) };
+        text = (line, after, t.0, all.1, parts, refl);
         short = omega (arith, taken, all.4);
       }))
       | inr first ↦ (first.0, head_later h.region h.partitions h.threads (length line + 1) bytes line after first.0 one parts short t.0 t.1 refl first.1)

@@ -64,6 +64,7 @@ lines_within words rounds =
 
 pub generated_within : (words : List ℕ) (rounds : ℕ) (t : Trace) → 1 ≤ rounds → rounds ≤ 800 → IsGeneratedOf words rounds t → IsWithinLimits t
 generated_within words rounds t some few h = record {
+  version = h.version;
   head = rw (h.region, h.partitions, h.threads) ((omega arith, omega arith), (omega arith, omega arith), (omega arith, omega arith));
   lines = rw (h.partitions, h.threads, h.lines) (lines_within words rounds);
   few = (let l = generated_length words rounds t some h in omega arith);

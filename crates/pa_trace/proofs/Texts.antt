@@ -62,6 +62,7 @@ one_trace s t text hs ht =
     let heads = one_head_of s.region s.partitions s.threads t.region t.partitions t.threads ht.0
     (subst (λ (x : List ℕ). IsHeadText s.region s.partitions s.threads x) cut.0 hs.2) ht.2 in
     record {
+      version = hs.5 ∙ sym ht.5;
       region = ap (λ (x : ℕ × ℕ × ℕ). x.0) heads;
       partitions = ap (λ (x : ℕ × ℕ × ℕ). x.1) heads;
       threads = ap (λ (x : ℕ × ℕ × ℕ). x.2) heads;

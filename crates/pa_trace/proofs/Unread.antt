@@ -36,7 +36,7 @@ module _ (bytes first rest : List ℕ) (one : IsOneLine first) (parts : bytes �
         number = refl;
         room = omega arith;
         taken = omega (arith, taken, room.1);
-        text = λ more h. (first, rest, read.0, h, parts);
+        text = λ more h. (first, rest, read.0, h, parts, refl);
         fault = λ e h. head_later head.region head.partitions head.threads (4194304 - (4194304 - (length first + 1))) bytes first rest e one parts room.1 read.0 read.1 (omega (arith, room.1)) h;
       }
 
@@ -105,7 +105,7 @@ end_reached u none = record {
   read = λ bytes ls h.
       let so_far = h.taken in
       record {
-        limits = record { head = h.head; lines = h.lines; few = h.few };
+        limits = record { version = refl; head = h.head; lines = h.lines; few = h.few };
         text = subst (λ z. IsTraceText (trace_with u.head z) bytes) (append-nil ls) (h.text [] none);
         short = omega (arith, so_far, ap length none);
       };

@@ -73,6 +73,7 @@ generated_lines words rounds = parts (λ round. phase_before round ++ round_line
 
 -- the trace of that many rounds that is made of the drawn words
 pub record IsGeneratedOf (words : List ℕ) (rounds : ℕ) (trace : Trace) : Type 0 where
+  pub version : trace.version ≡ 1
   pub region : trace.region ≡ 8
   pub partitions : trace.partitions ≡ 4
   pub threads : trace.threads ≡ 4

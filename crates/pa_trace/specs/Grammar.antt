@@ -38,13 +38,15 @@ IsHeadText region partitions threads text =
     (n p t : List ℕ) × IsNumeral region n × IsNumeral partitions p × IsNumeral threads t
     × (text ≡ codes "trace 1 region " ++ n ++ codes " partitions " ++ p ++ codes " threads " ++ t)
 
--- the head, ended by an LF, and the lines
+-- the head, ended by an LF, and the lines, of a trace of version 1
 abbrev pub IsTraceText : Trace → List ℕ → Type 0
 IsTraceText t text =
     (head rest : List ℕ) × IsHeadText t.region t.partitions t.threads head × AreLinesText t.lines rest × (text ≡ head ++ 10 ∷ rest)
+    × (t.version ≡ 1)
 
 -- two traces are the same, compared by their heads and lines
 pub record IsSameTrace (s t : Trace) : Type 0 where
+  pub version : s.version ≡ t.version
   pub region : s.region ≡ t.region
   pub partitions : s.partitions ≡ t.partitions
   pub threads : s.threads ≡ t.threads

@@ -1,3 +1,4 @@
+pub mod Rules
 pub mod Grammar
 pub mod Limits
 pub mod Faults

@@ -1,5 +1,5 @@
 -- The limits of a trace.
-use Rattle.std.specs.Prelude.{ℕ, ◌<◌, ◌≤◌, List, length}
+use Rattle.std.specs.Prelude.{◌≡◌, ℕ, ◌<◌, ◌≤◌, List, length}
 use Rattle.std.specs.List.{AllByRecursion}
 use Rattle.pa_layout.specs.Limits.{most_supers}
 use Rattle.pa_trace.specs.declared.script.Trace.{Trace}
@@ -56,8 +56,9 @@ most_lines = 65536
 abbrev pub most_bytes : ℕ
 most_bytes = 4194304
 
--- a trace within the limits: at most 65,536 lines, the head included
+-- a trace within the limits: of version 1, and of at most 65,536 lines, the head included
 pub record IsWithinLimits (t : Trace) : Type 0 where
+  pub version : t.version ≡ 1
   pub head : IsHeadWithin t.region t.partitions t.threads
   pub lines : AllByRecursion (IsLineWithin t.partitions t.threads) t.lines
   pub few : length t.lines < most_lines

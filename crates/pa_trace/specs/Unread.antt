@@ -16,9 +16,9 @@ pub record Unread : Type 0 where
   pub left : ℕ
   pub number : ℕ
 
--- the trace of this head and these lines
+-- the trace of this head and these lines, which is of version 1
 abbrev pub trace_with : Head → List Line → Trace
-trace_with head ls = record { region = head.region; partitions = head.partitions; threads = head.threads; lines = ls }
+trace_with head ls = record { version = 1; region = head.region; partitions = head.partitions; threads = head.threads; lines = ls }
 
 -- Of these bytes the head and these lines are read, all within the limits, and this is unread. Whichever lines the rest is the
 -- text of, the bytes are the text of the trace with those lines appended. The first faulty line of the rest is the first of

@@ -37,6 +37,7 @@ pub fn generate(alloc: Global, rounds: u32, key: u64) -> Result<Trace, OutOfMemo
         push_round(&mut lines, words.as_slice(), round)?;
     }
     Ok(Trace {
+        version: 1,
         region: 8,
         partitions: THREADS,
         threads: THREADS,

@@ -21,5 +21,5 @@ pub use line::{Head, MOST_PARTITIONS, MOST_SUPER_PAGES, MOST_THREADS, head_of, l
 pub use line_reader::{LineReader, MOST_BYTES, MOST_LINES, cut_line, fault_at};
 pub use op::{CELLS, REGISTERS};
 pub use reading::read_trace;
-pub use script::{Line, Lines, Op, Trace};
+pub use script::{Line, Lines, Op, Rules, Trace};
 pub use writing::{push_head, push_line, write_trace};

@@ -29,6 +29,7 @@ pub fn read_trace(alloc: Global, bytes: &[u8]) -> Result<Trace, TraceFault>
         threads,
     } = reader.head();
     Ok(Trace {
+        version: 1,
         region,
         partitions,
         threads,

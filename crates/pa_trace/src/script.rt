@@ -1,15 +1,37 @@
 ghost use Rattle.std.specs.Prelude.{◌≡◌};
+ghost use Rattle.pa_trace.specs.Rules.{rules_of};
 
 use std::marker::Model;
 
-/// A trace: the region in super pages, the number of partitions, the number of threads, and the lines after the head.
+/// By which rules a line is played: the version of its trace, and the first plain partition, which in a trace without plain
+/// partitions is the number after its last one's.
+#[derive(Clone, Copy, Debug, PartialEq, Eq)]
+pub struct Rules {
+    pub version: u32,
+    pub plain_from: u32,
+}
+
+/// A trace: its version, the region in super pages, the number of partitions, the number of threads, and the lines after the head.
 /// `lines[i]` is line `i + 2` of the text; the head is line 1. A trace has one phase more than it has lines `Phase`.
 #[derive(Debug, Drop)]
 pub struct Trace {
+    pub version: u32,
     pub region: u32,
     pub partitions: u32,
     pub threads: u32,
     pub lines: Lines,
+}
+
+impl Trace {
+    /// The rules by which its lines are played.
+    pub fn rules(&self) -> Rules
+        ensures { result ≡ rules_of self.now }
+    {
+        Rules {
+            version: self.version,
+            plain_from: self.partitions,
+        }
+    }
 }
 
 /// One line after the head.

@@ -10,13 +10,13 @@ use Rattle.pa_trace.proofs.Written.{more_written, none_written, trace_written}
 
 -- a head, after which no line comes yet
 pub head_alone : (head : Head) (start text : List ℕ) → start ≡ [] → Appends (IsHeadLine head.region head.partitions head.threads) start text → IsTraceText (trace_with head []) text
-head_alone head start text none more = trace_written (trace_with head []) [] start text text none refl more (none_written text)
+head_alone head start text none more = trace_written (trace_with head []) [] start text text none refl refl more (none_written text)
 
 -- a text of one line more
 pub line_more : (head : Head) (ls : List Line) (l : Line) (old new : List ℕ) → IsTraceText (trace_with head ls) old → Appends (IsBodyLine l) old new
     → IsTraceText (trace_with head (ls ++ l ∷ [])) new
-line_more head ls l old new (first, rest, is_head, lines, is) more =
+line_more head ls l old new (first, rest, is_head, lines, is, version) more =
     let front : List ℕ = first ++ 10 ∷ [] in
     let before : Appends (AreLinesText ls) front old = (rest, lines, is ∙ sym (append_assoc first (10 ∷ []) rest)) in
     let after = more_written ls l front old new before more in
-    (first, after.0, is_head, after.1, after.2 ∙ append_assoc first (10 ∷ []) after.0)
+    (first, after.0, is_head, after.1, after.2 ∙ append_assoc first (10 ∷ []) after.0, version)

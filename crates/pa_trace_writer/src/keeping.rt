@@ -85,6 +85,7 @@ impl LineList {
         ensures { result ≡ trace_with self.head self.items.items }
     {
         Trace {
+            version: 1,
             region: self.head.region,
             partitions: self.head.partitions,
             threads: self.head.threads,

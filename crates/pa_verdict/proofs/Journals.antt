@@ -4,6 +4,7 @@ use Rattle.std.specs.Prelude.{slice_get}
 use Rattle.std.specs.List.{cons_option}
 use Rattle.std.proofs.lemmas.Bool.{cases_lt}
 use Rattle.pa_trace.specs.declared.script.Trace.{Trace}
+use Rattle.pa_rules.proofs.Ruling.{told_once}
 use Rattle.pa_record.specs.declared.pool.PoolEntry.{PoolEntry}
 use Rattle.pa_record.specs.declared.root.RootEntry.{RootEntry}
 use Rattle.pa_record.specs.Root.{Root, new_root, root_next, root_replayed, RootActFits, RootReplays, RiseFrom, asked_by, all_asked}
@@ -129,6 +130,7 @@ roots_are_places t r due = (
       let ps = records_of t r in
       let fits : (p j : ℕ) (e : RootEntry) → IsEntry r.roots p j e → EntryFits t.partitions ps r.pools r.roots p j e = λ p j. met (places.Root p j) in
       record {
+        one = told_once t r;
         journals = λ p. record {
           replays = acts_whole r.pools (r.roots p) new_root (λ j e at. (fits p j e at).fits);
           rise = rise_whole (r.roots p) 0 (λ j b f at asks. omega arith) (λ i j a b e f at at' less asks asks'. (fits p j f at').rises i a b e at less asks asks');

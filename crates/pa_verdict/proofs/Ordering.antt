@@ -3,6 +3,7 @@ use Rattle.std.proofs.Common.{◌≡◌, ℕ, ◌<◌, List, Some, sym, ◌∙�
 use Rattle.std.specs.Prelude.{Contains, AllPairs, slice_get, map}
 use Rattle.std.proofs.lemmas.Bool.{cases_order}
 use Rattle.pa_trace.specs.declared.script.Trace.{Trace}
+use Rattle.pa_trace.specs.Rules.{rules_of}
 use Rattle.pa_rules.specs.declared.played.Played.{Played}
 use Rattle.pa_rules.specs.Told.{Told, records_of}
 use Rattle.pa_rules.specs.Played.{AreDue}
@@ -15,8 +16,8 @@ use Rattle.pa_rules.proofs.Recorded.{records_are_lines}
 use Rattle.pa_lists.proofs.Indexed.{map_at, at_map, one_at}
 
 -- if the records are those due, each has a line of its own
-pub due_differ : (t : Trace) (r : Told) → AreDue t.lines r.entries → AllPairs OtherRecord (records_of t r)
-due_differ t r due = lines_differ t.lines (records_of t r) (records_are_lines.lines t.lines r.entries due)
+pub due_differ : (t : Trace) (r : Told) → AreDue (rules_of t) t.lines r.entries → AllPairs OtherRecord (records_of t r)
+due_differ t r due = lines_differ (rules_of t) t.lines (records_of t r) (records_are_lines.lines (rules_of t) t.lines r.entries due)
 
 -- a record doesn't come before itself
 pub not_before : (x y : Played) → x ≡ y → StandsBefore x y → ⊥

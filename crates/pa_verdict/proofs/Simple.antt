@@ -3,6 +3,7 @@ use Rattle.std.proofs.Common.{ap}
 use Rattle.std.specs.Prelude.{slice_get, map}
 use Rattle.std.proofs.lemmas.List.Elements.{All-contains}
 use Rattle.pa_trace.specs.declared.script.Trace.{Trace}
+use Rattle.pa_trace.specs.Rules.{rules_of}
 use Rattle.pa_record.specs.declared.report.ReportLine.{ReportLine}
 use Rattle.pa_rules.specs.declared.verdict.Clause.TheVariants as clauses
 use Rattle.pa_rules.specs.declared.verdict.Place.TheVariants as places
@@ -17,7 +18,7 @@ use Rattle.pa_verdict.specs.Clauses.{IsMet, LinesArePlaces, ContentsArePlaces, S
 use Rattle.pa_lists.proofs.Indexed.{at_in, in_at, same_lists}
 use Rattle.pa_lists.proofs.Elements.{all_from_members}
 
-lines_meet : (t : Trace) (r : Told) → AreDue t.lines r.entries → IsMet clauses.Lines t r
+lines_meet : (t : Trace) (r : Told) → AreDue (rules_of t) t.lines r.entries → IsMet clauses.Lines t r
 lines_meet t r h (places.Record i) = ap (λ zs. slice_get zs i) h
 lines_meet t r h (places.Root p j) = tt
 lines_meet t r h (places.Pool j) = tt
@@ -25,9 +26,9 @@ lines_meet t r h (places.Cell k j) = tt
 lines_meet t r h (places.Report i) = tt
 
 pub lines_are_places : LinesArePlaces
-lines_are_places t r = (lines_meet t r, λ met. same_lists (map key_of_entry r.entries) (map key_of_line (op_lines 2 1 t.lines)) (λ i. met (places.Record i)))
+lines_are_places t r = (lines_meet t r, λ met. same_lists (map key_of_entry r.entries) (map key_of_line (op_lines (rules_of t) 2 1 t.lines)) (λ i. met (places.Record i)))
 
-contents_meet : (t : Trace) (r : Told) → AreContents usable_of r.cells (records_of t r) → IsMet clauses.Contents t r
+contents_meet : (t : Trace) (r : Told) → AreContents (usable_of t.version) r.cells (records_of t r) → IsMet clauses.Contents t r
 contents_meet t r h (places.Record i) = λ x at. h x (at_in (records_of t r) i x at)
 contents_meet t r h (places.Root p j) = tt
 contents_meet t r h (places.Pool j) = tt

@@ -34,10 +34,10 @@ rows_whole facts (y ∷ ps) h =
     let (all, next, to, row) = h e.place e.last e.at in
     (with_thread all e.last.thread next, subst (λ zs. RowsTo facts no_regs zs (with_thread all e.last.thread next)) (sym e.parts) (rows_end facts no_regs all next (take e.place (y ∷ ps)) e.last to row))
 
-registers_meet : (t : Trace) (r : Told) → AreRegisters usable_of r.cells (records_of t r) → IsMet clauses.Registers t r
+registers_meet : (t : Trace) (r : Told) → AreRegisters (usable_of t.version) r.cells (records_of t r) → IsMet clauses.Registers t r
 registers_meet t r h (places.Record i) = λ x at.
     let ps = records_of t r in
-    let facts : Facts = record { usable_of = usable_of; usable_at = usable_in ps; cells = r.cells } in
+    let facts : Facts = record { usable_of = usable_of t.version; usable_at = usable_in ps; cells = r.cells } in
     let (all, to, rest_rows) = rows_cut facts no_regs (take i ps) (x ∷ drop (suc i) ps) h.0 (subst (λ zs. RowsTo facts no_regs zs h.0) (cut_at ps i x at) h.1) in
     let (next, row, more) = rest_rows in
     (all, next, to, row)
@@ -50,7 +50,7 @@ pub registers_are_places : RegistersArePlaces
 registers_are_places t r = (
   registers_meet t r,
   λ met. let ps = records_of t r in
-      let facts : Facts = record { usable_of = usable_of; usable_at = usable_in ps; cells = r.cells } in
+      let facts : Facts = record { usable_of = usable_of t.version; usable_at = usable_in ps; cells = r.cells } in
       rows_whole facts ps (λ i. met (places.Record i)),
 )
 

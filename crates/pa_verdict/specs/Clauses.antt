@@ -2,6 +2,7 @@
 use Rattle.std.specs.Prelude.{◌↔◌}
 use Rattle.pa_trace.specs.declared.script.Trace.{Trace}
 use Rattle.pa_slot.specs.Run.{Slots}
+use Rattle.pa_trace.specs.Rules.{rules_of}
 use Rattle.pa_rules.specs.declared.verdict.Clause.{Clause}
 use Rattle.pa_rules.specs.declared.verdict.Clause.TheVariants as clauses
 use Rattle.pa_rules.specs.declared.verdict.Place.{Place}
@@ -25,15 +26,15 @@ IsMet c t r = (place : Place) → Demand c t r place
 
 -- the clause of the lines holds if and only if each place meets it
 abbrev pub LinesArePlaces : Type 0
-LinesArePlaces = (t : Trace) (r : Told) → AreDue t.lines r.entries ↔ IsMet clauses.Lines t r
+LinesArePlaces = (t : Trace) (r : Told) → AreDue (rules_of t) t.lines r.entries ↔ IsMet clauses.Lines t r
 
 -- the clause of the registers holds if and only if each place meets it
 abbrev pub RegistersArePlaces : Type 0
-RegistersArePlaces = (t : Trace) (r : Told) → AreRegisters usable_of r.cells (records_of t r) ↔ IsMet clauses.Registers t r
+RegistersArePlaces = (t : Trace) (r : Told) → AreRegisters (usable_of t.version) r.cells (records_of t r) ↔ IsMet clauses.Registers t r
 
 -- the clause of the contents holds if and only if each place meets it
 abbrev pub ContentsArePlaces : Type 0
-ContentsArePlaces = (t : Trace) (r : Told) → AreContents usable_of r.cells (records_of t r) ↔ IsMet clauses.Contents t r
+ContentsArePlaces = (t : Trace) (r : Told) → AreContents (usable_of t.version) r.cells (records_of t r) ↔ IsMet clauses.Contents t r
 
 -- the clause of the caches holds if and only if each place meets it
 abbrev pub CachesArePlaces : Type 0
@@ -51,22 +52,22 @@ ReportIsPlaces =
 
 -- if the lines are right, the clause of the cells holds if and only if each place meets it
 abbrev pub CellsArePlaces : Type 0
-CellsArePlaces = (t : Trace) (r : Told) → AreDue t.lines r.entries → AreCells r.cells (records_of t r) ↔ IsMet clauses.Cells t r
+CellsArePlaces = (t : Trace) (r : Told) → AreDue (rules_of t) t.lines r.entries → AreCells r.cells (records_of t r) ↔ IsMet clauses.Cells t r
 
 -- if the lines are right, the clause of the slots holds if and only if each place meets it
 abbrev pub SlotsArePlaces : Type 0
-SlotsArePlaces = (t : Trace) (r : Told) → AreDue t.lines r.entries → Slots (marks_of (records_of t r)) ↔ IsMet clauses.Slots t r
+SlotsArePlaces = (t : Trace) (r : Told) → AreDue (rules_of t) t.lines r.entries → Slots (marks_of (records_of t r)) ↔ IsMet clauses.Slots t r
 
 -- if the lines are right, the clause of the pool holds if and only if each place meets it
 abbrev pub PoolIsPlaces : Type 0
 PoolIsPlaces =
-    (t : Trace) (r : Told) → AreDue t.lines r.entries →
+    (t : Trace) (r : Told) → AreDue (rules_of t) t.lines r.entries →
     IsPoolOf t.region (records_of t r) r.pools r.roots ↔ IsMet clauses.Pool t r
 
 -- if the lines are right, the clause of the roots holds if and only if each place meets it
 abbrev pub RootsArePlaces : Type 0
 RootsArePlaces =
-    (t : Trace) (r : Told) → AreDue t.lines r.entries →
+    (t : Trace) (r : Told) → AreDue (rules_of t) t.lines r.entries →
     AreRoots t.partitions (records_of t r) r.pools r.roots ↔ IsMet clauses.Roots t r
 
 -- If each place meets the clause of the titles, the titles of the whole journals are right. If the journals and the pool's
@@ -79,5 +80,5 @@ pub record TitlesArePlaces : Type 0 where
 -- if the lines and the slots are right, the clause of the holders holds if and only if each place meets it
 abbrev pub HoldersArePlaces : Type 0
 HoldersArePlaces =
-    (t : Trace) (r : Told) → AreDue t.lines r.entries → Slots (marks_of (records_of t r)) →
+    (t : Trace) (r : Told) → AreDue (rules_of t) t.lines r.entries → Slots (marks_of (records_of t r)) →
     AreHolders (records_of t r) r.roots ↔ IsMet clauses.Holders t r

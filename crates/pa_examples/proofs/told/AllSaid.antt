@@ -22,7 +22,7 @@ use Rattle.pa_rules.specs.Played.{mark_of}
 use Rattle.pa_rules.specs.Registers.{Row}
 use Rattle.pa_rules.specs.Report.{until, listed_bytes}
 use Rattle.pa_slot.specs.Kinds.{issues, frees, enters, leaves}
-use Rattle.pa_examples.specs.Worked.{tally, report_line, seen_at, two_threads_trace, two_threads_journal, two_threads_report, two_threads_census}
+use Rattle.pa_examples.specs.Worked.{tally, report_line, seen_at, two_threads_trace, two_threads_journal, two_threads_report, two_threads_census, of_one}
 use Rattle.pa_examples.proofs.worked.Lists.{each}
 use Rattle.pa_examples.proofs.worked.OneFill.{the_slot}
 use Rattle.pa_examples.proofs.worked.OneJournal.{none_on}
@@ -64,7 +64,7 @@ pub record ReadFits (answer : Answer) (word value after : ℕ) (ts : List ToldRe
   pub first : KnowsUntil ts 1
   pub second : KnowsUntil ts 2
   pub last : KnowsLast ts
-  pub row : (sizes : SlotName → ℕ) → sizes the_slot ≡ 16 → Row (by_length sizes threads_cells) (ops.Read 0 0) after_take answer after_take
+  pub row : (sizes : SlotName → ℕ) → sizes the_slot ≡ 16 → Row (by_length 1 sizes threads_cells) (ops.Read 0 0) after_take answer after_take
   pub cached : ReadsOnly answer
   pub until_1 : IsCounted (played_in ts) 1 (tally 1 16) (tally 0 0)
   pub until_2 : IsCounted (played_in ts) 2 (tally 0 0) (tally 1 16)
@@ -72,7 +72,7 @@ pub record ReadFits (answer : Answer) (word value after : ℕ) (ts : List ToldRe
   pub heard : (u : Title) → seen_among u (seen_number after) ≤ seen_among u (seen_number 4)
 
 limits : IsWithinLimits two_threads_trace
-limits = record { head = search rules; lines = search rules; few = search rules }
+limits = record { version = refl; head = search rules; lines = search rules; few = search rules }
 
 module _ (answer : Answer) (word value after : ℕ) (fits : ReadFits answer word value after (reading_so (so_read answer word value after))) where
   abbrev so : Worked
@@ -239,13 +239,13 @@ module _ (answer : Answer) (word value after : ℕ) (fits : ReadFits answer word
 
 -- a read after a look at the slot that its record reports
 abbrev IsLook : Answer → ℕ → Type 0
-IsLook answer word = mark_of (record { line = 8; thread = 1; phase = 2; op = ops.Read 0 0; answer = answer }) ≡ Some (record { line = 8; slot = the_slot; found = word; step = None })
+IsLook answer word = mark_of (record of_one { line = 8; thread = 1; phase = 2; op = ops.Read 0 0; answer = answer }) ≡ Some (record { line = 8; slot = the_slot; found = word; step = None })
 
 -- What is required of the answer by itself: it is a look, and in a register's row and in the lists it changes nothing. The rest follows
 -- from what is known of logs and of what was seen.
 pub fits : (answer : Answer) (word value after : ℕ) → IsLook answer word →
     ((sizes : SlotName → ℕ) → sizes the_slot ≡ 16 → IsTold sizes (told_record (so_read answer word value after))) →
-    ((sizes : SlotName → ℕ) → sizes the_slot ≡ 16 → Row (by_length sizes threads_cells) (ops.Read 0 0) after_take answer after_take) → ReadsOnly answer →
+    ((sizes : SlotName → ℕ) → sizes the_slot ≡ 16 → Row (by_length 1 sizes threads_cells) (ops.Read 0 0) after_take answer after_take) → ReadsOnly answer →
     AreViewed threads_cells (reading_so (so_read answer word value after)) → KnowsUntil (reading_so (so_read answer word value after)) 1 →
     KnowsUntil (reading_so (so_read answer word value after)) 2 → KnowsLast (reading_so (so_read answer word value after)) →
     ((u : Title) → seen_among u (seen_number after) ≤ seen_among u (seen_number 4)) → ReadFits answer word value after (reading_so (so_read answer word value after))

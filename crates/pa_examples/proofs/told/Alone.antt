@@ -29,7 +29,7 @@ no_hands x y h = not_some h.2 h.4
 abbrev pub NoValue : ToldRecord → Type 0
 NoValue x = (seen : Seen) (value : ℕ) → x.played.answer ≡ Value seen value → ⊥
 
-pub no_readers : (sizes : SlotName → ℕ) (cells : ℕ → List CellEntry) (ts : List ToldRecord) → ((x : ToldRecord) → Contains ts x → NoValue x) → HaveReaders sizes cells ts
+pub no_readers : (sizes : SlotName → ℕ) (cells : ℕ → List CellEntry) (ts : List ToldRecord) → ((x : ToldRecord) → Contains ts x → NoValue x) → HaveReaders 1 sizes cells ts
 no_readers sizes cells ts none x seen value among is = absurd (none x among seen value is)
 
 -- what is said of the written cells is said of the run's
@@ -45,7 +45,8 @@ module _ (ts : List ToldRecord) (none : (t : Title) (found value : ℕ) → pair
     | inr n ↦ subst (λ log. pairs (quiet_read false t found value) log ≡ 0) (sym (others r n)) refl
   ]
 
-  pub no_reads : (history : Title → List Done) → paired_of (view_of ts) gave_no_poison ≡ 0 → ((t : Title) (found value : ℕ) → paired_of (view_of ts) (quiet_read true t found value) ≡ 0) → HasReads history (view_of ts)
+  pub no_reads : (history : Title → List Done) → paired_of (view_of ts) gave_no_poison ≡ 0
+      → ((t : Title) (found value : ℕ) → paired_of (view_of ts) (quiet_read true t found value) ≡ 0) → HasReads history (view_of ts)
   no_reads history freed owned = record {
     freed = freed;
     own = λ t found value held some_pair. let gone = owned t found value in absurd (omega arith);

@@ -5,6 +5,7 @@ use Rattle.pa_slot.specs.declared.title.Title.{Title}
 use Rattle.pa_slot.specs.declared.word.Step.TheVariants.{Issue, Copy, Reset, Free}
 use Rattle.pa_slot.specs.Titles.{IsWellFormed, same_title}
 use Rattle.pa_slot.proofs.Same.{title_tells, title_is}
+use Rattle.pa_trace.specs.Rules.{rules_of}
 use Rattle.pa_region.specs.declared.view.View.{View}
 use Rattle.pa_region.specs.Views.{names}
 use Rattle.pa_region.specs.History.{Done, IsChained}
@@ -182,7 +183,7 @@ seen_so = viewed (history_at []) maps_worked none refl (λ x y h. absurd (no_han
 
 module _ (r : Run) (is : IsRunOf r (map entry_of direct_map_records) (direct_map_again_journal ∷ []) direct_map_again_pool [] direct_map_report) where
   same : direct_map_records ≡ records_of direct_map_trace (told_by r)
-  same = sym (ap (played direct_map_trace.lines) is.entries ∙ records_are_lines.same direct_map_trace.lines direct_map_records lines)
+  same = sym (ap (played (rules_of direct_map_trace) direct_map_trace.lines) is.entries ∙ records_are_lines.same (rules_of direct_map_trace) direct_map_trace.lines direct_map_records lines)
 
   known : IsKnown direct_map_trace (told_by r) direct_map_records
   known = subst (λ ps. IsKnown direct_map_trace (told_by r) ps) (sym same) (direct_map_is_known r is)

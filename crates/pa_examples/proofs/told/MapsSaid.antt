@@ -105,7 +105,7 @@ known = legal_is_known direct_map_trace told_maps legal (all_used direct_map_rec
 -- ---- the runner
 
 limits : IsWithinLimits direct_map_trace
-limits = record { head = search rules; lines = search rules; few = search rules }
+limits = record { version = refl; head = search rules; lines = search rules; few = search rules }
 
 -- what the seat has seen at the end
 abbrev pub notes : List SeenNumber
@@ -164,20 +164,20 @@ pool_tells = record { list = refl; fits = direct_map_again.is_pool; asked = maps
 
 first_makes : (x : ToldRecord) → Contains maps_told x → Makes direct_map_again_pool 0 x
 first_makes x among = each (Makes direct_map_again_pool 0) maps_told (
-  makes_all direct_map_again_pool _ (map_made 2 0 16384 2002944 ∷ []) refl ((2000000, direct 0, refl), tt),
+  makes_all direct_map_again_pool _ (map_made 2 0 16384 2002944 ∷ []) refl ((2000000, (0, refl, direct), refl), tt),
   (
     makes_all direct_map_again_pool _ (map_gone 3 1 16384 0 2 ∷ []) refl (inl (0, refl), tt),
     (
-      makes_all direct_map_again_pool _ (map_made 4 2 16384 2002944 ∷ []) refl ((2000000, direct 0, refl), tt),
+      makes_all direct_map_again_pool _ (map_made 4 2 16384 2002944 ∷ []) refl ((2000000, (0, refl, direct), refl), tt),
       (
         makes_none direct_map_again_pool 0 _ refl,
         (
           makes_none direct_map_again_pool 0 _ refl,
           (
-            makes_all direct_map_again_pool _ (full 7 None 3 ∷ []) refl ((2000000, direct 2, refl), tt),
+            makes_all direct_map_again_pool _ (full 7 None 3 ∷ []) refl ((2000000, (2, refl, direct), refl), tt),
             (
               makes_all direct_map_again_pool _ (map_gone 8 4 16384 2 4 ∷ []) refl (inr (1, refl), tt),
-              (makes_all direct_map_again_pool _ (map_made 9 5 16384 2002944 ∷ []) refl ((2000000, direct 2, refl), tt), tt),
+              (makes_all direct_map_again_pool _ (map_made 9 5 16384 2002944 ∷ []) refl ((2000000, (2, refl, direct), refl), tt), tt),
             ),
           ),
         ),

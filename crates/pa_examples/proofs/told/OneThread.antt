@@ -178,7 +178,8 @@ no_cells_tell r v ts cells list entered none = record {
     nothing x m among within = not_in_none m (subst (λ ms. Contains ms m) (each (λ (y : ToldRecord). entered_in 5 y.stretch ≡ []) ts entered x among) within)
 
 -- ---- the lists of each thread, from those of all
-pub leads_of : (partitions : ℕ) (roots : Journals) (all : Caches) (ps : List Played) (ends : Caches) → CachesTo partitions roots all ps ends → (k : ℕ) → CacheLeadsTo partitions roots (all k) (records_by k ps) (ends k)
+pub leads_of : (partitions : ℕ) (roots : Journals) (all : Caches) (ps : List Played) (ends : Caches)
+    → CachesTo partitions roots all ps ends → (k : ℕ) → CacheLeadsTo partitions roots (all k) (records_by k ps) (ends k)
 leads_of partitions roots all [] ends same k = ap (λ (c : Caches). c k) same
 leads_of partitions roots all (x ∷ xs) ends (next, row, rest) k =
     let again : CacheLeadsTo partitions roots (with_cache all x.thread next k) (records_by k xs) (ends k) = leads_of partitions roots (with_cache all x.thread next) xs ends rest k in

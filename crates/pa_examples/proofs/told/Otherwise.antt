@@ -27,7 +27,9 @@ use Rattle.pa_examples.proofs.told.Seen.{viewed}
 use Rattle.pa_examples.proofs.told.Threads.{steps_first, steps_second, steps_last, chained_first, told_first, of_first, GaveRef, by_second, hands, hands_so}
 
 -- a quiet read without an Own, of the slot, which gave this
-read_gives : (w given : ℕ) (t : Title) (found value : ℕ) → 0 < quiet_read false t found value (Looked its_title w) (Read its_title 0 given no_deeds false false) → (its_title ≡ t) × (w ≡ found) × (given ≡ value)
+read_gives : (w given : ℕ) (t : Title) (found value : ℕ)
+    → 0 < quiet_read false t found value (Looked its_title w) (Read its_title 0 given no_deeds false false)
+    → (its_title ≡ t) × (w ≡ found) × (given ≡ value)
 read_gives w given t found value some_pair =
     let is = quiet_tells false t found value (Looked its_title w) its_title 0 given no_deeds false false some_pair in
     (is.title, found_is its_title t w found is.looked, is.gave)
@@ -57,12 +59,16 @@ abbrev pub content_second : List ToldRecord
 content_second = told_until 2 so_content
 
 -- the read gave the content of any history with no write
-gave_content : (ts : List ToldRecord) (t : Title) (found value : ℕ) → 0 < quiet_read false t found value (Looked its_title 33554435) (Read its_title 0 0 no_deeds false false) → GaveRef ts steps_second 1 t found value
+gave_content : (ts : List ToldRecord) (t : Title) (found value : ℕ)
+    → 0 < quiet_read false t found value (Looked its_title 33554435) (Read its_title 0 0 no_deeds false false)
+    → GaveRef ts steps_second 1 t found value
 gave_content ts t found value some_pair =
     let (title, word, is) = read_gives 33554435 0 t found value some_pair in
     (title, inl (subst (λ (w : ℕ). value ≡ content_at_number (number_of w) steps_second) word (sym is)))
 
-gave_at_last : (ts : List ToldRecord) (t : Title) (found value : ℕ) → 0 < quiet_read false t found value (Looked its_title 33554435) (Read its_title 0 0 no_deeds false false) → GaveRef ts steps_last 1 t found value
+gave_at_last : (ts : List ToldRecord) (t : Title) (found value : ℕ)
+    → 0 < quiet_read false t found value (Looked its_title 33554435) (Read its_title 0 0 no_deeds false false)
+    → GaveRef ts steps_last 1 t found value
 gave_at_last ts t found value some_pair =
     let (title, word, is) = read_gives 33554435 0 t found value some_pair in
     (title, inl (subst (λ (w : ℕ). value ≡ content_at_number (number_of w) steps_last) word (sym is)))

@@ -20,7 +20,7 @@ use Rattle.pa_rules.specs.Registers.{Regs, Facts, Row, with, no_regs}
 use Rattle.pa_rules.specs.Caches.{Cache, Caches, with_list, no_caches, DoneRow, CacheRow}
 use Rattle.pa_rules.specs.Report.{until}
 use Rattle.pa_rules.specs.Sizes.{slot_size_for}
-use Rattle.pa_examples.specs.Worked.{seen_at, two_threads_journal}
+use Rattle.pa_examples.specs.Worked.{seen_at, two_threads_journal, of_one}
 use Rattle.pa_examples.proofs.worked.OneFill.{roots, the_slot, kept, made_row, of_class}
 use Rattle.pa_examples.proofs.worked.OneJournal.{no_other, none_on}
 use Rattle.pa_examples.proofs.worked.ThreadsRead.{after_take}
@@ -66,7 +66,7 @@ not_own s e = cc
 -- if the slot has 16 bytes
 module _ (sizes : SlotName → ℕ) (long : sizes the_slot ≡ 16) where
   abbrev pub facts : Facts
-  facts = by_length sizes threads_cells
+  facts = by_length 1 sizes threads_cells
 
   -- a read through the raw_ptr, before which the slot was seen
   through_ref : (x : ToldRecord) → 1 ≤ x.saw its_title → IsReadThrough sizes (Ref the_slot) x
@@ -147,18 +147,18 @@ second_cache = with_list (no_caches 1) 0 0 (record { slot = the_slot; number = 4
 abbrev pub caches_until : ℕ → Caches
 caches_until n k = if leb 1 n && eqb 0 k then kept else if eqb 3 n && eqb 1 k then second_cache else no_caches k
 
-free_row : DoneRow roots (record { line = 6; thread = 0; phase = 2; op = ops.Free 0; answer = answers.Done (seen_at 16384 0 0x2000003) }) (Some steps.Free) (seen_at 16384 0 0x2000003)
+free_row : DoneRow roots (record of_one { line = 6; thread = 0; phase = 2; op = ops.Free 0; answer = answers.Done (seen_at 16384 0 0x2000003) }) (Some steps.Free) (seen_at 16384 0 0x2000003)
     kept kept
 free_row = inr (λ h. absurd (omega (arith, h.1)), none_on two_threads_journal 6 refl, λ p c. refl)
 
-reset_row : DoneRow roots (record { line = 11; thread = 1; phase = 3; op = ops.Reset 0; answer = answers.Done (seen_at 16384 0 0x3000002) }) (Some steps.Reset) (seen_at 16384 0 0x3000002)
+reset_row : DoneRow roots (record of_one { line = 11; thread = 1; phase = 3; op = ops.Reset 0; answer = answers.Done (seen_at 16384 0 0x3000002) }) (Some steps.Reset) (seen_at 16384 0 0x3000002)
     (no_caches 1) second_cache
 unfolding rows row_of limit_of
 reset_row = inl ((refl, refl), inl (0, 0, of_class, (refl, no_other two_threads_journal 11), λ p c. refl))
 
 -- the read touches no list
 abbrev pub ReadsOnly : Answer → Type 0
-ReadsOnly answer = CacheRow 1 roots (record { line = 8; thread = 1; phase = 2; op = ops.Read 0 0; answer = answer }) answer (no_caches 1) (no_caches 1)
+ReadsOnly answer = CacheRow 1 roots (record of_one { line = 8; thread = 1; phase = 2; op = ops.Read 0 0; answer = answer }) answer (no_caches 1) (no_caches 1)
 
 module _ (answer : Answer) (word value after : ℕ) (read : ReadsOnly answer) where
   abbrev ps : List Played

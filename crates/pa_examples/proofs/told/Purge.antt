@@ -4,6 +4,7 @@ use Rattle.std.specs.Prelude.{Contains}
 use Rattle.pa_slot.specs.declared.title.Title.{Title}
 use Rattle.pa_slot.specs.declared.word.Step.TheVariants.{Issue, Free}
 use Rattle.pa_slot.specs.Titles.{same_title}
+use Rattle.pa_trace.specs.Rules.{rules_of}
 use Rattle.pa_region.specs.declared.view.View.{View}
 use Rattle.pa_region.specs.History.{Done, IsChained}
 use Rattle.pa_region.specs.Pairs.{pairs}
@@ -91,7 +92,7 @@ seen_so = viewed (history_at []) purge_worked none refl (λ x y h. absurd (no_ha
 
 module _ (r : Run) (is : IsRunOf r (map entry_of purge_records) (purge_journal ∷ []) purge_pool [] purge_report) where
   same : purge_records ≡ records_of purge_trace (told_by r)
-  same = sym (ap (played purge_trace.lines) is.entries ∙ records_are_lines.same purge_trace.lines purge_records lines)
+  same = sym (ap (played (rules_of purge_trace) purge_trace.lines) is.entries ∙ records_are_lines.same (rules_of purge_trace) purge_trace.lines purge_records lines)
 
   known : IsKnown purge_trace (told_by r) purge_records
   known = subst (λ ps. IsKnown purge_trace (told_by r) ps) (sym same) (known_of purge_trace r purge_records lines (sym is.entries) (purge_is_filed r is).0 (all_used purge_records refl))

@@ -104,7 +104,7 @@ known = legal_is_known purge_trace told_purge legal (all_used purge_records refl
 -- ---- the runner
 
 limits : IsWithinLimits purge_trace
-limits = record { head = search rules; lines = search rules; few = search rules }
+limits = record { version = refl; head = search rules; lines = search rules; few = search rules }
 
 pub alone : IsAlone purge_told (seen_number 3) purge_journal purge_pool
 alone = record {

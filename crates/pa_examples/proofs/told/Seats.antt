@@ -46,7 +46,8 @@ append_none (x ∷ xs) = ap (λ ys. x ∷ ys) (append_none xs)
 
 -- what such a seat has seen of a list
 module _ (ts : List ToldRecord) (notes : List SeenNumber) (lists : ℕ → List Made) where
-  pub list_cases : (P : ℕ → List Made → Type 0) → P 0 (lists 0) → P 4 (lists 4) → P 5 (lists 5) → ((k : ℕ) → (0 ≡ k → ⊥) → (4 ≡ k → ⊥) → (5 ≡ k → ⊥) → P k []) → (k : ℕ) → P k (list_of k (seat_of ts notes lists))
+  pub list_cases : (P : ℕ → List Made → Type 0) → P 0 (lists 0) → P 4 (lists 4) → P 5 (lists 5)
+      → ((k : ℕ) → (0 ≡ k → ⊥) → (4 ≡ k → ⊥) → (5 ≡ k → ⊥) → P k []) → (k : ℕ) → P k (list_of k (seat_of ts notes lists))
   list_cases P root pool cells none k = elim (cases_eq 0 k) [
     | inl e ↦ subst (λ n. P n (list_of n (seat_of ts notes lists))) e (subst (λ ms. P 0 ms) (sym (longer_none (lists 0))) root)
     | inr n0 ↦ elim (cases_eq 4 k) [

@@ -6,6 +6,7 @@ use Rattle.pa_slot.specs.declared.word.Step.TheVariants.{Issue, Copy, Reset, Fre
 use Rattle.pa_slot.specs.Count.{number_of, held_of}
 use Rattle.pa_slot.specs.Titles.{poison}
 use Rattle.pa_slot.specs.Holdings.{one}
+use Rattle.pa_trace.specs.Rules.{rules_of}
 use Rattle.pa_region.specs.declared.view.Entry.{Entry}
 use Rattle.pa_region.specs.declared.view.Entry.TheVariants.{Looked, Read}
 use Rattle.pa_region.specs.declared.view.View.{View}
@@ -119,7 +120,9 @@ chained_last = record {
 }
 
 -- a quiet read without an Own, of the slot
-read_is : (t : Title) (word found value : ℕ) → 0 < quiet_read false t found value (Looked its_title word) (Read its_title 0 poison no_deeds false false) → (its_title ≡ t) × (word ≡ found) × (poison ≡ value)
+read_is : (t : Title) (word found value : ℕ)
+    → 0 < quiet_read false t found value (Looked its_title word) (Read its_title 0 poison no_deeds false false)
+    → (its_title ≡ t) × (word ≡ found) × (poison ≡ value)
 read_is t word found value some_pair =
     let is = quiet_tells false t found value (Looked its_title word) its_title 0 poison no_deeds false false some_pair in
     (is.title, found_is its_title t word found is.looked, is.gave)
@@ -231,7 +234,7 @@ ends x among =
 abbrev HasReader : ToldRecord → Type 0
 HasReader x =
     (seen : Seen) (value : ℕ) → x.played.answer ≡ Value seen value →
-    (reg place : ℕ) × (regs : Regs) × (x.played.op ≡ ops.Read reg place) × HasRegs usable_of cells two_threads_records x.played regs × ReadsThrough sixteen (regs reg) seen place value x
+    (reg place : ℕ) × (regs : Regs) × (x.played.op ≡ ops.Read reg place) × HasRegs (usable_of 1) cells two_threads_records x.played regs × ReadsThrough sixteen (regs reg) seen place value x
 
 value_is : (a b : Seen) (v w : ℕ) → Value a v ≡ Value b w → (a ≡ b) × (v ≡ w)
 value_is a b v w e = (cc, cc)
@@ -250,7 +253,7 @@ the_reader_has seen value e =
     let (same, gave_it) = value_is the_seen seen poison value e in
     (0, 0, after_take, refl, has_regs, subst (λ (z : Seen). ReadsThrough sixteen (after_take 0) z 0 value (told_record the_read)) same (subst (λ v. ReadsThrough sixteen (after_take 0) the_seen 0 v (told_record the_read)) gave_it reader_read))
 
-readers : HaveReaders sixteen cells threads_told
+readers : HaveReaders 1 sixteen cells threads_told
 readers x seen value among is = each HasReader threads_told (
   (λ a v e. absurd cc),
   (
@@ -291,7 +294,7 @@ handed_on x y h = let (a, b) = handed x y h in omega arith
 
 module _ (r : Run) (is : IsRunOf r (map entry_of two_threads_records) (two_threads_journal ∷ []) two_threads_pool (two_threads_history ∷ []) two_threads_report) where
   same : two_threads_records ≡ records_of two_threads_trace (told_by r)
-  same = sym (ap (played two_threads_trace.lines) is.entries ∙ records_are_lines.same two_threads_trace.lines two_threads_records lines)
+  same = sym (ap (played (rules_of two_threads_trace) two_threads_trace.lines) is.entries ∙ records_are_lines.same (rules_of two_threads_trace) two_threads_trace.lines two_threads_records lines)
 
   known : IsKnown two_threads_trace (told_by r) two_threads_records
   known = subst (λ ps. IsKnown two_threads_trace (told_by r) ps) (sym same) (two_threads_are_known r is)
@@ -303,7 +306,7 @@ module _ (r : Run) (is : IsRunOf r (map entry_of two_threads_records) (two_threa
     told = told;
     last = knows_one threads_told steps_last of_last;
     ends = ends;
-    readers = of_run r (two_threads_history ∷ []) is.cells (λ c. HaveReaders sixteen c threads_told) readers;
+    readers = of_run r (two_threads_history ∷ []) is.cells (λ c. HaveReaders 1 sixteen c threads_told) readers;
     viewed = of_run r (two_threads_history ∷ []) is.cells (λ c. AreViewed c threads_told) seen_so;
     handed = of_run r (two_threads_history ∷ []) is.cells (λ c. (x y : Played) → HandsTo c x y → x.line < y.line) handed_on;
     threads = λ x y first second a b thread less. less;

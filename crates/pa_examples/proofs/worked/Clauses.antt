@@ -5,6 +5,7 @@ use Rattle.std.specs.Prelude.{map}
 use Rattle.pa_slot.specs.Run.{Slots}
 use Rattle.pa_trace.specs.declared.script.Trace.{Trace}
 use Rattle.pa_trace.specs.Limits.{IsWithinLimits}
+use Rattle.pa_trace.specs.Rules.{rules_of}
 use Rattle.pa_record.specs.declared.history.CellEntry.{CellEntry}
 use Rattle.pa_record.specs.declared.pool.PoolEntry.{PoolEntry}
 use Rattle.pa_record.specs.declared.root.RootEntry.{RootEntry}
@@ -28,11 +29,11 @@ use Rattle.pa_examples.specs.Worked.{IsRunOf}
 use Rattle.pa_one_run.proofs.OneThread.{one_thread}
 
 pub record IsWritten (t : Trace) (ps : List Played) (journals : List (List RootEntry)) (pools : List PoolEntry) (exchanged : List (List CellEntry)) (heaps : List ReportLine) : Type 0 where
-  pub lines : AreLines t.lines ps
+  pub lines : AreLines (rules_of t) t.lines ps
   pub cells : AreCells (history_at exchanged) ps
-  pub registers : AreRegisters usable_of (history_at exchanged) ps
+  pub registers : AreRegisters (usable_of t.version) (history_at exchanged) ps
   pub slots : Slots (marks_of ps)
-  pub contents : AreContents usable_of (history_at exchanged) ps
+  pub contents : AreContents (usable_of t.version) (history_at exchanged) ps
   pub pool : IsPoolOf t.region ps pools (journal_at journals)
   pub roots : AreRoots t.partitions ps pools (journal_at journals)
   pub titles : AreAllTitles pools (journal_at journals)
@@ -44,10 +45,10 @@ pub record IsWritten (t : Trace) (ps : List Played) (journals : List (List RootE
 -- the clauses hold of a run with these lists
 own_lists : (t : Trace) (r : Run) (ps : List Played) → map entry_of ps ≡ r.entries.items → IsWritten t ps r.roots.items r.pool.items r.cells.items r.report.items → IsLegal t r
 own_lists t r ps told w =
-    let same : records_of t (told_by r) ≡ ps = ap (played t.lines) (sym told) ∙ records_are_lines.same t.lines ps w.lines in
+    let same : records_of t (told_by r) ≡ ps = ap (played (rules_of t) t.lines) (sym told) ∙ records_are_lines.same (rules_of t) t.lines ps w.lines in
     subst (IsLegalBy t (told_by r)) (sym same)
     (record {
-      lines = subst (AreDue t.lines) told (records_are_lines.due t.lines ps w.lines);
+      lines = subst (AreDue (rules_of t) t.lines) told (records_are_lines.due (rules_of t) t.lines ps w.lines);
       cells = w.cells;
       registers = w.registers;
       slots = w.slots;

@@ -4,6 +4,8 @@ use Rattle.std.specs.Prelude.{slice_get}
 use Rattle.std.specs.List.{AllByRecursion}
 use Rattle.pa_slot.specs.Run.{Slots}
 use Rattle.pa_trace.specs.declared.script.Op.TheVariants as ops
+use Rattle.pa_trace.specs.Rules.{rules_of}
+use Rattle.pa_examples.specs.Worked.{of_one}
 use Rattle.pa_record.specs.declared.entry.Answer.TheVariants as answers
 use Rattle.pa_record.specs.declared.history.CellEntry.{CellEntry}
 use Rattle.pa_record.specs.declared.history.Held.TheVariants as held
@@ -24,7 +26,7 @@ use Rattle.pa_lists.proofs.Indexed.{at_in}
 abbrev pub cells : ℕ → List CellEntry
 cells = history_at (there_history ∷ back_history ∷ [])
 
-pub lines : AreLines early_read_trace.lines early_read_records
+pub lines : AreLines (rules_of early_read_trace) early_read_trace.lines early_read_records
 lines = refl
 
 pub follow : lines_follow early_read_records ≡ true
@@ -104,15 +106,15 @@ all_answered = (
   (
     λ k reg e. absurd cc,
     (
-      answered (record { line = 4; thread = 0; phase = 1; op = ops.Swap 0 1; answer = answers.Swapped 0 }) 0 1 (0, _, refl, refl, refl) refl,
+      answered (record of_one { line = 4; thread = 0; phase = 1; op = ops.Swap 0 1; answer = answers.Swapped 0 }) 0 1 (0, _, refl, refl, refl) refl,
       (
-        answered (record { line = 6; thread = 1; phase = 2; op = ops.Swap 0 0; answer = answers.Swapped 1 }) 0 0 (1, _, refl, refl, refl) refl,
+        answered (record of_one { line = 6; thread = 1; phase = 2; op = ops.Swap 0 0; answer = answers.Swapped 1 }) 0 0 (1, _, refl, refl, refl) refl,
         (
           λ k reg e. absurd cc,
           (
-            answered (record { line = 8; thread = 1; phase = 2; op = ops.Swap 1 0; answer = answers.Swapped 0 }) 1 0 (0, _, refl, refl, refl) refl,
+            answered (record of_one { line = 8; thread = 1; phase = 2; op = ops.Swap 1 0; answer = answers.Swapped 0 }) 1 0 (0, _, refl, refl, refl) refl,
             (
-              answered (record { line = 9; thread = 0; phase = 2; op = ops.Swap 1 2; answer = answers.Swapped 1 }) 1 2 (1, _, refl, refl, refl) refl,
+              answered (record of_one { line = 9; thread = 0; phase = 2; op = ops.Swap 1 2; answer = answers.Swapped 1 }) 1 2 (1, _, refl, refl, refl) refl,
               (λ k reg e. absurd cc, tt),
             ),
           ),

@@ -18,8 +18,8 @@ use Rattle.pa_rules.specs.Report.{until, IsTally, HasCensus, IsReportLine, IsRep
 use Rattle.pa_rules.proofs.Following.{titles_follow}
 use Rattle.pa_rules.proofs.Running.{OtherLine}
 use Rattle.pa_legal.proofs.tallies.Levels.{is_live, live_is, is_live_of, is_quarantined, quarantined_is, is_quarantined_of}
-use Rattle.pa_examples.specs.Worked.{seen_at, tally, report_line, two_threads_journal, two_threads_pool, two_threads_census}
-use Rattle.pa_examples.specs.WorkedEarly.{early_read_records, early_read_report}
+use Rattle.pa_examples.specs.Worked.{seen_at, tally, report_line, two_threads_journal, two_threads_pool, two_threads_census, of_one}
+use Rattle.pa_examples.specs.WorkedEarly.{early_read_records, early_read_report, early_read_trace}
 use Rattle.pa_examples.proofs.worked.Pool.{pool_of_one}
 use Rattle.pa_examples.proofs.worked.Holders.{HasIt, IsIssued, issued, no_moves}
 use Rattle.pa_examples.proofs.worked.Moves.{holders_of_one}
@@ -27,14 +27,14 @@ use Rattle.pa_examples.proofs.worked.OneJournal.{IsMade, none_on, roots_of_one, 
 use Rattle.pa_examples.proofs.worked.OneFill.{roots, the_slot, is_pool, is_journal, kept, made_row, has_size, counted}
 use Rattle.pa_examples.proofs.worked.Report.{other_lines, slots_of_kind}
 use Rattle.pa_examples.proofs.worked.Slots.{Worded, are_worded}
-use Rattle.pa_examples.proofs.worked.Early.{follow, words, worded}
+use Rattle.pa_examples.proofs.worked.Early.{follow, words, worded, lines}
 use Rattle.pa_rules.proofs.Worked.{class_0}
 
 made : AllByRecursion (IsMade early_read_records two_threads_pool) two_threads_journal
 made = ((_, ((0, lit< tt, refl), refl), (0, 8, refl, class_0)), tt)
 
 pub rooted : AreRoots 1 early_read_records two_threads_pool roots
-rooted = roots_of_one early_read_records two_threads_pool two_threads_journal is_journal made follow refl refl
+rooted = roots_of_one early_read_records two_threads_pool two_threads_journal early_read_trace lines is_journal made follow refl refl
 
 pub pooled : IsPoolOf 1 early_read_records two_threads_pool roots
 pooled = pool_of_one 1 early_read_records two_threads_pool two_threads_journal is_pool follow refl refl refl
@@ -79,7 +79,7 @@ after_1 = with_cache (with_cache (with_cache no_caches 0 kept) 0 kept) 0 kept
 abbrev after_2 : Caches
 after_2 = with_cache (with_cache (with_cache (with_cache (with_cache after_1 1 (no_caches 1)) 1 (no_caches 1)) 1 (no_caches 1)) 0 kept) 0 kept
 
-free_row : DoneRow roots (record { line = 10; thread = 0; phase = 2; op = ops.Free 0; answer = answers.Done (seen_at 16384 0 0x2000003) }) (Some steps.Free) (seen_at 16384 0 0x2000003)
+free_row : DoneRow roots (record of_one { line = 10; thread = 0; phase = 2; op = ops.Free 0; answer = answers.Done (seen_at 16384 0 0x2000003) }) (Some steps.Free) (seen_at 16384 0 0x2000003)
     kept kept
 free_row = inr (λ h. absurd (omega (arith, h.1)), none_on two_threads_journal 10 refl, λ p c. refl)
 

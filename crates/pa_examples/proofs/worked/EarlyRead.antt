@@ -10,14 +10,14 @@ use Rattle.pa_rules.specs.declared.played.Played.{Played}
 use Rattle.pa_rules.specs.Registers.{Regs, Facts, with, no_regs, usable_in, Row, AreRegisters}
 use Rattle.pa_rules.specs.Contents.{HasRegs, IsNextFree, IsBeingFreed, IsReadAllowed, AreContents}
 use Rattle.pa_rules.specs.Sizes.{slot_size_for, usable_of}
-use Rattle.pa_examples.specs.Worked.{seen_at}
+use Rattle.pa_examples.specs.Worked.{seen_at, of_one}
 use Rattle.pa_examples.specs.WorkedEarly.{early_read_records}
 use Rattle.pa_examples.proofs.worked.Lists.{each}
 use Rattle.pa_examples.proofs.worked.OneFill.{the_slot}
 use Rattle.pa_examples.proofs.worked.Early.{cells}
 
 abbrev facts : Facts
-facts = record { usable_of = usable_of; usable_at = usable_in early_read_records; cells = cells }
+facts = record { usable_of = usable_of 1; usable_at = usable_in early_read_records; cells = cells }
 
 -- the registers of the first thread after its lines
 abbrev after_made : Regs
@@ -67,7 +67,7 @@ back = (1, _, refl, refl, refl, λ k. refl)
 freed : Row facts (ops.Free 0) after_back (answers.Done (seen_at 16384 0 0x2000003)) after_free
 freed = (seen_at 16384 0 0x2000003, refl, refl, λ k. refl)
 
-pub registers : AreRegisters usable_of cells early_read_records
+pub registers : AreRegisters (usable_of 1) cells early_read_records
 registers = (
   _,
   (
@@ -103,12 +103,12 @@ registers = (
 
 -- the free, and the read that finds poison before it
 abbrev the_free : Played
-the_free = record { line = 10; thread = 0; phase = 2; op = ops.Free 0; answer = answers.Done (seen_at 16384 0 0x2000003) }
+the_free = record of_one { line = 10; thread = 0; phase = 2; op = ops.Free 0; answer = answers.Done (seen_at 16384 0 0x2000003) }
 
 abbrev the_read : Played
-the_read = record { line = 7; thread = 1; phase = 2; op = ops.Read 0 0; answer = answers.Value (seen_at 16384 0 0x2000003) poison }
+the_read = record of_one { line = 7; thread = 1; phase = 2; op = ops.Read 0 0; answer = answers.Value (seen_at 16384 0 0x2000003) poison }
 
-has_regs : HasRegs usable_of cells early_read_records the_read after_take
+has_regs : HasRegs (usable_of 1) cells early_read_records the_read after_take
 has_regs = (
   take 4 early_read_records,
   drop 5 early_read_records,
@@ -136,11 +136,11 @@ is_next = (2, ((7, lit< tt, refl), seen_at 16384 0 0x2000003, 0, refl, refl, ref
 other_thread : ◌≡◌ {A = ℕ} 0 1 → ⊥
 other_thread e = omega arith
 
-being_freed : IsBeingFreed usable_of cells early_read_records the_read the_slot 2
+being_freed : IsBeingFreed (usable_of 1) cells early_read_records the_read the_slot 2
 being_freed = ((0, 0, after_take, refl, has_regs, refl), the_free, is_next, other_thread, refl)
 
-all_allowed : AllByRecursion (λ x. IsReadAllowed usable_of cells early_read_records x x.answer) early_read_records
+all_allowed : AllByRecursion (λ x. IsReadAllowed (usable_of 1) cells early_read_records x x.answer) early_read_records
 all_allowed = (tt, (tt, (tt, (tt, (inr (refl, being_freed), (tt, (tt, (tt, tt))))))))
 
-pub contents : AreContents usable_of cells early_read_records
-contents = each (λ x. IsReadAllowed usable_of cells early_read_records x x.answer) early_read_records all_allowed
+pub contents : AreContents (usable_of 1) cells early_read_records
+contents = each (λ x. IsReadAllowed (usable_of 1) cells early_read_records x x.answer) early_read_records all_allowed

@@ -7,6 +7,7 @@ use Rattle.pa_slot.specs.declared.word.Step.{Step}
 use Rattle.pa_slot.specs.Count.{held_of, refs_of}
 use Rattle.pa_slot.specs.Run.{Mark}
 use Rattle.pa_trace.specs.declared.script.Trace.{Trace}
+use Rattle.pa_trace.specs.Rules.{rules_of}
 use Rattle.pa_record.specs.declared.run.Run.{Run}
 use Rattle.pa_rules.specs.declared.played.Played.{Played}
 use Rattle.pa_rules.specs.Played.{AreLines, entry_of, mark_of, played}
@@ -39,9 +40,10 @@ in_use x fits m mark none =
 pub all_used : (ps : List Played) → list_all (λ (x : Played). uses (mark_of x)) ps ≡ true → (x : Played) → Contains ps x → FindsInUse x
 all_used ps fit x among = in_use x (passes (λ (y : Played). uses (mark_of y)) ps x fit among)
 
-pub known_of : (t : Trace) (r : Run) (ps : List Played) → AreLines t.lines ps → map entry_of ps ≡ r.entries.items → IsLegal t r → ((x : Played) → Contains ps x → FindsInUse x) → IsKnown t (told_by r) (records_of t (told_by r))
+pub known_of : (t : Trace) (r : Run) (ps : List Played) → AreLines (rules_of t) t.lines ps → map entry_of ps ≡ r.entries.items
+    → IsLegal t r → ((x : Played) → Contains ps x → FindsInUse x) → IsKnown t (told_by r) (records_of t (told_by r))
 known_of t r ps lines told legal used =
-    let same : records_of t (told_by r) ≡ ps = ap (played t.lines) (sym told) ∙ records_are_lines.same t.lines ps lines in
+    let same : records_of t (told_by r) ≡ ps = ap (played (rules_of t) t.lines) (sym told) ∙ records_are_lines.same (rules_of t) t.lines ps lines in
     legal_is_known t (told_by r) legal (λ x among. used x (subst (λ zs. Contains zs x) same among))
 
 pub direct_map_is_known : DirectMapIsKnown

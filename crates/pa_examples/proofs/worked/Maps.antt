@@ -3,6 +3,7 @@ use Rattle.std.proofs.Common.{◌≡◌, ℕ, true, List, [], ◌∷◌, refl, r
 use Rattle.pa_slot.specs.declared.word.SlotName.{SlotName}
 use Rattle.pa_slot.specs.Run.{Slots}
 use Rattle.pa_buckets.specs.Table.{rows}
+use Rattle.pa_trace.specs.Rules.{rules_of}
 use Rattle.pa_rules.specs.declared.register.Register.TheVariants.{Own, Ref, Freed, Cleared}
 use Rattle.pa_rules.specs.Played.{marks_of, AreLines}
 use Rattle.pa_rules.specs.Cells.{AreCells}
@@ -19,7 +20,7 @@ use Rattle.pa_examples.proofs.worked.Alone.{no_cells, no_cell_used, seen_by_line
 abbrev pub slot_by : ℕ → SlotName
 slot_by born = record { start = 16384; born = born }
 
-pub lines : AreLines direct_map_trace.lines direct_map_records
+pub lines : AreLines (rules_of direct_map_trace) direct_map_trace.lines direct_map_records
 lines = refl
 
 pub cells : AreCells no_cells direct_map_records
@@ -47,11 +48,11 @@ after_reset = with after_second_free 1 Cleared
 abbrev after_third : Regs
 after_third = with after_reset 2 (Own (slot_by 5))
 
-large : usable_of 2000000 ≡ 2002936
+large : usable_of 1 2000000 ≡ 2002936
 unfolding slot_size_for rows
 large = refl
 
-pub registers : AreRegisters usable_of no_cells direct_map_records
+pub registers : AreRegisters (usable_of 1) no_cells direct_map_records
 unfolding slot_size_for rows
 registers = (
   _,
@@ -101,8 +102,8 @@ pub slots : Slots (marks_of direct_map_records)
 slots = worded_slots (marks_of direct_map_records) words worded
 
 -- nothing was read
-pub contents : AreContents usable_of no_cells direct_map_records
-contents = each (λ x. IsReadAllowed usable_of no_cells direct_map_records x x.answer) direct_map_records (search rules)
+pub contents : AreContents (usable_of 1) no_cells direct_map_records
+contents = each (λ x. IsReadAllowed (usable_of 1) no_cells direct_map_records x x.answer) direct_map_records (search rules)
 
 pub seen : IsSeenInOrder no_cells direct_map_records
 seen = seen_by_line direct_map_records refl

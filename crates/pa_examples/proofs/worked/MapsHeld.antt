@@ -74,13 +74,13 @@ second_map = (_, 2, 2002944, (2, lit< tt, refl), refl)
 pub cached_to : CachesTo 1 roots no_caches direct_map_records at_end
 cached_to = (
   no_caches 0,
-  inr (0, 2000000, 0, 2002944, direct 0, (refl, no_other direct_map_again_journal 2), λ p c. refl),
+  inr (0, 2000000, 0, 2002944, (0, refl, direct), (refl, no_other direct_map_again_journal 2), λ p c. refl),
   (
     no_caches 0,
     inl ((refl, refl), inr (0, 1, 2, first_map, (refl, no_other direct_map_again_journal 3), λ p c. refl)),
     (
       no_caches 0,
-      inr (0, 2000000, 2, 2002944, direct 0, (refl, no_other direct_map_again_journal 4), λ p c. refl),
+      inr (0, 2000000, 2, 2002944, (0, refl, direct), (refl, no_other direct_map_again_journal 4), λ p c. refl),
       (
         no_caches 0,
         inr (λ h. h, none_on direct_map_again_journal 5 refl, λ p c. refl),
@@ -89,11 +89,11 @@ cached_to = (
           inr (λ h. absurd (omega (arith, h.1)), none_on direct_map_again_journal 6 refl, λ p c. refl),
           (
             no_caches 0,
-            inr (0, 2000000, 3, direct 2, (refl, no_other direct_map_again_journal 7), λ p c. refl),
+            inr (0, 2000000, 3, (2, refl, direct), (refl, no_other direct_map_again_journal 7), λ p c. refl),
             (
               no_caches 0,
               inl ((refl, refl), inr (0, 4, 4, second_map, (refl, no_other direct_map_again_journal 8), λ p c. refl)),
-              (no_caches 0, inr (0, 2000000, 5, 2002944, direct 2, (refl, no_other direct_map_again_journal 9), λ p c. refl), refl),
+              (no_caches 0, inr (0, 2000000, 5, 2002944, (2, refl, direct), (refl, no_other direct_map_again_journal 9), λ p c. refl), refl),
             ),
           ),
         ),

@@ -15,7 +15,7 @@ use Rattle.pa_record.proofs.Tested.{all_fit, all_fit-true, pool_all_fit-true, ri
 use Rattle.pa_rules.specs.Roots.{Journals, journal_at}
 use Rattle.pa_rules.specs.Caches.{Cache, with_list, no_caches, IsOfClass, MadeRow}
 use Rattle.pa_rules.specs.Report.{HasSize}
-use Rattle.pa_examples.specs.Worked.{seen_at, two_threads_journal, two_threads_pool, two_threads_census}
+use Rattle.pa_examples.specs.Worked.{seen_at, two_threads_journal, two_threads_pool, two_threads_census, of_one}
 use Rattle.pa_examples.proofs.worked.OneJournal.{no_other}
 use Rattle.pa_rules.proofs.Worked.{class_0}
 
@@ -45,7 +45,7 @@ rest = slots 0 0 (16400 ∷ 16416 ∷ 16432 ∷ 16448 ∷ 16464 ∷ 16480 ∷ 16
 abbrev pub kept : Cache
 kept = with_list (no_caches 0) 0 0 rest
 
-pub made_row : MadeRow roots (record { line = 2; thread = 0; phase = 1; op = ops.Alloc 0 0 8; answer = answers.Made (seen_at 16384 0 0) 8 }) (seen_at 16384 0 0) (no_caches 0) kept
+pub made_row : MadeRow roots (record of_one { line = 2; thread = 0; phase = 1; op = ops.Alloc 0 0 8; answer = answers.Made (seen_at 16384 0 0) 8 }) (seen_at 16384 0 0) (no_caches 0) kept
 made_row = inl (0, 0, filled, rest, (0, 8, refl, class_0), (Some 0, (refl, no_other two_threads_journal 2)), refl, λ p c. refl)
 
 pub of_class : IsOfClass roots the_slot 0 0

@@ -5,6 +5,10 @@ use Rattle.std.specs.List.{AllByRecursion, list_all}
 use Rattle.std.proofs.lemmas.Bool.{not-true, both_ways}
 use Rattle.std.proofs.lemmas.List.Elements.{All-from_recursion}
 use Rattle.pa_trace.specs.declared.script.Op.TheVariants as ops
+use Rattle.pa_trace.specs.Rules.{rules_of}
+use Rattle.pa_trace.specs.declared.script.Trace.{Trace}
+use Rattle.pa_rules.proofs.Ruling.{one_rules, record_rules}
+use Rattle.pa_rules.specs.Played.{AreLines}
 use Rattle.pa_record.specs.declared.entry.Answer.{Answer}
 use Rattle.pa_record.specs.declared.entry.Answer.TheVariants as answers
 use Rattle.pa_record.specs.declared.pool.PoolEntry.{PoolEntry}
@@ -26,7 +30,7 @@ use Rattle.pa_lists.proofs.Elements.{passes}
 
 -- the entry is made by the op of its line
 abbrev pub IsMade : List Played → List PoolEntry → RootEntry → Type 0
-IsMade ps pools e = (x : Played) × IsOfLine ps e.line x × MakesEntry pools 0 e.act x.op
+IsMade ps pools e = (x : Played) × IsOfLine ps e.line x × MakesEntry pools 0 e.act x
 
 -- if the record's request was refused, the journal has the entry for that
 abbrev pub IsRefused : List RootEntry → Played → Type 0
@@ -52,7 +56,7 @@ module _ (ps : List Played) (pools : List PoolEntry) (journal : List RootEntry) 
   is_journal h (suc p) = record { replays = tt; rise = tt }
 
   lines_are_made : AllByRecursion (IsMade ps pools) journal → (p j : ℕ) (e : RootEntry) → IsEntry (journal_at (journal ∷ [])) p j e →
-      (x : Played) × IsOfLine ps e.line x × MakesEntry pools p e.act x.op
+      (x : Played) × IsOfLine ps e.line x × MakesEntry pools p e.act x
   lines_are_made made zero j e at = each (IsMade ps pools) journal made e (at_in journal j e at)
   lines_are_made made (suc p) j e at = absurd (not_some e at)
 
@@ -60,11 +64,12 @@ module _ (ps : List Played) (pools : List PoolEntry) (journal : List RootEntry) 
   none_past zero past = absurd (omega arith)
   none_past (suc p) past = refl
 
-  -- the roots, from what each refusal needs
-  pub roots_by : IsJournal pools journal → AllByRecursion (IsMade ps pools) journal → lines_follow ps ≡ true →
+  -- the roots of a trace's records, from what each refusal needs
+  pub roots_by : (t : Trace) → AreLines (rules_of t) t.lines ps → IsJournal pools journal → AllByRecursion (IsMade ps pools) journal → lines_follow ps ≡ true →
       all_pairs (λ (x : RootEntry) (y : RootEntry). leb (entry_line x) (entry_line y)) journal ≡ true → ((x : Played) → Contains ps x → IsRefused journal x) →
       AreRoots 1 ps pools (journal_at (journal ∷ []))
-  roots_by h made follow rise refused = record {
+  roots_by t are h made follow rise refused = record {
+    one = one_rules (rules_of t) ps (λ x among. record_rules (rules_of t) t.lines ps x are among);
     journals = is_journal h;
     lines = lines_are_made made;
     order = journal_in_order ps follow journal rise;
@@ -76,10 +81,10 @@ module _ (ps : List Played) (pools : List PoolEntry) (journal : List RootEntry) 
   not_full h x j among is = both_ways _ (not-true _ (passes (λ (y : Played). not (is_full y.answer)) ps x h among)) (subst (λ a. is_full a ≡ true) (sym is) refl)
 
   -- if no request was refused
-  pub roots_of_one : IsJournal pools journal → AllByRecursion (IsMade ps pools) journal → lines_follow ps ≡ true →
+  pub roots_of_one : (t : Trace) → AreLines (rules_of t) t.lines ps → IsJournal pools journal → AllByRecursion (IsMade ps pools) journal → lines_follow ps ≡ true →
       all_pairs (λ (x : RootEntry) (y : RootEntry). leb (entry_line x) (entry_line y)) journal ≡ true → list_all (λ (x : Played). not (is_full x.answer)) ps ≡ true →
       AreRoots 1 ps pools (journal_at (journal ∷ []))
-  roots_of_one h made follow rise none_full = roots_by h made follow rise (λ x among j reg p size full op. absurd (not_full none_full x j among full))
+  roots_of_one t are h made follow rise none_full = roots_by t are h made follow rise (λ x among j reg p size full op. absurd (not_full none_full x j among full))
 
   -- if all its entries are of the phases up to one, the root has at its end what they replay to
   pub census_of_one : (phase : ℕ) (c : Census) → AllByRecursion (InPhases ps phase) journal → journal ≡ journal ++ [] → census (root_replayed pools journal new_root) ≡ c →

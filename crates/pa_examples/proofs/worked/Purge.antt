@@ -8,6 +8,7 @@ use Rattle.pa_slot.specs.Run.{Slots, IsLive, IsQuarantined}
 use Rattle.pa_buckets.specs.Table.{rows, row_of, slot_of}
 use Rattle.pa_buckets.specs.Bands.{limit_of}
 use Rattle.pa_trace.specs.declared.script.Op.TheVariants as ops
+use Rattle.pa_trace.specs.Rules.{rules_of}
 use Rattle.pa_record.specs.declared.entry.Answer.TheVariants as answers
 use Rattle.pa_record.specs.declared.numbered.Numbered.{Numbered}
 use Rattle.pa_record.specs.declared.pool.PoolEntry.{PoolEntry}
@@ -48,7 +49,7 @@ use Rattle.pa_rules.proofs.Worked.{class_0}
 abbrev roots : Journals
 roots = journal_at (purge_journal ∷ [])
 
-pub lines : AreLines purge_trace.lines purge_records
+pub lines : AreLines (rules_of purge_trace) purge_trace.lines purge_records
 lines = refl
 
 pub cells : AreCells no_cells purge_records
@@ -64,7 +65,7 @@ after_free = with after_made 0 Freed
 abbrev after_again : Regs
 after_again = with after_free 1 (Own the_slot)
 
-pub registers : AreRegisters usable_of no_cells purge_records
+pub registers : AreRegisters (usable_of 1) no_cells purge_records
 unfolding slot_size_for rows
 registers = (
   _,
@@ -94,8 +95,8 @@ pub slots_in_order : Slots (marks_of purge_records)
 slots_in_order = worded_slots (marks_of purge_records) words worded
 
 -- nothing was read
-pub contents : AreContents usable_of no_cells purge_records
-contents = each (λ x. IsReadAllowed usable_of no_cells purge_records x x.answer) purge_records (search rules)
+pub contents : AreContents (usable_of 1) no_cells purge_records
+contents = each (λ x. IsReadAllowed (usable_of 1) no_cells purge_records x x.answer) purge_records (search rules)
 
 pub seen : IsSeenInOrder no_cells purge_records
 seen = seen_by_line purge_records refl
@@ -116,7 +117,7 @@ made = (
 )
 
 pub rooted : AreRoots 1 purge_records purge_pool roots
-rooted = roots_of_one purge_records purge_pool purge_journal purge.is_journal made follow refl refl
+rooted = roots_of_one purge_records purge_pool purge_journal purge_trace lines purge.is_journal made follow refl refl
 
 -- the first entry of the journal names that of the pool, and no other does
 first_names : (i j : ℕ) (e : RootEntry) → slice_get purge_journal i ≡ Some e → asked_by e.act ≡ Some j → i ≡ 0

@@ -93,7 +93,8 @@ abbrev pub is_run : List Mark → SlotName → ℕ → List ℕ → Bool
 is_run ms s u [] = list_all (λ (m : Mark). not (steps_at s u m)) ms
 is_run ms s u (v ∷ vs) = goes (find (is_first ms s u) ms) u v && is_run ms s v vs
 
-one_step : (ms : List Mark) (s : SlotName) (u v : ℕ) (o : Option Mark) → find (is_first ms s u) ms ≡ o → goes o u v ≡ true → (m : Mark) × (p : Step) × IsFirstAt ms s u m p × CanStep p u × (v ≡ stepped p u)
+one_step : (ms : List Mark) (s : SlotName) (u v : ℕ) (o : Option Mark) → find (is_first ms s u) ms ≡ o → goes o u v ≡ true
+    → (m : Mark) × (p : Step) × IsFirstAt ms s u m p × CanStep p u × (v ≡ stepped p u)
 one_step ms s u v None e h = absurd (false≢true h)
 one_step ms s u v (Some m) e h =
     let (among, first) = find_is (is_first ms s u) ms m e in

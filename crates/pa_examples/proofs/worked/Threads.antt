@@ -4,6 +4,7 @@ use Rattle.std.specs.Prelude.{slice_get}
 use Rattle.std.specs.List.{AllByRecursion}
 use Rattle.pa_slot.specs.Run.{Slots}
 use Rattle.pa_trace.specs.declared.script.Op.TheVariants as ops
+use Rattle.pa_trace.specs.Rules.{rules_of}
 use Rattle.pa_record.specs.declared.entry.Answer.TheVariants as answers
 use Rattle.pa_record.specs.declared.history.CellEntry.{CellEntry}
 use Rattle.pa_record.specs.declared.history.Held.TheVariants as held
@@ -13,7 +14,7 @@ use Rattle.pa_rules.specs.Played.{marks_of, AreLines}
 use Rattle.pa_rules.specs.Cells.{AreCells, IsExchange, IsChain, history_at}
 use Rattle.pa_rules.specs.Order.{IsOfLine}
 use Rattle.pa_rules.specs.Seen.{IsSeenInOrder}
-use Rattle.pa_examples.specs.Worked.{two_threads_trace, two_threads_records, two_threads_history}
+use Rattle.pa_examples.specs.Worked.{two_threads_trace, two_threads_records, two_threads_history, of_one}
 use Rattle.pa_one_run.specs.Parts.{cell_line}
 use Rattle.pa_examples.proofs.worked.Lists.{each, rises, one_place, lines_follow, in_order}
 use Rattle.pa_examples.proofs.worked.OneFill.{the_slot}
@@ -24,7 +25,7 @@ use Rattle.pa_lists.proofs.Indexed.{at_in}
 abbrev pub cells : ℕ → List CellEntry
 cells = history_at (two_threads_history ∷ [])
 
-pub lines : AreLines two_threads_trace.lines two_threads_records
+pub lines : AreLines (rules_of two_threads_trace) two_threads_trace.lines two_threads_records
 lines = refl
 
 pub follow : lines_follow two_threads_records ≡ true
@@ -67,11 +68,11 @@ all_answered = (
   (
     λ k reg e. absurd cc,
     (
-      answered (record { line = 4; thread = 0; phase = 1; op = ops.Swap 0 1; answer = answers.Swapped 0 }) 1 (0, _, refl, refl, refl) refl,
+      answered (record of_one { line = 4; thread = 0; phase = 1; op = ops.Swap 0 1; answer = answers.Swapped 0 }) 1 (0, _, refl, refl, refl) refl,
       (
         λ k reg e. absurd cc,
         (
-          answered (record { line = 7; thread = 1; phase = 2; op = ops.Swap 0 0; answer = answers.Swapped 1 }) 0 (1, _, refl, refl, refl) refl,
+          answered (record of_one { line = 7; thread = 1; phase = 2; op = ops.Swap 0 0; answer = answers.Swapped 1 }) 0 (1, _, refl, refl, refl) refl,
           (
             λ k reg e. absurd cc,
             (

@@ -11,20 +11,20 @@ use Rattle.pa_rules.specs.Holders.{InRoot, AreHolders}
 use Rattle.pa_rules.specs.Caches.{Cache, Caches, with_list, with_cache, no_caches, DoneRow, CachesTo, AreCaches}
 use Rattle.pa_rules.specs.Report.{until}
 use Rattle.pa_rules.proofs.Following.{titles_follow}
-use Rattle.pa_examples.specs.Worked.{seen_at, two_threads_records, two_threads_journal, two_threads_pool}
+use Rattle.pa_examples.specs.Worked.{seen_at, two_threads_records, two_threads_journal, two_threads_pool, of_one, two_threads_trace}
 use Rattle.pa_examples.proofs.worked.Pool.{pool_of_one}
 use Rattle.pa_examples.proofs.worked.Holders.{HasIt, IsIssued, issued, no_moves}
 use Rattle.pa_examples.proofs.worked.Moves.{holders_of_one}
 use Rattle.pa_examples.proofs.worked.OneJournal.{IsMade, no_other, none_on, roots_of_one}
 use Rattle.pa_examples.proofs.worked.OneFill.{roots, the_slot, is_pool, is_journal, kept, made_row, of_class}
-use Rattle.pa_examples.proofs.worked.Threads.{follow}
+use Rattle.pa_examples.proofs.worked.Threads.{follow, lines}
 use Rattle.pa_rules.proofs.Worked.{class_0}
 
 made : AllByRecursion (IsMade two_threads_records two_threads_pool) two_threads_journal
 made = ((_, ((0, lit< tt, refl), refl), (0, 8, refl, class_0)), tt)
 
 pub rooted : AreRoots 1 two_threads_records two_threads_pool roots
-rooted = roots_of_one two_threads_records two_threads_pool two_threads_journal is_journal made follow refl refl
+rooted = roots_of_one two_threads_records two_threads_pool two_threads_journal two_threads_trace lines is_journal made follow refl refl
 
 pub pooled : IsPoolOf 1 two_threads_records two_threads_pool roots
 pooled = pool_of_one 1 two_threads_records two_threads_pool two_threads_journal is_pool follow refl refl refl
@@ -76,11 +76,11 @@ after_2 = with_cache (with_cache (with_cache after_1 0 kept) 1 (no_caches 1)) 1 
 abbrev pub after_3 : Caches
 after_3 = with_cache (with_cache after_2 1 (no_caches 1)) 1 second_cache
 
-free_row : DoneRow roots (record { line = 6; thread = 0; phase = 2; op = ops.Free 0; answer = answers.Done (seen_at 16384 0 0x2000003) }) (Some steps.Free) (seen_at 16384 0 0x2000003)
+free_row : DoneRow roots (record of_one { line = 6; thread = 0; phase = 2; op = ops.Free 0; answer = answers.Done (seen_at 16384 0 0x2000003) }) (Some steps.Free) (seen_at 16384 0 0x2000003)
     kept kept
 free_row = inr (λ h. absurd (omega (arith, h.1)), none_on two_threads_journal 6 refl, λ p c. refl)
 
-reset_row : DoneRow roots (record { line = 11; thread = 1; phase = 3; op = ops.Reset 0; answer = answers.Done (seen_at 16384 0 0x3000002) }) (Some steps.Reset) (seen_at 16384 0 0x3000002)
+reset_row : DoneRow roots (record of_one { line = 11; thread = 1; phase = 3; op = ops.Reset 0; answer = answers.Done (seen_at 16384 0 0x3000002) }) (Some steps.Reset) (seen_at 16384 0 0x3000002)
     (no_caches 1) second_cache
 unfolding rows row_of limit_of
 reset_row = inl ((refl, refl), inl (0, 0, of_class, (refl, no_other two_threads_journal 11), λ p c. refl))

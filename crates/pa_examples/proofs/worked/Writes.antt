@@ -4,6 +4,7 @@ use Rattle.std.specs.List.{AllByRecursion}
 use Rattle.pa_slot.specs.Run.{Slots}
 use Rattle.pa_buckets.specs.Table.{rows}
 use Rattle.pa_trace.specs.declared.script.Op.TheVariants as ops
+use Rattle.pa_trace.specs.Rules.{rules_of}
 use Rattle.pa_record.specs.declared.entry.Answer.TheVariants as answers
 use Rattle.pa_rules.specs.declared.register.Register.TheVariants.{Own, Ref, Cleared}
 use Rattle.pa_rules.specs.Played.{marks_of, AreLines}
@@ -20,14 +21,14 @@ use Rattle.pa_examples.proofs.worked.Slots.{Worded, are_worded, worded_slots}
 use Rattle.pa_examples.proofs.worked.Alone.{no_cells, no_cell_used, seen_by_line}
 use Rattle.pa_examples.proofs.worked.Contents.{content_of}
 
-pub lines : AreLines writes_trace.lines writes_records
+pub lines : AreLines (rules_of writes_trace) writes_trace.lines writes_records
 lines = refl
 
 pub cells : AreCells no_cells writes_records
 cells = no_cell_used writes_records refl
 
 abbrev facts : Facts
-facts = record { usable_of = usable_of; usable_at = usable_in writes_records; cells = no_cells }
+facts = record { usable_of = usable_of 1; usable_at = usable_in writes_records; cells = no_cells }
 
 -- the registers after the lines that change them
 abbrev after_made : Regs
@@ -64,7 +65,7 @@ written_again = (seen_at 16384 0 0x4000001, refl, λ k. refl, inr (refl, refl))
 read_outside : Row facts (ops.Read 0 1) after_reset answers.OutOfRange after_reset
 read_outside = (λ k. refl, inl (lit≤ tt, refl))
 
-pub registers : AreRegisters usable_of no_cells writes_records
+pub registers : AreRegisters (usable_of 1) no_cells writes_records
 registers = (
   _,
   (
@@ -115,11 +116,11 @@ first_write = (_, seen_at 16384 0 0x1000001, 0, (1, lit< tt, refl), refl, refl, 
 content : IsContent writes_records the_slot 3 5
 content = content_of writes_records the_slot 1 3 refl 5 first_write (lit< tt)
 
-all_allowed : AllByRecursion (λ x. IsReadAllowed usable_of no_cells writes_records x x.answer) writes_records
+all_allowed : AllByRecursion (λ x. IsReadAllowed (usable_of 1) no_cells writes_records x x.answer) writes_records
 all_allowed = (tt, (tt, (tt, (tt, (inl content, (tt, (tt, (tt, tt))))))))
 
-pub contents : AreContents usable_of no_cells writes_records
-contents = each (λ x. IsReadAllowed usable_of no_cells writes_records x x.answer) writes_records all_allowed
+pub contents : AreContents (usable_of 1) no_cells writes_records
+contents = each (λ x. IsReadAllowed (usable_of 1) no_cells writes_records x x.answer) writes_records all_allowed
 
 pub seen : IsSeenInOrder no_cells writes_records
 seen = seen_by_line writes_records refl

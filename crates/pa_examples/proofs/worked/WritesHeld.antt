@@ -16,22 +16,22 @@ use Rattle.pa_rules.specs.Report.{IsTally, IsReportLine, IsReport, listed_bytes}
 use Rattle.pa_rules.proofs.Following.{titles_follow}
 use Rattle.pa_rules.proofs.Running.{OtherLine}
 use Rattle.pa_legal.proofs.tallies.Levels.{is_live, live_is, is_live_of, is_quarantined, quarantined_is, is_quarantined_of}
-use Rattle.pa_examples.specs.Worked.{seen_at, tally}
-use Rattle.pa_examples.specs.WorkedWrites.{writes_records, writes_journal, writes_pool, writes_report}
+use Rattle.pa_examples.specs.Worked.{seen_at, tally, of_one}
+use Rattle.pa_examples.specs.WorkedWrites.{writes_records, writes_journal, writes_pool, writes_report, writes_trace}
 use Rattle.pa_examples.proofs.worked.Holders.{HasIt, IsIssued, issued, no_moves}
 use Rattle.pa_examples.proofs.worked.Moves.{holders_of_one}
 use Rattle.pa_examples.proofs.worked.Pool.{pool_of_one}
 use Rattle.pa_examples.proofs.worked.OneJournal.{IsMade, none_on, roots_of_one, census_of_one}
 use Rattle.pa_examples.proofs.worked.OneFill.{roots, is_pool, is_journal, kept, made_row, has_size, counted}
 use Rattle.pa_examples.proofs.worked.Report.{other_lines, slots_of_kind}
-use Rattle.pa_examples.proofs.worked.Writes.{words, worded, follow}
+use Rattle.pa_examples.proofs.worked.Writes.{words, worded, follow, lines}
 use Rattle.pa_rules.proofs.Worked.{class_0}
 
 made : AllByRecursion (IsMade writes_records writes_pool) writes_journal
 made = ((_, ((0, lit< tt, refl), refl), (0, 8, refl, class_0)), tt)
 
 pub rooted : AreRoots 1 writes_records writes_pool roots
-rooted = roots_of_one writes_records writes_pool writes_journal is_journal made follow refl refl
+rooted = roots_of_one writes_records writes_pool writes_journal writes_trace lines is_journal made follow refl refl
 
 pub pooled : IsPoolOf 1 writes_records writes_pool roots
 pooled = pool_of_one 1 writes_records writes_pool writes_journal is_pool follow refl refl refl
@@ -77,7 +77,7 @@ abbrev at_end : Caches
 at_end = again (again (again (again (again (again (again (again no_caches)))))))
 
 -- a raw_ptr is reset, and its slot stays held
-reset_row : DoneRow roots (record { line = 7; thread = 0; phase = 1; op = ops.Reset 1; answer = answers.Done (seen_at 16384 0 0x3000003) }) (Some steps.Reset) (seen_at 16384 0 0x3000003) kept kept
+reset_row : DoneRow roots (record of_one { line = 7; thread = 0; phase = 1; op = ops.Reset 1; answer = answers.Done (seen_at 16384 0 0x3000003) }) (Some steps.Reset) (seen_at 16384 0 0x3000003) kept kept
 reset_row = inr (λ h. absurd (omega (arith, h.0)), none_on writes_journal 7 refl, λ p c. refl)
 
 cached_to : CachesTo 1 roots no_caches writes_records at_end

@@ -17,20 +17,20 @@ use Rattle.pa_rules.specs.Caches.{Cache, Caches, CacheRow, CachesTo, acts_of, no
 use Rattle.pa_rules.specs.Verdicts.{Demand}
 use Rattle.pa_examples.specs.WrongRuns.{maps_trace, maps_told, MapsFail}
 use Rattle.pa_lists.proofs.Indexed.{shown}
-use Rattle.pa_examples.specs.Worked.{seen_at}
+use Rattle.pa_examples.specs.Worked.{seen_at, of_one}
 
 -- ---- the direct map that is said to come again
 
 abbrev map_record : Played
-map_record = record { line = 2; thread = 0; phase = 1; op = ops.Alloc 0 0 2000000; answer = answers.Made (seen_at 16384 0 0) 2002936 }
+map_record = record of_one { line = 2; thread = 0; phase = 1; op = ops.Alloc 0 0 2000000; answer = answers.Made (seen_at 16384 0 0) 2002936 }
 
 abbrev free_record : Played
-free_record = record { line = 3; thread = 0; phase = 1; op = ops.Free 0; answer = answers.Done (seen_at 16384 0 0x1000001) }
+free_record = record of_one { line = 3; thread = 0; phase = 1; op = ops.Free 0; answer = answers.Done (seen_at 16384 0 0x1000001) }
 
 abbrev again_record : Played
-again_record = record { line = 4; thread = 0; phase = 1; op = ops.Alloc 0 0 2000000; answer = answers.Made (seen_at 16384 0 0x2000000) 2002936 }
+again_record = record of_one { line = 4; thread = 0; phase = 1; op = ops.Alloc 0 0 2000000; answer = answers.Made (seen_at 16384 0 0x2000000) 2002936 }
 
-direct : AsksForMap (ops.Alloc 0 0 2000000) 0 2000000
+direct : AsksForMap map_record 0 2000000
 direct = (0, refl, (lit< tt, lit≤ tt))
 
 no_other : (line q : ℕ) → (q ≡ 0 → ⊥) → acts_of maps_told.roots line q ≡ []

@@ -7,6 +7,7 @@ use Rattle.pa_slot.specs.Run.{Slots}
 use Rattle.pa_slot.specs.declared.word.SlotName.{SlotName}
 use Rattle.pa_direct.specs.Shapes.{IsDirectSize}
 use Rattle.pa_trace.specs.declared.script.Op.TheVariants as ops
+use Rattle.pa_trace.specs.Rules.{rules_of, first_rules}
 use Rattle.pa_record.specs.declared.entry.Seen.{Seen}
 use Rattle.pa_record.specs.declared.entry.Answer.TheVariants as answers
 use Rattle.pa_record.specs.declared.numbered.Numbered.{Numbered}
@@ -45,10 +46,10 @@ abbrev roots : Journals
 roots = astray_told.roots
 
 abbrev first_record : Played
-first_record = record { line = 2; thread = 0; phase = 1; op = ops.Alloc 0 0 8; answer = answers.Made (seen_at 16384 0 0) 8 }
+first_record = record { line = 2; thread = 0; phase = 1; rules = first_rules 2; op = ops.Alloc 0 0 8; answer = answers.Made (seen_at 16384 0 0) 8 }
 
 abbrev second_record : Played
-second_record = record { line = 3; thread = 0; phase = 1; op = ops.Alloc 1 1 8; answer = answers.Made (seen_at 16400 0 0) 8 }
+second_record = record { line = 3; thread = 0; phase = 1; rules = first_rules 2; op = ops.Alloc 1 1 8; answer = answers.Made (seen_at 16400 0 0) 8 }
 
 -- ---- caches
 
@@ -113,8 +114,8 @@ caches_met r (places.Report i) less = tt
 
 -- ---- holders
 
-due : AreDue astray_trace.lines astray_told.entries
-due = records_are_lines.due astray_trace.lines ps refl
+due : AreDue (rules_of astray_trace) astray_trace.lines astray_told.entries
+due = records_are_lines.due (rules_of astray_trace) astray_trace.lines ps refl
 
 -- the words of the two slots
 abbrev words : List Worded

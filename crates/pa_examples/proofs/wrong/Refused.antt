@@ -25,7 +25,7 @@ use Rattle.pa_rules.specs.Verdicts.{Demand}
 use Rattle.pa_verdict.specs.Clauses.{IsMet}
 use Rattle.pa_examples.specs.WrongRuns.{first_slots, refused_trace, refused_told, RefusedFails}
 use Rattle.pa_lists.proofs.Indexed.{shown}
-use Rattle.pa_examples.specs.Worked.{seen_at}
+use Rattle.pa_examples.specs.Worked.{seen_at, of_one}
 use Rattle.pa_lists.proofs.Tests.{greater_apart}
 
 abbrev ps : List Played
@@ -98,8 +98,8 @@ abbrev NotFull : Played → Type 0
 NotFull x = (j : ℕ) → x.answer ≡ answers.Full j → ⊥
 
 not_full : (i : ℕ) (x : Played) → slice_get ps i ≡ Some x → NotFull x
-not_full zero x at = shown NotFull (record { line = 2; thread = 0; phase = 1; op = ops.Alloc 0 0 1; answer = answers.Made (seen_at 16384 0 0) 8 }) x (λ j e. absurd cc) at
-not_full (suc zero) x at = shown NotFull (record { line = 3; thread = 0; phase = 1; op = ops.Free 0; answer = answers.Done (seen_at 16384 0 0x1000001) }) x (λ j e. absurd cc) at
+not_full zero x at = shown NotFull (record of_one { line = 2; thread = 0; phase = 1; op = ops.Alloc 0 0 1; answer = answers.Made (seen_at 16384 0 0) 8 }) x (λ j e. absurd cc) at
+not_full (suc zero) x at = shown NotFull (record of_one { line = 3; thread = 0; phase = 1; op = ops.Free 0; answer = answers.Done (seen_at 16384 0 0x1000001) }) x (λ j e. absurd cc) at
 not_full (suc (suc i)) x at = absurd (not_some x at)
 
 roots_met : (r : Run) (other : Place) → told_by r ≡ refused_told → line_at r other < 5 → Demand clauses.Roots refused_trace refused_told other

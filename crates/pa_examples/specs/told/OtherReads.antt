@@ -9,7 +9,7 @@ use Rattle.pa_trace.specs.declared.script.Op.TheVariants as ops
 use Rattle.pa_record.specs.declared.entry.Answer.{Answer}
 use Rattle.pa_record.specs.declared.entry.Answer.TheVariants as answers
 use Rattle.pa_rules.specs.Cells.{history_at}
-use Rattle.pa_examples.specs.Worked.{seen_at, two_threads_history}
+use Rattle.pa_examples.specs.Worked.{seen_at, two_threads_history, of_one}
 use Rattle.pa_logs.specs.Told.{ToldRecord}
 use Rattle.pa_logs.specs.Touches.{AreTold}
 use Rattle.pa_logs.specs.Reads.{KnowsAll, HaveEnds}
@@ -21,7 +21,7 @@ use Rattle.pa_examples.specs.told.Worked.{Worked, told_records}
 -- the read with this answer and log segment, after which its seat has seen this number
 abbrev pub read_with : Answer → List Entry → ℕ → Worked
 read_with answer stretch after = record {
-  played = record { line = 8; thread = 1; phase = 2; op = ops.Read 0 0; answer = answer };
+  played = record of_one { line = 8; thread = 1; phase = 2; op = ops.Read 0 0; answer = answer };
   stretch = stretch;
   saw = seen_number 2;
   gives = seen_number after;

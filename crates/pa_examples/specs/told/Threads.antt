@@ -18,7 +18,7 @@ use Rattle.pa_record.specs.Numbers.{root_numbers, pool_numbers, cell_numbers}
 use Rattle.pa_record.specs.Worked.{slots, fill, pool_take}
 use Rattle.pa_rules.specs.Played.{entry_of}
 use Rattle.pa_rules.specs.Told.{told_by}
-use Rattle.pa_examples.specs.Worked.{IsRunOf, seen_at, two_threads_trace, two_threads_records, two_threads_journal, two_threads_pool, two_threads_history, two_threads_report}
+use Rattle.pa_examples.specs.Worked.{IsRunOf, seen_at, two_threads_trace, two_threads_records, two_threads_journal, two_threads_pool, two_threads_history, two_threads_report, of_one}
 use Rattle.pa_logs.specs.Told.{ToldRecord}
 use Rattle.pa_logs.specs.Whole.{IsPlayedOut}
 use Rattle.pa_logs.specs.Worked.{sixteen, its_title, view_of}
@@ -63,7 +63,7 @@ read_poison word = Looked its_title word ∷ Read its_title 0 poison no_deeds fa
 -- the read while the other thread frees the slot
 abbrev pub the_read : Worked
 the_read = record {
-  played = record { line = 8; thread = 1; phase = 2; op = ops.Read 0 0; answer = answers.Value (seen_at 16384 0 0x2000003) poison };
+  played = record of_one { line = 8; thread = 1; phase = 2; op = ops.Read 0 0; answer = answers.Value (seen_at 16384 0 0x2000003) poison };
   stretch = read_poison 0x2000003;
   saw = seen_number 2;
   gives = seen_number 2;
@@ -73,44 +73,50 @@ the_read = record {
 abbrev pub threads_worked : List Worked
 threads_worked =
     record {
-      played = record { line = 2; thread = 0; phase = 1; op = ops.Alloc 0 0 8; answer = answers.Made (seen_at 16384 0 0) 8 };
+      played = record of_one { line = 2; thread = 0; phase = 1; op = ops.Alloc 0 0 8; answer = answers.Made (seen_at 16384 0 0) 8 };
       stretch = took the_take ∷ filled the_fill ∷ Counted its_title Issue 0 0 ∷ [];
       saw = [];
       gives = seen_number 1;
     }
     ∷ record {
-      played = record { line = 3; thread = 0; phase = 1; op = ops.Copy 0 1; answer = answers.Done (seen_at 16384 0 0x1000001) };
+      played = record of_one { line = 3; thread = 0; phase = 1; op = ops.Copy 0 1; answer = answers.Done (seen_at 16384 0 0x1000001) };
       stretch = Counted its_title Copy 0x1000001 0 ∷ [];
       saw = seen_number 1;
       gives = seen_number 2;
     }
     ∷ record {
-      played = record { line = 4; thread = 0; phase = 1; op = ops.Swap 0 1; answer = answers.Swapped 0 };
+      played = record of_one { line = 4; thread = 0; phase = 1; op = ops.Swap 0 1; answer = answers.Swapped 0 };
       stretch = exchanged 0 the_gift 2 ∷ [];
       saw = seen_number 2;
       gives = seen_number 2;
     }
     ∷ record {
-      played = record { line = 6; thread = 0; phase = 2; op = ops.Free 0; answer = answers.Done (seen_at 16384 0 0x2000003) };
+      played = record of_one { line = 6; thread = 0; phase = 2; op = ops.Free 0; answer = answers.Done (seen_at 16384 0 0x2000003) };
       stretch = Counted its_title Free 0x2000003 0 ∷ [];
       saw = seen_number 2;
       gives = seen_number 3;
     }
     ∷ record {
-      played = record { line = 7; thread = 1; phase = 2; op = ops.Swap 0 0; answer = answers.Swapped 1 };
+      played = record of_one { line = 7; thread = 1; phase = 2; op = ops.Swap 0 0; answer = answers.Swapped 1 };
       stretch = exchanged 1 the_taking 2 ∷ [];
       saw = seen_number 2;
       gives = seen_number 2;
     }
     ∷ the_read
     ∷ record {
-      played = record { line = 10; thread = 1; phase = 3; op = ops.Read 0 0; answer = answers.Dangling (seen_at 16384 0 0x3000002) poison };
+      played = record of_one {
+        line = 10;
+        thread = 1;
+        phase = 3;
+        op = ops.Read 0 0;
+        answer = answers.Dangling (seen_at 16384 0 0x3000002) poison;
+      };
       stretch = read_poison 0x3000002;
       saw = seen_number 3;
       gives = seen_number 3;
     }
     ∷ record {
-      played = record { line = 11; thread = 1; phase = 3; op = ops.Reset 0; answer = answers.Done (seen_at 16384 0 0x3000002) };
+      played = record of_one { line = 11; thread = 1; phase = 3; op = ops.Reset 0; answer = answers.Done (seen_at 16384 0 0x3000002) };
       stretch = Counted its_title Reset 0x3000002 0 ∷ [];
       saw = seen_number 3;
       gives = seen_number 4;

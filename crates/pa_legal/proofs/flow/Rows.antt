@@ -24,6 +24,7 @@ use Rattle.pa_rules.specs.Played.{mark_of, mark_of_answer, mark_at, look_at, ste
 use Rattle.pa_rules.specs.Roots.{Journals}
 use Rattle.pa_rules.specs.Caches.{Cache, with_list, SameLists, acts_of, OnlyActs, NoActs, IsDirect, FilledFirst, MadeRow, FullRow, ReturnRow, DoneRow, PurgedRow, CacheRow, gives, kept, spilled}
 use Rattle.pa_rules.specs.Flow.{returns_at, is_issue, is_issue_of, is_return_of, IsOnlyOf}
+use Rattle.pa_rules.proofs.Versions.{real_in}
 use Rattle.pa_rules.proofs.Known.{IsKnown, first_keeps}
 use Rattle.pa_rules.proofs.Counted.{list_of_another}
 use Rattle.pa_rules.proofs.Flowing.{class_leaves, map_leaves, class_real, returns_yes, returns_no, no_issue}
@@ -105,7 +106,7 @@ module _ (s : SlotName) (k p : ℕ) (roots : Journals) where
         elim (cases_eq q p) [
           | inl same ↦
               let (out, back) = first_moved x.line class (cache p class) xs (subst (λ z. FilledFirst roots x.line z class (cache z class) xs) same filled) in
-              let change = listed_changed s k cache after p class rest (omega (arith, asks.3.real)) (λ c. becomes p c ∙ ap (λ z. with_list cache z class rest p c) same) in
+              let change = listed_changed s k cache after p class rest (real_in x.rules.version class (asks.3.from, asks.3.real)) (λ c. becomes p c ∙ ap (λ z. with_list cache z class rest p c) same) in
               omega arith
           | inr other ↦
               let (out, back) = none_moved (acts_of roots x.line p) (keeps.others p (λ e. other (sym e))) in

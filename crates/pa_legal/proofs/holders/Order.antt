@@ -43,14 +43,14 @@ freeing_back op (inr (r, is)) reg q size e = let other : ◌≡◌ {A = Op} (ops
 purge_back : (op : Op) → op ≡ ops.Purge → DoesWay Back op
 purge_back op is reg q size e = let other : ◌≡◌ {A = Op} ops.Purge (ops.Alloc reg q size) = sym is ∙ e in absurd cc
 
-entry_move : (pools : List PoolEntry) (p line : ℕ) (act : RootAct) (op : Op) (m : Move) → MakesEntry pools p act op → Contains (moves_by line act) m → IsMoveOf line op m
-entry_move pools p line (Fill class asked slots) op m (reg, size, is, of) among = slots_move line op Out slots m (reg, p, size, is) among
-entry_move pools p line (Map asked slot len) op m (size, (reg, is, direct), same) among = slots_move line op Out (record { slot = slot; number = 0 } ∷ []) m (reg, p, size, is) among
-entry_move pools p line (Full class asked) op m makes among = absurd (not_in_none m among)
-entry_move pools p line (Give slots) op m (inl freeing) among = slots_move line op Back slots m (freeing_back op freeing) among
-entry_move pools p line (Give slots) op m (inr purge) among = slots_move line op Back slots m (purge_back op purge) among
-entry_move pools p line (Unmap asked slot) op m freeing among = slots_move line op Back (slot ∷ []) m (freeing_back op freeing) among
-entry_move pools p line Purge op m makes among = absurd (not_in_none m among)
+entry_move : (pools : List PoolEntry) (p line : ℕ) (act : RootAct) (x : Played) (m : Move) → MakesEntry pools p act x → Contains (moves_by line act) m → IsMoveOf line x.op m
+entry_move pools p line (Fill class asked slots) x m (reg, size, is, of) among = slots_move line x.op Out slots m (reg, p, size, is) among
+entry_move pools p line (Map asked slot len) x m (size, (reg, is, direct), same) among = slots_move line x.op Out (record { slot = slot; number = 0 } ∷ []) m (reg, p, size, is) among
+entry_move pools p line (Full class asked) x m makes among = absurd (not_in_none m among)
+entry_move pools p line (Give slots) x m (inl freeing) among = slots_move line x.op Back slots m (freeing_back x.op freeing) among
+entry_move pools p line (Give slots) x m (inr purge) among = slots_move line x.op Back slots m (purge_back x.op purge) among
+entry_move pools p line (Unmap asked slot) x m freeing among = slots_move line x.op Back (slot ∷ []) m (freeing_back x.op freeing) among
+entry_move pools p line Purge x m makes among = absurd (not_in_none m among)
 
 -- two moves are in the order of their records
 abbrev pub InOrder : List Played → Move → Move → Type 0
@@ -68,7 +68,7 @@ never_before_itself x (inr less) = omega arith
 
 module _ (partitions : ℕ) (ps : List Played) (pools : List PoolEntry) (roots : Journals) (r : AreRoots partitions ps pools roots) (lines : AllPairs OtherRecord ps) where
   -- the op of an entry
-  entry_made : (p : ℕ) (e : RootEntry) → Contains (roots p) e → (x : Played) × IsOfLine ps e.line x × MakesEntry pools p e.act x.op
+  entry_made : (p : ℕ) (e : RootEntry) → Contains (roots p) e → (x : Played) × IsOfLine ps e.line x × MakesEntry pools p e.act x
   entry_made p e (j, few, is) = r.lines p j e (slice_get-get_or (roots p) j e few ∙ ap Some is)
 
   -- the entry of a move, and its record
@@ -81,7 +81,7 @@ module _ (partitions : ℕ) (ps : List Played) (pools : List PoolEntry) (roots :
   move_made p s k m among =
       let (e, member, there) = move_entry p s k m among in
       let (x, of, makes) = entry_made p e member in
-      let is = entry_move pools p e.line e.act x.op m makes there in
+      let is = entry_move pools p e.line e.act x m makes there in
       (x, (of.0, of.1 ∙ sym is.same), is.does)
 
   -- a line takes slots out or gives them back
@@ -100,7 +100,7 @@ module _ (partitions : ℕ) (ps : List Played) (pools : List PoolEntry) (roots :
 
   -- the line of a move that an entry makes
   its_line : (p : ℕ) (e : RootEntry) (m : Move) → Contains (roots p) e → Contains (moves_by e.line e.act) m → m.line ≡ e.line
-  its_line p e m member there = let (x, of, makes) = entry_made p e member in (entry_move pools p e.line e.act x.op m makes there).same
+  its_line p e m member there = let (x, of, makes) = entry_made p e member in (entry_move pools p e.line e.act x m makes there).same
 
   pub moves_order : (p : ℕ) (s : SlotName) (k : ℕ) → AllPairs (InOrder ps) (moves_at (roots p) s k)
   moves_order p s k =

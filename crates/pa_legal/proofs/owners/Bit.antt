@@ -44,10 +44,10 @@ pub record Frees (cells : Cells) (ps : List Played) (s : SlotName) (f : Played) 
   pub owns : Owns cells ps s f
   pub ends : Ends cells ps s owns.reg owns.put f
 
-module _ (cells : Cells) (ps : List Played) (h : HaveHandles cells ps) (s : SlotName) where
+module _ (version : ℕ) (cells : Cells) (ps : List Played) (h : HaveHandles version cells ps) (s : SlotName) where
   owns_of : (x y : Played) (reg : ℕ) → WasPut cells ps x reg (Own s) y → Owns cells ps s x
   owns_of x y reg put =
-      let source = has_source cells ps h s y reg put.among put.puts in
+      let source = has_source version cells ps h s y reg put.among put.puts in
       let (seen, usable, is, slot) = source.made in
       record {
         reg = reg;
@@ -63,9 +63,9 @@ module _ (cells : Cells) (ps : List Played) (h : HaveHandles cells ps) (s : Slot
         };
       }
 
-  owner_of : (x : Played) (regs : Regs) (reg : ℕ) → HasRegs usable_of cells ps x regs → regs reg ≡ Own s → Owns cells ps s x
+  owner_of : (x : Played) (regs : Regs) (reg : ℕ) → HasRegs (usable_of version) cells ps x regs → regs reg ≡ Own s → Owns cells ps s x
   owner_of x regs reg has own =
-      let (y, put) = was_put cells ps x regs reg h.rising has (λ empty. let none : Own s ≡ Empty = sym own ∙ empty in cc) in
+      let (y, put) = was_put version cells ps x regs reg h.rising has (λ empty. let none : Own s ≡ Empty = sym own ∙ empty in cc) in
       owns_of x y reg (subst (λ (r : Reg). WasPut cells ps x reg r y) own put)
 
   -- the record of a free had the Own
@@ -73,11 +73,11 @@ module _ (cells : Cells) (ps : List Played) (h : HaveHandles cells ps) (s : Slot
   unfolding owns_of
   free_owns f m among mark slot step =
       let (reg, seen, op, answer, at) = free_done f.line f.op f.answer m mark step in
-      let (regs, next, has, row) = row_of cells ps f h.registers among in
+      let (regs, next, has, row) = row_of version cells ps f h.registers among in
       let frees : FreeRow (regs reg) regs reg (answers.Done seen) next = subst (λ a. FreeRow (regs reg) regs reg a next) answer
-      (subst (λ o. Row (facts_of cells ps) o regs f.answer next) op row) in
+      (subst (λ o. Row (facts_of version cells ps) o regs f.answer next) op row) in
       let own : regs reg ≡ Own s = owner_frees (regs reg) regs next reg seen frees ∙ ap Own (at ∙ slot) in
-      let (y, put) = was_put cells ps f regs reg h.rising has (λ empty. let none : Own s ≡ Empty = sym own ∙ empty in cc) in
+      let (y, put) = was_put version cells ps f regs reg h.rising has (λ empty. let none : Own s ≡ Empty = sym own ∙ empty in cc) in
       let held : WasPut cells ps f reg (Own s) y = subst (λ (r : Reg). WasPut cells ps f reg r y) own put in
       record {
         owns = owns_of f y reg held;
@@ -91,7 +91,7 @@ module _ (cells : Cells) (ps : List Played) (h : HaveHandles cells ps) (s : Slot
 
   -- ---- by numbers
 
-  seen_later : (x y : Played) (m n : Mark) → Contains ps x → Contains ps y → SoonOr cells ps h s x y → mark_of x ≡ Some m
+  seen_later : (x y : Played) (m n : Mark) → Contains ps x → Contains ps y → SoonOr version cells ps h s x y → mark_of x ≡ Some m
       → mark_of y ≡ Some n → m.slot ≡ n.slot → number_of m.found ≤ number_of n.found
   seen_later x y m n a b (inl e) mark mark' slot =
       let same : number_of m.found ≡ number_of n.found = ap (λ (z : Mark). number_of z.found)
@@ -108,11 +108,11 @@ module _ (cells : Cells) (ps : List Played) (h : HaveHandles cells ps) (s : Slot
   issued_below x m among mark slot o =
       let put : IsBefore cells ps o.put x = Standing (inl (o.held.thread, o.held.before)) in
       let before = h.seen.rising o.source.source x o.issue m o.source.among among
-      (then_at (way_before cells ps h s o.source.turns o.source.source o.put o.source.way) put) o.made.mark mark (o.made.slot ∙ sym slot) in
+      (then_at (way_before version cells ps h s o.source.turns o.source.source o.put o.source.way) put) o.made.mark mark (o.made.slot ∙ sym slot) in
       let left : left_number o.issue ≡ number_of o.issue.found + 1 = rw o.made.step refl in
       omega (arith, before, left)
     where
-      then_at : SoonOr cells ps h s o.source.source o.put → IsBefore cells ps o.put x → IsBefore cells ps o.source.source x
+      then_at : SoonOr version cells ps h s o.source.source o.put → IsBefore cells ps o.put x → IsBefore cells ps o.source.source x
       then_at (inl e) next = subst (λ p. IsBefore cells ps p x) (sym e) next
       then_at (inr first) next = Between o.put o.held.among first next
 
@@ -123,7 +123,7 @@ module _ (cells : Cells) (ps : List Played) (h : HaveHandles cells ps) (s : Slot
   free_last x f m n among mark slot o g mark' slot' same =
       let way : Way cells ps s g.owns.source.turns o.source.source g.owns.put = subst
       (λ i. Way cells ps s g.owns.source.turns i g.owns.put) (sym same) g.owns.source.way in
-      let soon = ends_last cells ps h s o.source.turns g.owns.source.turns o.source.source x o.put g.owns.put f
+      let soon = ends_last version cells ps h s o.source.turns g.owns.source.turns o.source.source x o.put g.owns.put f
       o.reg g.owns.reg among o.held o.source.way way g.ends in
       seen_later x f m n among g.ends.among soon mark mark' (slot ∙ sym slot')
 
@@ -206,5 +206,5 @@ module _ (cells : Cells) (ps : List Played) (h : HaveHandles cells ps) (s : Slot
       ]
 
 pub owners_find_the_bit : OwnersFindTheBit
-owners_find_the_bit cells ps x m regs reg h has own mark =
-    owner_finds cells ps h m.slot x m (record_in cells ps x regs has) mark refl (owner_of cells ps h m.slot x regs reg has own)
+owners_find_the_bit version cells ps x m regs reg h has own mark =
+    owner_finds version cells ps h m.slot x m (record_in version cells ps x regs has) mark refl (owner_of version cells ps h m.slot x regs reg has own)

@@ -84,18 +84,18 @@ row_gives history regs next reg j e (k, d, answer, at, gave, becomes) here =
     let same : d ≡ e = one_at history j d e (subst (λ n. slice_get history n ≡ Some d) (sym place) at) here in
     ap (λ (z : CellEntry). z.gave) (sym same) ∙ gave
 
-module _ (cells : Cells) (ps : List Played) (h : HaveHandles cells ps) where
+module _ (version : ℕ) (cells : Cells) (ps : List Played) (h : HaveHandles version cells ps) where
   -- what the exchange of this entry gave was in its record's register
   giver_held : (z : Played) (cell reg n : ℕ) (d : CellEntry) (r : Reg) → Contains ps z → z.op ≡ ops.Swap cell reg → z.answer ≡ Swapped n
       → IsExchange cells cell n d
       → d.gave ≡ handle_of r → (handle_of r ≡ held.Nothing → ⊥) → (put : Played) × WasPut cells ps z reg r put
   giver_held z cell reg n d r among op answer at gave some =
-      let (regs, next, has, row) = row_of cells ps z h.registers among in
+      let (regs, next, has, row) = row_of version cells ps z h.registers among in
       let swap : SwapRow (cells cell) regs reg (Swapped n) next = subst (λ a. SwapRow (cells cell) regs reg a next) answer
-      (subst (λ o. Row (facts_of cells ps) o regs z.answer next) op row) in
+      (subst (λ o. Row (facts_of version cells ps) o regs z.answer next) op row) in
       let handle : handle_of (regs reg) ≡ handle_of r = sym (row_gives (cells cell) regs next reg n d swap at) ∙ gave in
       let holds : regs reg ≡ r = sym (reg_back (regs reg) (λ none. some (sym handle ∙ none))) ∙ ap reg_of handle ∙ reg_back r some in
-      let (put, was) = was_put cells ps z regs reg h.rising has (λ empty. some (sym handle ∙ ap handle_of empty)) in
+      let (put, was) = was_put version cells ps z regs reg h.rising has (λ empty. some (sym handle ∙ ap handle_of empty)) in
       (put, subst (λ (q : Reg). WasPut cells ps z reg q put) holds was)
 
   gift_at : (y : Played) (cell into j : ℕ) (e : CellEntry) (r : Reg) → y.op ≡ ops.Swap cell into → y.answer ≡ Swapped j

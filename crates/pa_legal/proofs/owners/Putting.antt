@@ -7,6 +7,7 @@ use Rattle.pa_lists.proofs.Elements.{in_front, in_middle, pairs_front}
 use Rattle.pa_lists.proofs.Members.{first_in, later_in, in_cases, not_in_none, of_some, not_some}
 use Rattle.pa_lists.proofs.Pairs.{pairs_head, pairs_tail}
 use Rattle.pa_lists.proofs.Parts.{parts_at, pairs_across, pairs_after}
+use Rattle.pa_trace.specs.Rules.{rules_of}
 use Rattle.pa_record.specs.declared.history.CellEntry.{CellEntry}
 use Rattle.pa_rules.specs.declared.register.Register.TheVariants.{Empty}
 use Rattle.pa_rules.specs.declared.played.Played.{Played}
@@ -24,8 +25,8 @@ use Rattle.pa_legal.specs.Owners.{WasPut, HandlesArePut, LegalHasHandles}
 abbrev pub Cells : Type 0
 Cells = ℕ → List CellEntry
 
-abbrev pub facts_of : Cells → List Played → Facts
-facts_of cells ps = record { usable_of = usable_of; usable_at = usable_in ps; cells = cells }
+abbrev pub facts_of : ℕ → Cells → List Played → Facts
+facts_of version cells ps = record { usable_of = usable_of version; usable_at = usable_in ps; cells = cells }
 
 abbrev Rises : Played → Played → Type 0
 Rises x y = x.line < y.line
@@ -126,25 +127,25 @@ put_or facts (x ∷ xs) all after t reg rising (next, row, rest) =
 -- ---- the registers just before a record
 
 -- each record has registers just before it, and its row
-pub row_of : (cells : Cells) (ps : List Played) (x : Played) → AreRegisters usable_of cells ps → Contains ps x
-    → (regs next : Regs) × HasRegs usable_of cells ps x regs × Row (facts_of cells ps) x.op regs x.answer next
-row_of cells ps x (after, rows) among =
+pub row_of : (version : ℕ) (cells : Cells) (ps : List Played) (x : Played) → AreRegisters (usable_of version) cells ps → Contains ps x
+    → (regs next : Regs) × HasRegs (usable_of version) cells ps x regs × Row (facts_of version cells ps) x.op regs x.answer next
+row_of version cells ps x (after, rows) among =
     let (before, rest, parts) = parts_at ps x among in
-    let (last, to, rest_rows) = rows_cut (facts_of cells ps) no_regs before (x ∷ rest) after
-    (subst (λ (zs : List Played). RowsTo (facts_of cells ps) no_regs zs after) parts rows) in
+    let (last, to, rest_rows) = rows_cut (facts_of version cells ps) no_regs before (x ∷ rest) after
+    (subst (λ (zs : List Played). RowsTo (facts_of version cells ps) no_regs zs after) parts rows) in
     let (next, row, more) = rest_rows in
     (last x.thread, next, (before, rest, last, parts, to, refl), row)
 
-pub record_in : (cells : Cells) (ps : List Played) (x : Played) (regs : Regs) → HasRegs usable_of cells ps x regs → Contains ps x
-record_in cells ps x regs (before, rest, all, parts, rows, is) = in_middle before rest ps x parts
+pub record_in : (version : ℕ) (cells : Cells) (ps : List Played) (x : Played) (regs : Regs) → HasRegs (usable_of version) cells ps x regs → Contains ps x
+record_in version cells ps x regs (before, rest, all, parts, rows, is) = in_middle before rest ps x parts
 
-pub was_put : (cells : Cells) (ps : List Played) (x : Played) (regs : Regs) (reg : ℕ) → RiseByLine ps → HasRegs usable_of cells ps x regs
+pub was_put : (version : ℕ) (cells : Cells) (ps : List Played) (x : Played) (regs : Regs) (reg : ℕ) → RiseByLine ps → HasRegs (usable_of version) cells ps x regs
     → (regs reg ≡ Empty → ⊥)
     → (y : Played) × WasPut cells ps x reg (regs reg) y
-was_put cells ps x regs reg rising (before, rest, all, parts, rows, is) some =
+was_put version cells ps x regs reg rising (before, rest, all, parts, rows, is) some =
     let up : RiseByLine (before ++ x ∷ rest) = subst RiseByLine parts rising in
     let same : all x.thread reg ≡ regs reg = ap (λ (z : Regs). z reg) (sym is) in
-    elim (put_or (facts_of cells ps) before no_regs all x.thread reg (pairs_front Rises before (x ∷ rest) up) rows) [
+    elim (put_or (facts_of version cells ps) before no_regs all x.thread reg (pairs_front Rises before (x ∷ rest) up) rows) [
       | inl (y, put) ↦ (
         y,
         record {
@@ -168,11 +169,11 @@ was_put cells ps x regs reg rising (before, rest, all, parts, rows, is) some =
     ]
 
 pub handles_are_put : HandlesArePut
-handles_are_put cells ps x regs reg h has some = was_put cells ps x regs reg h.rising has some
+handles_are_put version cells ps x regs reg h has some = was_put version cells ps x regs reg h.rising has some
 
 pub legal_has_handles : LegalHasHandles
 legal_has_handles t r legal = record {
-  rising = lines_rise t.lines (records_of t r) (records_are_lines.lines t.lines r.entries legal.lines);
+  rising = lines_rise (rules_of t) t.lines (records_of t r) (records_are_lines.lines (rules_of t) t.lines r.entries legal.lines);
   exchanges = legal.cells;
   registers = legal.registers;
   slots = legal.slots;

@@ -81,7 +81,7 @@ made_slot a into reg s e =
     let (seen, usable, is, slot) = made_from a m made in
     (seen, usable, is, slot ∙ slot_of_own m.0 s (ap (λ (p : ℕ × Reg). p.1) same))
 
-module _ (cells : Cells) (ps : List Played) (h : HaveHandles cells ps) (s : SlotName) where
+module _ (version : ℕ) (cells : Cells) (ps : List Played) (h : HaveHandles version cells ps) (s : SlotName) where
   one_record : (x y : Played) → Contains ps x → Contains ps y → x.line ≡ y.line → x ≡ y
   one_record x y a b line = same_record ps x y (rising_differ ps h.rising) a b line
 
@@ -239,7 +239,7 @@ module _ (cells : Cells) (ps : List Played) (h : HaveHandles cells ps) (s : Slot
   source_of y among earlier reg (ops.Read to place) is puts = absurd (not_some (reg, Own s) puts)
   source_of y among earlier reg ops.Purge is puts = absurd (not_some (reg, Own s) puts)
   source_of y among earlier reg (ops.Swap cell into) is puts =
-      let (z, g) = gift cells ps h y cell into reg (Own s) among is (ap (λ o. change_of cells o y.answer) is ∙ puts) (λ e. cc) in
+      let (z, g) = gift version cells ps h y cell into reg (Own s) among is (ap (λ o. change_of cells o y.answer) is ∙ puts) (λ e. cc) in
       let p : Passes cells ps s g.put y = record {
         giver = z;
         among = g.among;

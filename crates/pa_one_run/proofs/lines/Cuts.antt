@@ -75,7 +75,7 @@ same_played a x y h first second e = same_record a.ps x y (rising_differ a.ps h.
 -- ---- each entry and exchange is on the line of a record
 
 -- the record of an entry's line makes it
-pub entry_made : (a : Parts) (p : ℕ) (e : RootEntry) → IsFiled a → Contains (a.roots p) e → (x : Played) × IsOfLine a.ps e.line x × MakesEntry a.pools p e.act x.op
+pub entry_made : (a : Parts) (p : ℕ) (e : RootEntry) → IsFiled a → Contains (a.roots p) e → (x : Played) × IsOfLine a.ps e.line x × MakesEntry a.pools p e.act x
 entry_made a p e h among = let (j, at) = in_at (a.roots p) e among in h.journals.lines p j e at
 
 -- some record has the line

@@ -12,6 +12,7 @@ use Rattle.pa_slot.specs.Run.{Mark, same_slot}
 use Rattle.pa_slot.proofs.Arith.{stepped_is}
 use Rattle.pa_slot.proofs.Runs.{same_slot_cases}
 use Rattle.pa_buckets.specs.Bands.{limit_of}
+use Rattle.pa_rules.proofs.Versions.{real_in}
 use Rattle.pa_record.specs.declared.entry.Seen.{Seen}
 use Rattle.pa_record.specs.declared.entry.Answer.{Answer}
 use Rattle.pa_record.specs.declared.numbered.Numbered.{Numbered}
@@ -198,7 +199,7 @@ module _ (a : Parts) (before rest : List Played) (x : Played) (all : Caches) (ne
   made_next : (seen : Seen) → mark_of x ≡ Some (mark_at x.line seen (Some Issue)) → MadeRow a.roots x seen (all x.thread) next → AreNumberedAfter a before x all next s p
   made_next seen marked (inl (q, c, xs, left, asks, first, front, becomes)) = elim (cases_eq q p) [
     | inl same ↦
-        class_here seen c xs left marked (omega (arith, asks.3.real)) (subst (λ z. FilledFirst a.roots x.line z c (all x.thread z c) xs) same first) front
+        class_here seen c xs left marked (real_in x.rules.version c (asks.3.from, asks.3.real)) (subst (λ z. FilledFirst a.roots x.line z c (all x.thread z c) xs) same first) front
         (subst (λ z. SameLists next (with_list (all x.thread) z c left)) same becomes)
     | inr other ↦
         let head : Numbered = record { slot = seen.slot; number = number_of seen.found.0 } in

@@ -89,13 +89,13 @@ class_row a b before x v p class seen other cache next next' h (xs, rest, filled
 pub made_alike : (a b : Parts) (before : List Played) (x : Played) (v : Answer) (seen other : Seen) (cache next next' : Cache) → Beside a b before x v → MadeRow a.roots x seen cache next →
     MadeRow b.roots x other cache next' → IsMadeAlike a b x.line seen.slot other.slot next next'
 made_alike a b before x v seen other cache next next' h (inl (p, class, xs, rest, asks, filled, front, becomes)) (inl (q, class', ys, rest', asks', filled', front', becomes')) =
-    let (e, f) = class_once x.op q p class' class asks' asks in
+    let (e, f) = class_once x q p class' class asks' asks in
     class_row a b before x v p class seen other cache next next' h (xs, rest, filled, front, becomes)
     (subst (λ z. ClassRow b.roots x other cache next' z class) e (subst (λ z. ClassRow b.roots x other cache next' q z) f (ys, rest', filled', front', becomes')))
-made_alike a b before x v seen other cache next next' h (inl (p, class, xs, rest, asks, filled, front, becomes)) (inr (q, size, asked, len, asks', only', becomes')) = absurd (class_or_map x.op p q class size asks asks')
-made_alike a b before x v seen other cache next next' h (inr (p, size, asked, len, asks, only, becomes)) (inl (q, class', ys, rest', asks', filled', front', becomes')) = absurd (class_or_map x.op q p class' size asks' asks)
+made_alike a b before x v seen other cache next next' h (inl (p, class, xs, rest, asks, filled, front, becomes)) (inr (q, size, asked, len, asks', only', becomes')) = absurd (class_or_map x p q class size asks asks')
+made_alike a b before x v seen other cache next next' h (inr (p, size, asked, len, asks, only, becomes)) (inl (q, class', ys, rest', asks', filled', front', becomes')) = absurd (class_or_map x q p class' size asks' asks)
 made_alike a b before x v seen other cache next next' h (inr (p, size, i, m, asks, only, becomes)) (inr (q, size', j, k, asks', only', becomes')) =
-    let (e, f) = map_once x.op q p size' size asks' asks in
+    let (e, f) = map_once x q p size' size asks' asks in
     let there : OnlyActs b.roots x.line p (Map j other.slot k ∷ []) = subst (λ z. OnlyActs b.roots x.line z (Map j other.slot k ∷ [])) e only' in
     let maps = maps_alike a b before x v p size i j m k seen.slot other.slot h asks only there in
     let act : Map i seen.slot m ≡ Map j other.slot k = ap (λ z. Map z seen.slot m) maps.asked ∙ ap (λ z. Map j z m) maps.slot ∙ ap (λ z. Map j other.slot z) maps.len in
@@ -116,15 +116,15 @@ full_line a b n p i j class only only' same pool =
 full_alike : (a b : Parts) (before : List Played) (x : Played) (v : Answer) (cache next next' : Cache) → Beside a b before x v → FullRow a.roots x cache next → FullRow b.roots x cache next' →
     IsRowAlike a b x.line next next'
 full_alike a b before x v cache next next' h (inl (p, class, i, asks, empty, only, becomes)) (inl (q, class', j, asks', empty', only', becomes')) =
-    let (e, f) = class_once x.op q p class' class asks' asks in
+    let (e, f) = class_once x q p class' class asks' asks in
     let there : OnlyActs b.roots x.line p (Full (Some class) j ∷ []) =
     subst (λ z. OnlyActs b.roots x.line z (Full (Some class) j ∷ [])) e (subst (λ z. OnlyActs b.roots x.line q (Full (Some z) j ∷ [])) f only') in
     let fulls = fulls_alike a b x.line p class i j h.filed h.filed' h.agrees only there in
     record { caches = both_become next next' cache cache becomes becomes' refl; line = full_line a b x.line p i j (Some class) only there fulls.asked fulls.pool }
-full_alike a b before x v cache next next' h (inl (p, class, i, asks, empty, only, becomes)) (inr (q, size, j, asks', only', becomes')) = absurd (class_or_map x.op p q class size asks asks')
-full_alike a b before x v cache next next' h (inr (p, size, i, asks, only, becomes)) (inl (q, class, j, asks', empty', only', becomes')) = absurd (class_or_map x.op q p class size asks' asks)
+full_alike a b before x v cache next next' h (inl (p, class, i, asks, empty, only, becomes)) (inr (q, size, j, asks', only', becomes')) = absurd (class_or_map x p q class size asks asks')
+full_alike a b before x v cache next next' h (inr (p, size, i, asks, only, becomes)) (inl (q, class, j, asks', empty', only', becomes')) = absurd (class_or_map x q p class size asks' asks)
 full_alike a b before x v cache next next' h (inr (p, size, i, asks, only, becomes)) (inr (q, size', j, asks', only', becomes')) =
-    let (e, f) = map_once x.op q p size' size asks' asks in
+    let (e, f) = map_once x q p size' size asks' asks in
     let there : OnlyActs b.roots x.line p (Full None j ∷ []) = subst (λ z. OnlyActs b.roots x.line z (Full None j ∷ [])) e only' in
     let fulls = map_fulls_alike a b before x v p size i j h asks only there in
     record { caches = both_become next next' cache cache becomes becomes' refl; line = full_line a b x.line p i j None only there fulls.asked fulls.pool }
@@ -137,13 +137,13 @@ filled_or_full a b before x v p class j (z ∷ zs) xs h filled empty only' = cc
 
 pub made_or_full : (a b : Parts) (before : List Played) (x : Played) (v : Answer) (seen : Seen) (cache next next' : Cache) → Beside a b before x v → MadeRow a.roots x seen cache next → FullRow b.roots x cache next' → ⊥
 made_or_full a b before x v seen cache next next' h (inl (p, class, xs, rest, asks, filled, front, becomes)) (inl (q, class', j, asks', empty, only', becomes')) =
-    let (e, f) = class_once x.op q p class' class asks' asks in
+    let (e, f) = class_once x q p class' class asks' asks in
     filled_or_full a b before x v p class j (cache p class) xs h filled (ap (λ z. cache z class) (sym e) ∙ ap (λ z. cache q z) (sym f) ∙ empty)
     (subst (λ z. OnlyActs b.roots x.line z (Full (Some class) j ∷ [])) e (subst (λ z. OnlyActs b.roots x.line q (Full (Some z) j ∷ [])) f only'))
-made_or_full a b before x v seen cache next next' h (inl (p, class, xs, rest, asks, filled, front, becomes)) (inr (q, size, j, asks', only', becomes')) = class_or_map x.op p q class size asks asks'
-made_or_full a b before x v seen cache next next' h (inr (p, size, i, m, asks, only, becomes)) (inl (q, class, j, asks', empty', only', becomes')) = class_or_map x.op q p class size asks' asks
+made_or_full a b before x v seen cache next next' h (inl (p, class, xs, rest, asks, filled, front, becomes)) (inr (q, size, j, asks', only', becomes')) = class_or_map x p q class size asks asks'
+made_or_full a b before x v seen cache next next' h (inr (p, size, i, m, asks, only, becomes)) (inl (q, class, j, asks', empty', only', becomes')) = class_or_map x q p class size asks' asks
 made_or_full a b before x v seen cache next next' h (inr (p, size, i, m, asks, only, becomes)) (inr (q, size', j, asks', only', becomes')) =
-    let (e, f) = map_once x.op q p size' size asks' asks in
+    let (e, f) = map_once x q p size' size asks' asks in
     map_or_full a b before x v p size i j m seen.slot h asks only (subst (λ z. OnlyActs b.roots x.line z (Full None j ∷ [])) e only')
 
 -- if a record says that there is no room, its entry is the line's only one

@@ -89,7 +89,7 @@ rows_placed a b before x v h = record {
 
 -- records of one op line differ in their answers alone
 pub other_answer : (x y : Played) → op_line_of x ≡ op_line_of y → y ≡ record x { answer = y.answer }
-other_answer x y same = ap {B = Played} (λ (o : OpLine). record { line = o.line; thread = o.thread; phase = o.phase; op = o.op; answer = y.answer }) (sym same)
+other_answer x y same = ap {B = Played} (λ (o : OpLine). record { line = o.line; thread = o.thread; phase = o.phase; rules = o.rules; op = o.op; answer = y.answer }) (sym same)
 
 pub placed_alike : (a b : Parts) (before rest rest' : List Played) (x y : Played) → IsFiled a → IsFiled b → a.ps ≡ before ++ x ∷ rest → b.ps ≡ before ++ y ∷ rest' → op_line_of x ≡ op_line_of y →
     Agrees x.line a b → IsPlacedAlike x.answer y.answer

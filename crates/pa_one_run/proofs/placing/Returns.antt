@@ -29,13 +29,13 @@ made_place a b before s h (q, seen, usable, among, is, same) =
     (elim (made_class a q seen usable h.filed (in_front before h.rest a.ps q h.parts among) is) [
       | inl (p, c, asks, of) ↦ elim (made_class b q seen usable h.filed' (in_front before h.rest' b.ps q h.parts' among) is) [
         | inl (p', c', asks', of') ↦
-            let (e, f) = class_once q.op p' p c' c asks' asks in
+            let (e, f) = class_once q p' p c' c asks' asks in
             inl (p, c, of, subst (λ z. IsOfClass b.roots seen.slot z c) e (subst (λ z. IsOfClass b.roots seen.slot p' z) f of'))
-        | inr (p', size, asks', direct) ↦ absurd (class_or_map q.op p p' c size asks asks')
+        | inr (p', size, asks', direct) ↦ absurd (class_or_map q p p' c size asks asks')
       ]
       | inr (p, size, asks, direct) ↦ elim (made_class b q seen usable h.filed' (in_front before h.rest' b.ps q h.parts' among) is) [
-        | inl (p', c', asks', of') ↦ absurd (class_or_map q.op p' p c' size asks' asks)
-        | inr (p', size', asks', direct') ↦ inr (p, direct, subst (λ z. IsDirect b.roots seen.slot z) (map_once q.op p' p size' size asks' asks).0 direct')
+        | inl (p', c', asks', of') ↦ absurd (class_or_map q p' p c' size asks' asks)
+        | inr (p', size', asks', direct') ↦ inr (p, direct, subst (λ z. IsDirect b.roots seen.slot z) (map_once q p' p size' size asks' asks).0 direct')
       ]
     ])
 

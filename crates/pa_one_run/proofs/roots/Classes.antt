@@ -3,7 +3,6 @@ use Rattle.std.proofs.Common.{◌≡◌, ℕ, sym, subst, ◌⊎◌, inl, inr}
 use Rattle.std.specs.Prelude.{Contains}
 use Rattle.pa_slot.specs.declared.word.SlotName.{SlotName}
 use Rattle.pa_slot.specs.Count.{number_of}
-use Rattle.pa_trace.specs.declared.script.Op.{Op}
 use Rattle.pa_record.specs.declared.entry.Seen.{Seen}
 use Rattle.pa_record.specs.declared.entry.Answer.TheVariants.{Made}
 use Rattle.pa_record.specs.declared.numbered.Numbered.{Numbered}
@@ -23,10 +22,10 @@ use Rattle.pa_one_run.proofs.lines.Cuts.{record_row}
 -- ---- what was made
 
 -- what a slot that was made is
-abbrev IsMadeOf : Journals → Op → SlotName → Type 0
-IsMadeOf roots op s = ((p c : ℕ) × AsksForClass op p c × IsOfClass roots s p c) ⊎ ((p size : ℕ) × AsksForMap op p size × IsDirect roots s p)
+abbrev IsMadeOf : Journals → Played → SlotName → Type 0
+IsMadeOf roots x s = ((p c : ℕ) × AsksForClass x p c × IsOfClass roots s p c) ⊎ ((p size : ℕ) × AsksForMap x p size × IsDirect roots s p)
 
-made_of : (roots : Journals) (x : Played) (seen : Seen) (cache after : Cache) → IsKnown roots cache → MadeRow roots x seen cache after → IsMadeOf roots x.op seen.slot
+made_of : (roots : Journals) (x : Played) (seen : Seen) (cache after : Cache) → IsKnown roots cache → MadeRow roots x seen cache after → IsMadeOf roots x seen.slot
 made_of roots x seen cache after known (inl (p, class, xs, rest, asks, filled, front, becomes)) =
     let head : Numbered = record { slot = seen.slot; number = number_of seen.found.0 } in
     let f = first_keeps seen.slot roots x.line p class (cache p class) xs (λ n. known p class n) filled in
@@ -37,7 +36,7 @@ made_of roots x seen cache after known (inr (p, size, asked, len, asks, only, be
 
 -- what was made is of the class that was asked for, or the direct map
 pub made_class : (a : Parts) (x : Played) (seen : Seen) (usable : ℕ) → IsFiled a → Contains a.ps x → x.answer ≡ Made seen usable →
-    ((p c : ℕ) × AsksForClass x.op p c × IsOfClass a.roots seen.slot p c) ⊎ ((p size : ℕ) × AsksForMap x.op p size × IsDirect a.roots seen.slot p)
+    ((p c : ℕ) × AsksForClass x p c × IsOfClass a.roots seen.slot p c) ⊎ ((p size : ℕ) × AsksForMap x p size × IsDirect a.roots seen.slot p)
 made_class a x seen usable h among is =
     let (before, rest, parts) = parts_at a.ps x among in
     let (all, next, to, row) = record_row a before rest x h parts in
@@ -47,7 +46,7 @@ made_class a x seen usable h among is =
 -- ---- one partition, and one class or a direct map
 
 module _ (a : Parts) (h : IsFiled a) where
-  pub kind : (s : SlotName) → HasOneKind a.roots s
+  pub kind : (s : SlotName) → HasOneKind a.ps a.roots s
   kind s = one_kind a.supers a.partitions a.ps a.pools a.roots s h.journals h.pool
 
 pub one_class : (a : Parts) (s : SlotName) (p q c d : ℕ) → IsFiled a → IsOfClass a.roots s p c → IsOfClass a.roots s q d → (p ≡ q) × (c ≡ d)

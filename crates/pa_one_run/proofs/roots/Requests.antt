@@ -7,7 +7,6 @@ use Rattle.pa_slot.specs.declared.word.SlotName.{SlotName}
 use Rattle.pa_layout.specs.Pages.{page_place, supers_for}
 use Rattle.pa_buckets.specs.Bands.{fill_of}
 use Rattle.pa_direct.specs.Shapes.{shape_of}
-use Rattle.pa_trace.specs.declared.script.Op.{Op}
 use Rattle.pa_record.specs.declared.entry.Answer.{Answer}
 use Rattle.pa_record.specs.declared.numbered.Numbered.{Numbered}
 use Rattle.pa_record.specs.declared.pool.PoolEntry.{PoolEntry}
@@ -94,12 +93,12 @@ other_fits a b n p act h k agrees only = subst (λ r. RootActFits b.pools act r)
 -- ---- the record of a line
 
 -- the op makes the line's only entry
-pub makes : (a : Parts) (x : Played) (p : ℕ) (act : RootAct) → IsFiled a → Contains a.ps x → acts_of a.roots x.line p ≡ act ∷ [] → MakesEntry a.pools p act x.op
+pub makes : (a : Parts) (x : Played) (p : ℕ) (act : RootAct) → IsFiled a → Contains a.ps x → acts_of a.roots x.line p ≡ act ∷ [] → MakesEntry a.pools p act x
 makes a x p act h among only =
     let (e, stands, line, is) = act_entry a.roots x.line p act (subst (λ xs. Contains xs act) (sym only) (first_in act [])) in
     let (y, of, make) = entry_made a p e h stands in
     let same : y ≡ x = same_played a y x h of.0 among (of.1 ∙ line) in
-    subst (λ z. MakesEntry a.pools p z x.op) is (subst (λ (z : Played). MakesEntry a.pools p e.act z.op) same make)
+    subst (λ z. MakesEntry a.pools p z x) is (subst (λ (z : Played). MakesEntry a.pools p e.act z) same make)
 
 -- ---- the pool
 
@@ -192,15 +191,15 @@ same_slots w xs ys f g e = map_tells (λ (m : Numbered). m.slot) xs ys (λ m n a
 
 -- ---- direct maps
 
-map_len : (pools : List PoolEntry) (p size asked len : ℕ) (slot : SlotName) (op : Op) → AsksForMap op p size → MakesEntry pools p (Map asked slot len) op → len ≡ (shape_of size).slot
-map_len pools p size asked len slot op asks (size', asks', is) = is ∙ ap (λ z. (shape_of z).slot) (map_once op p p size' size asks' asks).1
+map_len : (pools : List PoolEntry) (p size asked len : ℕ) (slot : SlotName) (x : Played) → AsksForMap x p size → MakesEntry pools p (Map asked slot len) x → len ≡ (shape_of size).slot
+map_len pools p size asked len slot x asks (size', asks', is) = is ∙ ap (λ z. (shape_of z).slot) (map_once x p p size' size asks' asks).1
 
-full_map : (pools : List PoolEntry) (p size asked : ℕ) (op : Op) → AsksForMap op p size → MakesEntry pools p (Full None asked) op → FoundNone pools asked (shape_of size).supers
-full_map pools p size asked op asks (size', asks', is) = subst (λ z. FoundNone pools asked (shape_of z).supers) (map_once op p p size' size asks' asks).1 is
+full_map : (pools : List PoolEntry) (p size asked : ℕ) (x : Played) → AsksForMap x p size → MakesEntry pools p (Full None asked) x → FoundNone pools asked (shape_of size).supers
+full_map pools p size asked x asks (size', asks', is) = subst (λ z. FoundNone pools asked (shape_of z).supers) (map_once x p p size' size asks' asks).1 is
 
 -- the two ops make the lines' only entries
 pub beside_makes : (a b : Parts) (before : List Played) (x : Played) (v : Answer) (p : ℕ) (act act' : RootAct) → Beside a b before x v → acts_of a.roots x.line p ≡ act ∷ [] → acts_of b.roots x.line p ≡ act' ∷ [] →
-    MakesEntry a.pools p act x.op × MakesEntry b.pools p act' x.op
+    MakesEntry a.pools p act x × MakesEntry b.pools p act' (record x { answer = v })
 beside_makes a b before x v p act act' h only only' = (
   makes a x p act h.filed (in_middle before h.rest a.ps x h.parts) only,
   makes b (record x { answer = v }) p act' h.filed' (in_middle before h.rest' b.ps (record x { answer = v }) h.parts') only',
@@ -214,11 +213,11 @@ pub record AreMaps (a b : Parts) (n : ℕ) (i j : ℕ) (s t : SlotName) (m k : �
   pub pool : on pool_line n a.pools ≡ on pool_line n b.pools
 
 -- two direct maps on one line have the same size, so the pool's answer is the same
-pub maps_alike : (a b : Parts) (before : List Played) (x : Played) (v : Answer) (p size i j m k : ℕ) (s t : SlotName) → Beside a b before x v → AsksForMap x.op p size →
+pub maps_alike : (a b : Parts) (before : List Played) (x : Played) (v : Answer) (p size i j m k : ℕ) (s t : SlotName) → Beside a b before x v → AsksForMap x p size →
     OnlyActs a.roots x.line p (Map i s m ∷ []) → OnlyActs b.roots x.line p (Map j t k ∷ []) → AreMaps a b x.line i j s t m k
 maps_alike a b before x v p size i j m k s t h asks only only' =
     let (make, make') = beside_makes a b before x v p (Map i s m) (Map j t k) h only.0 only'.0 in
-    let len : m ≡ k = map_len a.pools p size i m s x.op asks make ∙ sym (map_len b.pools p size j k t x.op asks make') in
+    let len : m ≡ k = map_len a.pools p size i m s x asks make ∙ sym (map_len b.pools p size j k t x asks make') in
     let (first, run, start, born) = one_fits a x.line p (Map i s m) h.filed only.0 in
     let (first', run', start', born') = other_fits a b x.line p (Map j t k) h.filed h.filed' h.agrees only'.0 in
     let both = named a b x.line p i j (Map i s m) (Map j t k) h.filed h.filed' h.agrees only only' refl refl in
@@ -250,12 +249,12 @@ fulls_alike a b n p class i j h k agrees only only' =
     let two = other_fits a b n p (Full (Some class) j) h k agrees only'.0 in
     full_takes a b n p i j 1 (named a b n p i j (Full (Some class) i) (Full (Some class) j) h k agrees only only' refl refl) one.1 two.1
 
-pub map_fulls_alike : (a b : Parts) (before : List Played) (x : Played) (v : Answer) (p size i j : ℕ) → Beside a b before x v → AsksForMap x.op p size →
+pub map_fulls_alike : (a b : Parts) (before : List Played) (x : Played) (v : Answer) (p size i j : ℕ) → Beside a b before x v → AsksForMap x p size →
     OnlyActs a.roots x.line p (Full None i ∷ []) → OnlyActs b.roots x.line p (Full None j ∷ []) → AreFulls a b x.line i j
 map_fulls_alike a b before x v p size i j h asks only only' =
     let (make, make') = beside_makes a b before x v p (Full None i) (Full None j) h only.0 only'.0 in
     full_takes a b x.line p i j (shape_of size).supers (named a b x.line p i j (Full None i) (Full None j) h.filed h.filed' h.agrees only only' refl refl)
-    (full_map a.pools p size i x.op asks make) (full_map b.pools p size j x.op asks make')
+    (full_map a.pools p size i x asks make) (full_map b.pools p size j x asks make')
 
 -- no line fills in one run and has no room in the other
 pub fill_or_full : (a b : Parts) (n p class j : ℕ) (asked : Option ℕ) (xs : List Numbered) → IsFiled a → IsFiled b → Agrees n a b →
@@ -270,12 +269,12 @@ fill_or_full a b n p class j (Some i) xs h k agrees only only' =
     let both = named a b n p i j (Fill class (Some i) xs) (Full (Some class) j) h k agrees only only' refl refl in
     not_some one.1.1 (sym (takes_alike a b n p i j 1 (Some one.1.1) None both one.1.2 two.1))
 
-pub map_or_full : (a b : Parts) (before : List Played) (x : Played) (v : Answer) (p size i j m : ℕ) (s : SlotName) → Beside a b before x v → AsksForMap x.op p size →
+pub map_or_full : (a b : Parts) (before : List Played) (x : Played) (v : Answer) (p size i j m : ℕ) (s : SlotName) → Beside a b before x v → AsksForMap x p size →
     OnlyActs a.roots x.line p (Map i s m ∷ []) → OnlyActs b.roots x.line p (Full None j ∷ []) → ⊥
 map_or_full a b before x v p size i j m s h asks only only' =
     let (make, make') = beside_makes a b before x v p (Map i s m) (Full None j) h only.0 only'.0 in
-    let len = map_len a.pools p size i m s x.op asks make in
-    let none = full_map b.pools p size j x.op asks make' in
+    let len = map_len a.pools p size i m s x asks make in
+    let none = full_map b.pools p size j x asks make' in
     let (first, run, start, born) = one_fits a x.line p (Map i s m) h.filed only.0 in
     let both = named a b x.line p i j (Map i s m) (Full None j) h.filed h.filed' h.agrees only only' refl refl in
     let turn : act_at a.pools i ≡ Some (turns.Take (shape_of size).supers (Some first)) = run ∙ ap (λ z. Some (turns.Take (supers_for z) (Some first))) len in

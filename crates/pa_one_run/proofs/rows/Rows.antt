@@ -12,6 +12,8 @@ use Rattle.pa_slot.proofs.Runs.{same_slot_yes}
 use Rattle.pa_slot.specs.declared.word.Step.TheVariants as steps
 use Rattle.pa_trace.specs.declared.script.Op.{Op}
 use Rattle.pa_trace.specs.declared.script.Op.TheVariants as ops
+use Rattle.pa_trace.specs.declared.script.Rules.{Rules}
+use Rattle.pa_rules.specs.Sizes.{usable_of}
 use Rattle.pa_record.specs.declared.entry.Seen.{Seen}
 use Rattle.pa_record.specs.declared.entry.Answer.{Answer}
 use Rattle.pa_record.specs.declared.entry.Answer.TheVariants.{Made, Done, Value, Dangling, SecondFree, NotOwner, StaleUse, Shared, Full, Swapped, Purged}
@@ -328,7 +330,7 @@ answers_agree a b before rest rest' x y h k parts parts' same agrees placed valu
     let holds = holds_made a before (x ∷ rest) one.all h parts one.registers in
     let alike : AreAlike (facts_of a) (facts_of b) (one.all x.thread) x.answer y.answer = record {
       placed = placed;
-      sizes = λ size. refl;
+      sizes = λ size. ap (λ (z : Rules). usable_of z.version size) agrees.rules;
       usable = λ reg s names.
           ap (λ ps. usable_in ps s) parts ∙ usable_front before (x ∷ rest) (y ∷ rest') s (holds.registers x.thread reg s names) ∙ sym (ap (λ ps. usable_in ps s) parts');
       seen = λ c d is is' slot. same_seen c d slot (seen_word a before rest x c h parts is ∙ ap (word_after before) slot ∙ sym (seen_word b before rest' y d k parts' is'));

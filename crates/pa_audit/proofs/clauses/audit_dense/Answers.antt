@@ -1,4 +1,5 @@
 use Rattle.std.proofs.Common.{◌<◌, length, sym, ◌∙◌, ap, subst, arith}
+use Rattle.pa_trace.specs.Rules.{rules_of}
 use Rattle.pa_rules.specs.declared.verdict.Clause.{Clause}
 use Rattle.pa_rules.specs.declared.verdict.Clause.TheVariants as clauses
 use Rattle.pa_rules.specs.Verdicts.{turn}
@@ -37,7 +38,8 @@ clause_fails-requires-clause-can c =
       limits = c.requires.limits;
       printable = c.requires.printable;
       short = c.requires.short;
-      records = same ∙ told.records ∙ ap (λ ls. played ls c.entries.result.now) c.as_slice.ensures ∙ ap (played c.args.trace.now.lines) c.entries.ensures.entries;
+      records = same ∙ told.records ∙ ap (λ k. played k c.as_slice.result.now c.entries.result.now) c.rules.ensures
+          ∙ ap (λ ls. played (rules_of c.args.trace.now) ls c.entries.result.now) c.as_slice.ensures ∙ ap (played (rules_of c.args.trace.now) c.args.trace.now.lines) c.entries.ensures.entries;
       few = let long = ap length same in let all = ap length lines in omega (arith, long, all, few, short);
       rising = subst RiseByLine (sym same) told.rising;
       before = λ d less. c.loop-at.invariant.holds d (let at = c.clause_of-clause.ensures in omega (arith, less, at));

@@ -1,4 +1,5 @@
 use Rattle.std.proofs.Common.{List, arith, sym, subst}
+use Rattle.pa_rules.specs.Told.{told_by, records_of}
 use Rattle.pa_record.specs.declared.history.CellEntry.{CellEntry}
 use Rattle.pa_rules.specs.declared.played.Played.{Played}
 use Rattle.pa_rules.specs.declared.verdict.Clause.TheVariants as clauses
@@ -17,8 +18,8 @@ contents_meet-requires-clause-within c = all_within c.args.trace.now c.args.run.
 
 pub contents_meet-requires-clause-registers : goal.contents_meet-requires-clause-registers
 contents_meet-requires-clause-registers c i =
-    subst (λ (cs : List (List CellEntry)). RegistersDemand usable_of (history_at cs) c.args.records.now (places.Record i)) (sym c.cells.ensures.cells)
-    (registers_held c.args.trace.now c.args.run.now c.args.records.now c.requires.records (c.requires.before clauses.Registers (omega arith)) i)
+    subst (λ (cs : List (List CellEntry)). RegistersDemand (usable_of 1) (history_at cs) c.args.records.now (places.Record i)) (sym c.cells.ensures.cells)
+    (registers_held c.args.trace.now c.args.run.now c.args.records.now c.requires.records c.requires.limits (c.requires.before clauses.Registers (omega arith)) i)
 
 pub contents_meet-requires-clause-slots : goal.contents_meet-requires-clause-slots
 contents_meet-requires-clause-slots c = slots_held c.args.trace.now c.args.run.now c.args.records.now c.requires.records (c.requires.before clauses.Slots (omega arith))
@@ -27,7 +28,7 @@ pub record_line-requires : goal.record_line-requires
 record_line-requires c =
     let ps = c.args.records.now in
     let few = c.requires.few in
-    first_there ps 4294967294 (λ i. ContentsDemand usable_of (history_at c.cells.result.now) ps (places.Record i)) c.in_ok-at.at (omega (arith, few)) (λ i none x at. absurd (none x at)) c.in_ok-at.ensures
+    first_there ps 4294967294 (λ i. ContentsDemand (usable_of 1) (history_at c.cells.result.now) ps (places.Record i)) c.in_ok-at.at (omega (arith, few)) (λ i none x at. absurd (none x at)) c.in_ok-at.ensures
 
 pub returns : goal.returns
 returns c =
@@ -36,5 +37,6 @@ returns c =
     let at = c.in_ok-at.at in
     subst (λ o. TellsLine clauses.Contents t r o) (sym c.record_line.ensures)
     (line_told clauses.Contents t r at tt
-    (subst (λ (ps : List Played). TellsFirst (λ i. ContentsDemand usable_of (history_at r.cells.items) ps (places.Record i)) at) c.requires.records
-    (subst (λ (cs : List (List CellEntry)). TellsFirst (λ i. ContentsDemand usable_of (history_at cs) c.args.records.now (places.Record i)) at) c.cells.ensures.cells c.in_ok-at.ensures)))
+    (subst (λ v. TellsFirst (λ i. ContentsDemand (usable_of v) (history_at r.cells.items) (records_of t (told_by r)) (places.Record i)) at) (sym c.requires.limits.version)
+    (subst (λ (ps : List Played). TellsFirst (λ i. ContentsDemand (usable_of 1) (history_at r.cells.items) ps (places.Record i)) at) c.requires.records
+    (subst (λ (cs : List (List CellEntry)). TellsFirst (λ i. ContentsDemand (usable_of 1) (history_at cs) c.args.records.now (places.Record i)) at) c.cells.ensures.cells c.in_ok-at.ensures))))

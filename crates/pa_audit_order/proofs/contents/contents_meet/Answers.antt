@@ -37,7 +37,7 @@ returns-then-not-may_give c =
     let ps = c.args.records.now in
     let cells = history_at c.args.cells.now in
     let i = c.loop-record.record-index in
-    tells_at (λ k. ContentsDemand usable_of cells ps (places.Record k)) i c.loop-record.at c.loop-record.invariant.at
+    tells_at (λ k. ContentsDemand (usable_of 1) cells ps (places.Record k)) i c.loop-record.at c.loop-record.invariant.at
     (λ asks. false≢true (c.if-not-may_give.ensures.1
     (content_may cells ps c.loop-record.registers i _ c.requires.rising c.loop-record-test.true c.loop-record.invariant.regs asks))) c.loop-record.invariant.met
 
@@ -48,7 +48,7 @@ loop-record-preserved c =
     let i = c.loop-record.record-index in
     record {
       met =
-          met_more (λ k. ContentsDemand usable_of cells ps (places.Record k)) i c.loop-record.invariant.met
+          met_more (λ k. ContentsDemand (usable_of 1) cells ps (places.Record k)) i c.loop-record.invariant.met
           (content_met cells ps c.loop-record.registers i _ c.loop-record-test.true c.loop-record.invariant.regs (c.if-not-may_give.ensures.0 refl));
       regs = regs_on cells ps c.loop-record.registers c.change.new.self i _ c.loop-record-test.true c.requires.registers c.loop-record.invariant.regs c.change.ensures;
       at = ap (λ n. n + 1) c.loop-record.invariant.at;
@@ -58,4 +58,4 @@ pub returns : goal.returns
 returns c =
     let ps = c.args.records.now in
     let cells = history_at c.args.cells.now in
-    tells_none (λ k. ContentsDemand usable_of cells ps (places.Record k)) (length ps) c.loop-record.record-index c.loop-record-test.false c.loop-record.invariant.met (λ j past x at. absurd (none_past ps j x past at))
+    tells_none (λ k. ContentsDemand (usable_of 1) cells ps (places.Record k)) (length ps) c.loop-record.record-index c.loop-record-test.false c.loop-record.invariant.met (λ j past x at. absurd (none_past ps j x past at))

@@ -8,7 +8,7 @@ use Rattle.pa_audit_order.proofs.contents.contents_meet.Given as goal
 
 abbrev pub invariant-loop-record : goal.invariant-loop-record
 invariant-loop-record l = record {
-  met : (j : ℕ) → j < l.record-index → ContentsDemand usable_of (history_at l.cells) l.records (places.Record j);
+  met : (j : ℕ) → j < l.record-index → ContentsDemand (usable_of 1) (history_at l.cells) l.records (places.Record j);
   regs : RegsSoFar (history_at l.cells) l.records l.registers l.record-index;
   at : l.at ≡ l.record-index;
 }

@@ -15,7 +15,7 @@ pub returns-then-not-may_answer : goal.returns-then-not-may_answer
 returns-then-not-may_answer c =
     let ps = c.args.records.now in
     let cells = history_at c.args.cells.now in
-    let P = λ (k : ℕ). TellsFirst (λ i. RegistersDemand usable_of cells ps (places.Record i)) (Some k) in
+    let P = λ (k : ℕ). TellsFirst (λ i. RegistersDemand (usable_of 1) cells ps (places.Record i)) (Some k) in
     subst P (sym c.loop-record.invariant.at)
     (regs_not cells ps c.loop-record.registers c.loop-record.record-index _ c.loop-record-test.true c.loop-record.invariant.walk
     (λ may. false≢true

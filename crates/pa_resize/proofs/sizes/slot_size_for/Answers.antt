@@ -8,10 +8,10 @@ use Rattle.pa_resize.proofs.sizes.slot_size_for.Goals as goal
 pub returns-in-Some : goal.returns-in-Some
 returns-in-Some c =
     let of : IsClassOf (max c.args.size 1 + 8) c.in-Some.class = subst (λ n. IsClassOf n c.in-Some.class) c.raw_of.ensures c.in-Some.ensures.least in
-    c.slot_size.ensures.size ∙ sym (sizes_fit.class c.args.size c.in-Some.class of)
+    c.slot_size.ensures.size ∙ sym (sizes_fit.class 1 c.args.size c.in-Some.class of)
 
 pub returns-in-Some-shape : goal.returns-in-Some-shape
 returns-in-Some-shape c =
     let large : 917504 < c.raw_of.result = grind (arith, c.in-None.ensures.refused) in
     let direct : IsDirectSize c.args.size = (omega (arith, large, c.raw_of.ensures), c.requires) in
-    ap (λ (z : Shape). z.slot) c.in-Some-shape.ensures.shape ∙ sym (sizes_fit.direct c.args.size direct)
+    ap (λ (z : Shape). z.slot) c.in-Some-shape.ensures.shape ∙ sym (sizes_fit.direct 1 c.args.size direct)

@@ -1,4 +1,4 @@
-use Rattle.std.proofs.Common.{length, refl, ◌∙◌, ap}
+use Rattle.std.proofs.Common.{rules, ◌<◌, length, refl, ◌∙◌, ap, slice_index_or}
 use Rattle.std.specs.Prelude.{Vec}
 use Rattle.std.specs.declared.alloc.Global.{Global}
 use Rattle.std.proofs.lemmas.List.{length-set}
@@ -17,6 +17,26 @@ bounds-records-at g c =
     has_next c.loop-line.line-index c.args.lines.now _ c.args.workers.now c.in-Do.thread within.0 c.in-Do.op c.loop-line-test.true c.in-Do.is c.requires.few within.1
     c.loop-line.next c.loop-line.merged.items whole.0 c.records-records.result.now _ whole.1 (c.loop-line.invariant.merging whole.0 whole.1)
     (c.records-records.ensures ∙ ap (λ w. w.records) c.index-workers-k.is)
+
+pub offset_bounds-records-at : goal.offset_bounds-records-at
+offset_bounds-records-at g c =
+    let whole = c.requires.whole in
+    let within = c.requires.threads in
+    let below : slice_index_or c.loop-line.next c.in-Do.thread 0 < length c.records-records.result.now =
+    has_next c.loop-line.line-index c.args.lines.now _ c.args.workers.now c.in-Do.thread within.0 c.in-Do.op c.loop-line-test.true c.in-Do.is c.requires.few within.1
+    c.loop-line.next c.loop-line.merged.items whole.0 c.records-records.result.now _ whole.1 (c.loop-line.invariant.merging whole.0 whole.1)
+    (c.records-records.ensures ∙ ap (λ w. w.records) c.index-workers-k.is) in
+    search rules
+
+pub overflow_add-next : goal.overflow_add-next
+overflow_add-next g c =
+    let whole = c.requires.whole in
+    let within = c.requires.threads in
+    let below : slice_index_or c.loop-line.next c.in-Do.thread 0 < length c.records-records.result.now =
+    has_next c.loop-line.line-index c.args.lines.now _ c.args.workers.now c.in-Do.thread within.0 c.in-Do.op c.loop-line-test.true c.in-Do.is c.requires.few within.1
+    c.loop-line.next c.loop-line.merged.items whole.0 c.records-records.result.now _ whole.1 (c.loop-line.invariant.merging whole.0 whole.1)
+    (c.records-records.ensures ∙ ap (λ w. w.records) c.index-workers-k.is) in
+    search rules
 
 pub loop-line-preserved : goal.loop-line-preserved
 loop-line-preserved g c =

@@ -20,6 +20,7 @@ returns-clause-limits c =
     let words = c.in_ok-words.words.items in
     let all : c.loop-round.round ≡ c.args.rounds = omega arith in
     generated_within words c.args.rounds _ c.requires.some c.requires.few (record {
+      version = refl;
       region = refl;
       partitions = refl;
       threads = refl;

@@ -34,8 +34,8 @@ returns-then-partition-partitions-clause-walks c = λ demand.
       | then-partition-partitions-via-else-partition-partitions+then-not-makes_entry w ↦
           let (x, of, makes) = fits.line in
           let same = c.in-Some.ensures.the_record.1 x (subst (λ n. IsOfLine c.args.records.now n x) (sym c.line.ensures.line) of) in
-          let here = subst (λ (z : Played). MakesEntry c.args.pools.now c.args.partition e.act z.op) same makes in
-          both_ways _ w.if-not-makes_entry.true (w.makes_entry.ensures.1 (subst (λ act. MakesEntry c.args.pools.now c.args.partition act c.in-Some.found.op) (sym w.act.ensures.act) here))
+          let here = subst (λ (z : Played). MakesEntry c.args.pools.now c.args.partition e.act z) same makes in
+          both_ways _ w.if-not-makes_entry.true (w.makes_entry.ensures.1 (subst (λ act. MakesEntry c.args.pools.now c.args.partition act c.in-Some.found) (sym w.act.ensures.act) here))
     ]
 
 pub returns-then-not-rises-clause-walks : goal.returns-then-not-rises-clause-walks
@@ -82,7 +82,7 @@ returns-clause-walks c =
     let taken : IsTaken c.args.partitions c.args.records.now c.args.pools.now c.args.partition c.args.self.now c.index-journal-at.result c.in-Some.found = record {
       partition = omega (arith, high);
       is = subst (λ n. IsTheRecord c.args.records.now n (Some c.in-Some.found)) c.line.ensures.line c.in-Some.ensures.the_record;
-      makes = subst (λ act. MakesEntry c.args.pools.now c.args.partition act c.in-Some.found.op) c.act.ensures.act (c.makes_entry.ensures.0 c.if-not-makes_entry.false);
+      makes = subst (λ act. MakesEntry c.args.pools.now c.args.partition act c.in-Some.found) c.act.ensures.act (c.makes_entry.ensures.0 c.if-not-makes_entry.false);
       from = subst (AsksFrom c.args.self.now.least) asks (c.rises.ensures.0 c.if-not-rises.false);
       behind = c.enter.ensures.behind.0 c.if-not-enter.false;
     } in
