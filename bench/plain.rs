@@ -19,39 +19,47 @@ struct Class {
     fill: u32,
 }
 
-/// The span shape of a slot size, by the rule of 64 bytes of waste.
+/// The span shape of a slot size: the first pages that leave at most 64 bytes over, or else the first of those that leave the least part
+/// of themselves over.
 fn shape_of(slot: u32) -> (u32, u32, u32) {
-    if slot > 16_384 {
-        let system = slot / 4096;
+    if slot > PAGE {
+        let system = slot.div_ceil(4096);
         return (system.div_ceil(4), system, 1);
     }
+    let over = |system: u32| (4096 * system) % slot;
+    let mut best = (1, 4);
     for pages in 1..=4 {
         for system in (4 * pages - pages / 2..=4 * pages).rev() {
-            if (4096 * system) % slot <= 64 {
+            if over(system) <= 64 {
                 return (pages, system, 4096 * system / slot);
+            }
+            if over(system) * best.1 < over(best.1) * system {
+                best = (pages, system);
             }
         }
     }
-    unreachable!()
+    (best.0, best.1, 4096 * best.1 / slot)
 }
 
-fn classes() -> Vec<Class> {
+/// The classes of a version: four steps to each doubling in version 1, and eight in version 2.
+fn classes(version: u64) -> Vec<Class> {
+    let (steps, count) = if version == 1 { (4, 59) } else { (8, 111) };
     let mut sizes: Vec<u32> = (1..=8).map(|n| 16 * n).collect();
-    let mut step = 32;
-    while sizes.len() < 59 {
-        for _ in 0..4 {
-            if sizes.len() < 59 {
+    let mut step = 128 / steps;
+    while sizes.len() < count {
+        for _ in 0..steps {
+            if sizes.len() < count {
                 sizes.push(sizes[sizes.len() - 1] + step);
             }
         }
         step *= 2;
     }
-    let row = |(number, slot): (usize, &u32)| {
+    let row = |slot: &u32| {
         let (pages, _, slots) = shape_of(*slot);
-        let limit = [64, 32, 16, 0][(number > 7) as usize + (number > 19) as usize + (number > 39) as usize];
+        let limit = [64, 32, 16, 0][(*slot > 128) as usize + (*slot > 1024) as usize + (*slot > 32_768) as usize];
         Class { slot: *slot, pages, slots, limit, fill: (limit as u32 / 8).max(1) }
     };
-    sizes.iter().enumerate().map(row).collect()
+    sizes.iter().map(row).collect()
 }
 
 #[derive(Clone, Copy, PartialEq)]
@@ -142,6 +150,7 @@ struct Cell {
 
 struct Player {
     classes: Vec<Class>,
+    named: usize, // the number by which the text names the first of them
     partitions: usize,
     slots: Vec<Slot>,
     roots: Vec<Root>,
@@ -391,16 +400,19 @@ enum Got {
 }
 
 impl Player {
-    fn new(region: usize, partitions: usize, threads: usize) -> Player {
-        let root = || Root { active: vec![Vec::new(); 59], decommitted: vec![Vec::new(); 59], ..Root::default() };
+    fn new(version: u64, region: usize, partitions: usize, threads: usize) -> Player {
+        let classes = classes(version);
+        let lists = vec![Vec::new(); classes.len()];
+        let root = || Root { active: lists.clone(), decommitted: lists.clone(), ..Root::default() };
         Player {
-            classes: classes(),
+            named: if version == 1 { 0 } else { 59 },
             partitions,
             slots: Vec::new(),
             roots: (0..partitions).map(|_| root()).collect(),
             pool: Pool { taken: vec![None; region], entries: 0, text: Vec::new() },
             regs: vec![Reg::Empty; 64 * threads],
-            caches: vec![Vec::new(); threads * partitions * 59],
+            caches: vec![Vec::new(); threads * partitions * classes.len()],
+            classes,
             cells: (0..64).map(|_| Cell { holds: Reg::Empty, entries: 0, text: Vec::new() }).collect(),
             records: b"run 1\n".to_vec(),
             report: Vec::new(),
@@ -427,7 +439,7 @@ impl Player {
         let journal_at = root.head(partition, line);
         let Some(at) = at else {
             root.journal.extend_from_slice(b" full");
-            spaced(&mut root.journal, class as u64);
+            spaced(&mut root.journal, (self.named + class) as u64);
             spaced(&mut root.journal, u64::from(asked.unwrap()));
             root.journal.push(b'\n');
             return Got::Full(journal_at);
@@ -440,7 +452,7 @@ impl Player {
             }
         }
         root.journal.extend_from_slice(b" fill");
-        spaced(&mut root.journal, class as u64);
+        spaced(&mut root.journal, (self.named + class) as u64);
         match asked {
             Some(entry) => spaced(&mut root.journal, u64::from(entry)),
             None => root.journal.extend_from_slice(b" -"),
@@ -492,7 +504,7 @@ impl Player {
     }
 
     fn cache(&mut self, thread: usize, partition: usize, class: usize) -> usize {
-        (thread * self.partitions + partition) * 59 + class
+        (thread * self.partitions + partition) * self.classes.len() + class
     }
 
     /// A slot came back by the last step on it.
@@ -555,7 +567,7 @@ impl Player {
         }
         let raw = size.max(1) + 8;
         let class = self.classes.partition_point(|c| u64::from(c.slot) < raw);
-        let slot = if class == 59 {
+        let slot = if class == self.classes.len() {
             match self.map(line, partition, size) {
                 Got::Slots(got) => got[0],
                 Got::Full(j) => return self.full(line, thread, j),
@@ -726,7 +738,7 @@ impl Player {
     fn purge(&mut self, line: u32, thread: usize) {
         let mut given = 0;
         for partition in 0..self.partitions {
-            for class in 0..59 {
+            for class in 0..self.classes.len() {
                 let at = self.cache(thread, partition, class);
                 let slots: Vec<u32> = self.caches[at].drain(..).rev().collect();
                 for s in &slots {
@@ -803,7 +815,8 @@ fn main() {
     std::io::stdin().read_to_end(&mut text).unwrap();
     let mut lines = text.strip_suffix(b"\n").unwrap_or(&text).split(|b| *b == b'\n');
     let head: Vec<&[u8]> = lines.next().unwrap().split(|b| *b == b' ').collect();
-    let mut player = Player::new(plain(head[3], 0) as usize, plain(head[5], 0) as usize, plain(head[7], 0) as usize);
+    let count = |word: usize| plain(head[word], 0) as usize;
+    let mut player = Player::new(plain(head[1], 0), count(3), count(5), count(7));
     let mut phase = 1;
     let mut words: Vec<&[u8]> = Vec::with_capacity(8);
     for (i, line) in lines.enumerate() {

@@ -5,16 +5,18 @@ from bisect import bisect_left
 from collections import defaultdict
 
 from figures import DIRECT, new_rows
-from placement import ACTIVE, DECOMMITTED, EMPTY, FULL, PARTITION_PAGE, SIZES, SUPER_PAGE, SYSTEM_PAGE, Pool, Root
+from placement import ACTIVE, DECOMMITTED, EMPTY, FULL, PARTITION_PAGE, SIZES, SUPER_PAGE, SYSTEM_PAGE, Pool, Root, slot_sizes
 
 ALLOCATE, FREE, RESIZE = range(3)
 COUNT_WORD = 8
 GREATEST = 33_521_656
+SPARSE = slot_sizes(1)
 
 
 def size_class(size):
-    """The class of a request, or `DIRECT`."""
-    return bisect_left(SIZES, max(size, 1) + COUNT_WORD)
+    """The class of a request in version 1, or `DIRECT`."""
+    number = bisect_left(SPARSE, max(size, 1) + COUNT_WORD)
+    return number if number < len(SPARSE) else DIRECT
 
 
 def slot_size(size):

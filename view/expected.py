@@ -10,7 +10,8 @@ BAD, LIMIT = "bad line", "limit at line"
 
 MOST_LINES, MOST_BYTES, MOST_AUDITED = 65_536, 4_194_304, 134_217_728
 
-HEAD = "trace 1 region N partitions P threads T"
+HEAD = "trace V region N partitions P threads T"
+VERSIONS = ("1", "2")
 OPS = {
     "A": "T A rI pJ SIZE",
     "C": "T C rI rJ",
@@ -145,7 +146,7 @@ def in_limits(matched, head):
 def bounds(name, head):
     """The least and the greatest value of a number in a trace, and where that comes from."""
     if name in ("N", "P", "T"):
-        return 1, {"N": 16, "P": 4, "T": 16}[name], ""
+        return 1, {"N": 16 if head["V"] == "1" else 64, "P": 4, "T": 16}[name], ""
     if name in ("thread", "partition"):
         count = int(head["T" if name == "thread" else "P"])
         return 0, count - 1, f": the head has {name}s {count}"
@@ -322,6 +323,10 @@ def field(due, column, text, form):
         return word(due, column, text, form)
     if due.startswith("SLOT") and not due.startswith("SLOTS"):
         return slot(due, column, text, form)
+    if due == "V":
+        if text not in VERSIONS:
+            raise Refused(column, f"{shown(text)} is no version", f"{' or '.join(VERSIONS)}, in {form}")
+        return [("V", column, text)]
     before, name = (due[0], due[1:]) if due[0].islower() else ("", due)
     if not text.startswith(before):
         raise Refused(column, f"{shown(text)} has no `{before}` in front", f"{due}, in {form}")

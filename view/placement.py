@@ -1,33 +1,38 @@
 """The placement, by the rules that docs/DEFINITIONS.md lists rule by rule: the pool of super pages and the root of each
 partition. What the journals of a run name is what these rules give, or the text is no run."""
 
+from fractions import Fraction
+
 SYSTEM_PAGE, PARTITION_PAGE, SUPER_PAGE = 4096, 16384, 2097152
-LARGEST_CLASS = 917504
+LARGEST_CLASS = {1: 917504, 2: 983040}
 MOST_EMPTY = 16
 STATES = NONE, ACTIVE, EMPTY, DECOMMITTED, FULL = range(5)
 
 
-def slot_sizes():
-    """The slot sizes of the 59 classes: eight steps of 16 bytes, and then four steps to each doubling."""
+def slot_sizes(version):
+    """The slot sizes of a version's classes: eight steps of 16 bytes, and then four steps to each doubling in version 1, and eight in
+    version 2."""
+    steps = 4 if version == 1 else 8
     sizes = list(range(16, 129, 16))
-    while sizes[-1] < LARGEST_CLASS:
-        sizes += [doubled // 4 * step for doubled in sizes[-1:] for step in range(5, 9)]
-    return sizes[: sizes.index(LARGEST_CLASS) + 1]
+    while sizes[-1] < LARGEST_CLASS[version]:
+        sizes += [doubled // steps * step for doubled in sizes[-1:] for step in range(steps + 1, 2 * steps + 1)]
+    return sizes[: sizes.index(LARGEST_CLASS[version]) + 1]
 
 
 def span_shape(size):
-    """Partition pages, system pages and slots of a span: the first pair of pages that leaves at most 64 bytes over."""
+    """Partition pages, system pages and slots of a span: the first pair of pages that leaves at most 64 bytes over, else the first of
+    those that leave the least part of themselves over."""
     if size > PARTITION_PAGE:
-        system = size // SYSTEM_PAGE
+        system = -(-size // SYSTEM_PAGE)
         return -(-system // 4), system, 1
-    for pages in range(1, 5):
-        for system in range(4 * pages, 4 * pages - pages // 2 - 1, -1):
-            if SYSTEM_PAGE * system % size <= 64:
-                return pages, system, SYSTEM_PAGE * system // size
-    raise ValueError(size)
+    pairs = [(pages, system) for pages in range(1, 5) for system in range(4 * pages, 4 * pages - pages // 2 - 1, -1)]
+    tight = [pair for pair in pairs if SYSTEM_PAGE * pair[1] % size <= 64]
+    pages, system = tight[0] if tight else min(pairs, key=lambda pair: Fraction(SYSTEM_PAGE * pair[1] % size, pair[1]))
+    return pages, system, SYSTEM_PAGE * system // size
 
 
-SIZES = slot_sizes()
+# The classes of version 1, and then those of version 2.
+SIZES = slot_sizes(1) + slot_sizes(2)
 SHAPES = [span_shape(size) for size in SIZES]
 
 

@@ -5,7 +5,7 @@ from collections import namedtuple
 
 from expected import first_fault
 
-Trace = namedtuple("Trace", "region partitions threads lines")
+Trace = namedtuple("Trace", "version region partitions threads lines")
 Op = namedtuple("Op", "thread name fields")
 Record = namedtuple("Record", "line thread answer fields given")
 RootEntry = namedtuple("RootEntry", "line act size_class pool slots len")
@@ -19,7 +19,8 @@ SLOT = rf"[0-9a-f]{{8}}\.{NUMBER}"
 WORD = "[0-9a-f]{16}"
 HELD = f"(?:-|(?:own|ref):{SLOT})"
 
-HEAD = re.compile(f"trace 1 region ({NUMBER}) partitions ({NUMBER}) threads ({NUMBER})")
+HEAD = re.compile(f"trace ([12]) region ({NUMBER}) partitions ({NUMBER}) threads ({NUMBER})")
+MOST_SUPER_PAGES = {1: 16, 2: 64}
 OPS = {
     name: re.compile(f"({NUMBER}) {name}{fields}")
     for name, fields in {
@@ -98,12 +99,12 @@ def read_both(text):
 def read_trace(lines):
     head = HEAD.fullmatch(lines[0]) if lines else None
     if head is None:
-        raise NoRun(1, "the head of a trace belongs here: `trace 1 region N partitions P threads T`")
-    region, partitions, threads = map(int, head.groups())
-    if not (1 <= region <= 16 and 1 <= partitions <= 4 and 1 <= threads <= 16):
+        raise NoRun(1, "the head of a trace belongs here: `trace V region N partitions P threads T`")
+    version, region, partitions, threads = map(int, head.groups())
+    if not (1 <= region <= MOST_SUPER_PAGES[version] and 1 <= partitions <= 4 and 1 <= threads <= 16):
         raise NoRun(1, "a number of the head passes its limit")
     ops = [None, *(read_op(line, n, partitions, threads) for n, line in enumerate(lines[1:], 2))]
-    return Trace(region, partitions, threads, ops)
+    return Trace(version, region, partitions, threads, ops)
 
 
 def read_op(line, n, partitions, threads):
@@ -196,7 +197,7 @@ def root_entry(line, act, rest):
         return None
     if act == "fill":
         size_class, pool, slots = found.groups()
-        if int(size_class) > 58:
+        if int(size_class) > 169:
             return None
         return RootEntry(line, act, int(size_class), None if pool == "-" else int(pool), numbered(slots), None)
     if act == "map":

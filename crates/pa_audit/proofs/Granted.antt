@@ -11,9 +11,10 @@ use Rattle.pa_slot.specs.declared.word.SlotName.{SlotName}
 use Rattle.pa_trace.specs.declared.script.Trace.{Trace}
 use Rattle.pa_trace.specs.Limits.{IsWithinLimits}
 use Rattle.pa_trace.specs.Rules.{rules_of}
+use Rattle.pa_trace.proofs.Versions.{region_most}
 use Rattle.pa_trace.specs.declared.script.Rules.{Rules}
 use Rattle.pa_rules.proofs.Ruling.{told_version, record_rules}
-use Rattle.pa_rules.proofs.Versions.{real_first}
+use Rattle.pa_rules.specs.Sizes.{HasClass}
 use Rattle.pa_record.specs.declared.run.Run.{Run}
 use Rattle.pa_record.specs.RunText.{history_of, journal_of}
 use Rattle.pa_rules.specs.declared.played.Played.{Played}
@@ -21,8 +22,7 @@ use Rattle.pa_rules.specs.declared.verdict.Clause.TheVariants as clauses
 use Rattle.pa_rules.specs.declared.verdict.Place.TheVariants as places
 use Rattle.pa_rules.specs.Played.{AreDue, AreLines, beside, op_lines}
 use Rattle.pa_rules.specs.Told.{records_of, told_by}
-use Rattle.pa_rules.specs.RecordDemands.{CellsDemand, RegistersDemand, SlotsDemand}
-use Rattle.pa_rules.specs.Sizes.{usable_of}
+use Rattle.pa_rules.specs.RecordDemands.{CellsDemand, SlotsDemand}
 use Rattle.pa_rules.specs.Verdicts.{Holds}
 use Rattle.pa_rules.proofs.Recorded.{records_are_lines}
 use Rattle.pa_rules.proofs.Within.{records_within}
@@ -33,6 +33,7 @@ use Rattle.pa_verdict.proofs.Journals.{roots_are_places}
 use Rattle.pa_audit_records.specs.Rows.{IsPlayedWithin}
 use Rattle.pa_audit_records.proofs.Rising.{phased_played, records_are_within}
 use Rattle.pa_audit_records.specs.Cuts.{RiseByPhase}
+use Rattle.pa_audit_order.specs.Given.{MeetRegisters}
 use Rattle.pa_audit_heap.specs.Ordered.{AreOfThreads16}
 use Rattle.pa_audit_heap.specs.Replayed.{DoAllFit}
 use Rattle.pa_audit_heap.proofs.Rising.{due_have_lines}
@@ -57,11 +58,8 @@ are_due t r holds = (lines_are_places t (told_by r)).1 holds
 pub of_threads : (t : Trace) (r : Run) (ps : List Played) → AreRecordsOf t r ps → IsWithinLimits t → Holds clauses.Lines t r → AreOfThreads16 ps
 of_threads t r ps same limits holds = subst AreOfThreads16 (sym same) (due_have_lines.threads t (told_by r) limits (are_due t r holds))
 
-pub registers_held : (t : Trace) (r : Run) (ps : List Played) → AreRecordsOf t r ps → IsWithinLimits t → Holds clauses.Registers t r
-    → (i : ℕ) → RegistersDemand (usable_of 1) (history_of r) ps (places.Record i)
-registers_held t r ps same limits holds i =
-    subst (λ qs. RegistersDemand (usable_of 1) (history_of r) qs (places.Record i)) (sym same)
-    (subst (λ v. RegistersDemand (usable_of v) (history_of r) (records_of t (told_by r)) (places.Record i)) limits.version (holds (places.Record i)))
+pub registers_held : (t : Trace) (r : Run) (ps : List Played) → AreRecordsOf t r ps → Holds clauses.Registers t r → MeetRegisters t.version (history_of r) ps
+registers_held t r ps same holds = subst (MeetRegisters t.version (history_of r)) (sym same) (λ i. holds (places.Record i))
 
 pub slots_held : (t : Trace) (r : Run) (ps : List Played) → AreRecordsOf t r ps → Holds clauses.Slots t r → (i : ℕ) → SlotsDemand ps (places.Record i)
 slots_held t r ps same holds i = subst (λ qs. SlotsDemand qs (places.Record i)) (sym same) (holds (places.Record i))
@@ -72,29 +70,32 @@ swaps_held t r ps same holds i = subst (λ qs. CellsDemand (history_of r) qs (pl
 pub exchanges_held : (t : Trace) (r : Run) (ps : List Played) → AreRecordsOf t r ps → Holds clauses.Cells t r → (k j : ℕ) → CellsDemand (history_of r) ps (places.Cell k j)
 exchanges_held t r ps same holds k j = subst (λ qs. CellsDemand (history_of r) qs (places.Cell k j)) (sym same) (holds (places.Cell k j))
 
-pub all_of_threads : (t : Trace) (r : Run) (ps : List Played) → AreRecordsOf t r ps → IsWithinLimits t → Holds clauses.Lines t r → All IsOfThreads ps
+pub all_of_threads : (t : Trace) (r : Run) (ps : List Played) → AreRecordsOf t r ps → IsWithinLimits t → Holds clauses.Lines t r → All (IsOfThreads t.version) ps
 all_of_threads t r ps same limits holds k d below =
     let lines = subst (λ qs. AreLines (rules_of t) t.lines qs) (sym same) (records_are_lines.lines (rules_of t) t.lines r.entries.items (are_due t r holds)) in
     let (thread, op) = records_within t ps (get_or ps k d) limits lines (Contains-get_or ps k d below) in
     let few = limits.head.2 in (
       omega (arith, few, thread),
       names_within t.partitions (get_or ps k d).op limits.head.1.1 op,
-      ap (λ (z : Rules). z.version) (record_rules (rules_of t) t.lines ps (get_or ps k d) lines (Contains-get_or ps k d below)) ∙ limits.version,
+      ap (λ (z : Rules). z.version) (record_rules (rules_of t) t.lines ps (get_or ps k d) lines (Contains-get_or ps k d below)),
     )
 
 -- ---- the pool and the journals
 
+pub region_few : (t : Trace) → IsWithinLimits t → t.region ≤ 64
+region_few t limits = let most = region_most t.version in let region = limits.head.0.1 in omega (arith, region, most)
+
 pub pool_fits : (t : Trace) (r : Run) → Holds clauses.Pool t r → DoAllFit t.region r.pool.items
 pool_fits t r holds j e at = (holds (places.Pool j) e at).fits
 
-pub homes_held : (t : Trace) (r : Run) → IsWithinLimits t → Holds clauses.Lines t r → Holds clauses.Pool t r → Holds clauses.Roots t r → (s : SlotName) → HasOneHome (journal_of r) s
-homes_held t r limits lines pool roots s =
+pub homes_held : (t : Trace) (r : Run) → Holds clauses.Lines t r → Holds clauses.Pool t r → Holds clauses.Roots t r → (s : SlotName) → HasOneHome t.version (journal_of r) s
+homes_held t r lines pool roots s =
     let u = told_by r in
     let due = are_due t r lines in
     let kind = one_kind t.region t.partitions (records_of t u) u.pools u.roots s ((roots_are_places t u due).1 roots) ((pool_is_places t u due).1 pool) in
     record {
       class = kind.class;
-      real = λ p c of. let (x, among, has) = kind.real p c of in real_first x.rules.version c (told_version t u x limits among) has;
+      real = λ p c of. let (x, among, has) = kind.real p c of in subst (λ v. HasClass v c) (told_version t u x among) has;
       direct = kind.direct;
       either = kind.either;
     }

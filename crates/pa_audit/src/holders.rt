@@ -49,7 +49,14 @@ pub fn caches_fail(
 {
     let homes = homes_of(alloc, salt, run.roots())?;
     let found = {
-        let books = Books::of(alloc, trace.partitions, records, run.roots(), &homes)?;
+        let books = Books::of(
+            alloc,
+            trace.version,
+            trace.partitions,
+            records,
+            run.roots(),
+            &homes,
+        )?;
         caches_meet(alloc, &books, trace.threads, known.ends.as_slice())?
     };
     known.homes = homes;

@@ -43,7 +43,7 @@ pub fn registers_fail(
     ensures { IfOk result (TellsLine clauses.Registers trace.now run.now) }
 {
     records_are_within();
-    let at = registers_meet(alloc, salt, records, run.cells())?;
+    let at = registers_meet(alloc, salt, trace.version, records, run.cells())?;
     Ok(record_line(at))
 }
 

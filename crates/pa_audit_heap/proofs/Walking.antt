@@ -68,7 +68,8 @@ pub walked_next : (supers partitions phases : ℕ) (ps : List Played) (pools : L
 walked_next supers partitions phases ps pools es p j w next e x few h at t order filled played least bound =
     let lines = map (λ (f : RootEntry). f.line) es in
     let later = t.behind.phase in
-    let counted = counted_filled phases ps pools (take j es) w.order.phase x.phase (min phases (x.phase - 1)) w.censuses next.censuses (census w.replay.root) h.counted filled (ap census h.replayed.root) later refl in
+    let counted = counted_filled phases ps pools (take j es) w.order.phase x.phase (min phases (x.phase - 1)) w.censuses next.censuses
+    (census w.replay.root) h.counted filled (ap census h.replayed.root) later refl in
     let more = counted_more phases ps pools (take j es) e x next.censuses counted t.is.0 in
     record {
       seen = subst (HasSeen ps lines (j + 1)) (sym order) (order_enters ps lines j e.line w.order x few h.seen (at_map (λ (f : RootEntry). f.line) es j e at) t.is t.behind);

@@ -29,8 +29,8 @@ use Rattle.pa_lists.proofs.Indexed.{none_past, here_is}
 use Rattle.pa_lists.proofs.Tests.{met_more}
 
 -- every slot of the journals has one kind
-abbrev pub HaveOneKind : Journals → Type 0
-HaveOneKind roots = (s : SlotName) → HasOneHome roots s
+abbrev pub HaveOneKind : ℕ → Journals → Type 0
+HaveOneKind version roots = (s : SlotName) → HasOneHome version roots s
 
 -- ---- a row leads to one thread's lists
 
@@ -75,7 +75,7 @@ full_one roots x cache next other (inr (p, size, i, asks, only, becomes)) (inl (
 full_one roots x cache next other (inr (p, size, i, asks, only, becomes)) (inr (q, size', j, asks', only', becomes')) = one_becomes next other cache becomes becomes'
 
 -- a slot came back
-back_one : (roots : Journals) (x : Played) (slot : Numbered) (cache next other : Cache) → HasOneHome roots slot.slot
+back_one : {version : ℕ} (roots : Journals) (x : Played) (slot : Numbered) (cache next other : Cache) → HasOneHome version roots slot.slot
     → ReturnRow roots x slot cache next → ReturnRow roots x slot cache other → next ≡ other
 back_one roots x slot cache next other kind (inl (p, class, of, only, becomes)) (inl (q, class', of', only', becomes')) =
     let (e, f) = kind.class p q class class' of of' in
@@ -86,7 +86,7 @@ back_one roots x slot cache next other kind (inl (p, class, of, only, becomes)) 
 back_one roots x slot cache next other kind (inr (p, i, number, direct, only, becomes)) (inl (q, class, of, only', becomes')) = absurd (kind.either q p class of direct)
 back_one roots x slot cache next other kind (inr (p, i, number, direct, only, becomes)) (inr (q, j, number', direct', only', becomes')) = one_becomes next other cache becomes becomes'
 
-done_one : (roots : Journals) (x : Played) (o : Option Step) (seen : Seen) (cache next other : Cache) → HaveOneKind roots
+done_one : {version : ℕ} (roots : Journals) (x : Played) (o : Option Step) (seen : Seen) (cache next other : Cache) → HaveOneKind version roots
     → DoneRow roots x o seen cache next → DoneRow roots x o seen cache other → next ≡ other
 done_one roots x None seen cache next other kinds (none, becomes) (none', becomes') = one_becomes next other cache becomes becomes'
 done_one roots x (Some step) seen cache next other kinds (inl (returns, row)) (inl (returns', row')) =
@@ -98,7 +98,7 @@ done_one roots x (Some step) seen cache next other kinds (inr (not, none, become
 quiet_one : (roots : Journals) (x : Played) (cache next other : Cache) → NoActs roots x.line × SameLists next cache → NoActs roots x.line × SameLists other cache → next ≡ other
 quiet_one roots x cache next other (none, becomes) (none', becomes') = one_becomes next other cache becomes becomes'
 
-pub row_one : (partitions : ℕ) (roots : Journals) (x : Played) (a : Answer) (cache next other : Cache) → HaveOneKind roots
+pub row_one : {version : ℕ} (partitions : ℕ) (roots : Journals) (x : Played) (a : Answer) (cache next other : Cache) → HaveOneKind version roots
     → CacheRow partitions roots x a cache next → CacheRow partitions roots x a cache other → next ≡ other
 row_one partitions roots x (answers.Made seen usable) cache next other kinds row row' = made_one roots x seen cache next other row row'
 row_one partitions roots x (answers.Done seen) cache next other kinds row row' = done_one roots x (step_of x.op) seen cache next other kinds row row'
@@ -109,7 +109,7 @@ row_one partitions roots x a cache next other kinds row row' = quiet_one roots x
 -- ---- the walk
 
 -- the lists that records lead to are one
-pub caches_one : (partitions : ℕ) (roots : Journals) (all after other : Caches) (ps : List Played) → HaveOneKind roots
+pub caches_one : {version : ℕ} (partitions : ℕ) (roots : Journals) (all after other : Caches) (ps : List Played) → HaveOneKind version roots
     → CachesTo partitions roots all ps after → CachesTo partitions roots all ps other → after ≡ other
 caches_one partitions roots all after other [] kinds h k = h ∙ sym k
 caches_one partitions roots all after other (x ∷ ps) kinds (next, row, more) (next', row', more') =
@@ -119,7 +119,8 @@ caches_one partitions roots all after other (x ∷ ps) kinds (next, row, more) (
 pub caches_start : (partitions : ℕ) (roots : Journals) (ps : List Played) (all : Caches) → all ≡ no_caches → CachesSoFar partitions roots ps all 0
 caches_start partitions roots ps all none = record { met = λ j below. absurd (omega (arith, below)); led = none }
 
-pub caches_not : (partitions : ℕ) (roots : Journals) (ps : List Played) (all after : Caches) (i : ℕ) (d : Played) (b : Bool) → HaveOneKind roots → i < length ps → CachesSoFar partitions roots ps all i
+pub caches_not : {version : ℕ} (partitions : ℕ) (roots : Journals) (ps : List Played) (all after : Caches) (i : ℕ) (d : Played) (b : Bool)
+    → HaveOneKind version roots → i < length ps → CachesSoFar partitions roots ps all i
     → TellsNext partitions roots (get_or ps i d) all after b → b ≡ false
     → TellsFirst (λ k. CachesDemand partitions roots ps (places.Record k)) (Some i)
 caches_not partitions roots ps all after i d b kinds below h told misfits =

@@ -64,7 +64,8 @@ strip_short acts at xs from to next h below is past rest e =
     let none : drop next acts ≡ [] = drop_past acts next past in
     cc
 
-pub strip_other : (acts : List RootAct) (at : ℕ) (xs : List Numbered) (from to next : ℕ) (act : RootAct) → IsStripped acts at xs from next → from < length xs → to ≡ min (length xs) (from + 16) → next < length acts
+pub strip_other : (acts : List RootAct) (at : ℕ) (xs : List Numbered) (from to next : ℕ) (act : RootAct) → IsStripped acts at xs from next
+    → from < length xs → to ≡ min (length xs) (from + 16) → next < length acts
     → get_or acts next Purge ≡ act → (act ≡ Give (take (to - from) (drop from xs)) → ⊥) → TellsGives acts at xs None
 strip_other acts at xs from to next act h below is within here other rest e =
     let one = strip_cons acts at xs from to next rest h below is e in
@@ -72,7 +73,8 @@ strip_other acts at xs from to next act h below is within here other rest e =
     let same : ◌≡◌ {A = List RootAct} (get_or acts next Purge ∷ drop (next + 1) acts) (Give (take (to - from) (drop from xs)) ∷ gives (drop to xs) ++ rest) = sym two ∙ one in
     other (sym here ∙ cc same)
 
-pub strip_more : (acts : List RootAct) (at : ℕ) (xs : List Numbered) (from to next : ℕ) (act : RootAct) → IsStripped acts at xs from next → from < length xs → to ≡ min (length xs) (from + 16) → next < length acts
+pub strip_more : (acts : List RootAct) (at : ℕ) (xs : List Numbered) (from to next : ℕ) (act : RootAct) → IsStripped acts at xs from next
+    → from < length xs → to ≡ min (length xs) (from + 16) → next < length acts
     → get_or acts next Purge ≡ act → act ≡ Give (take (to - from) (drop from xs)) → IsStripped acts at xs to (next + 1)
 strip_more acts at xs from to next act h below is within here same =
     let first = Give (take (to - from) (drop from xs)) in

@@ -36,7 +36,8 @@ last_of es e i x at = elim (cases_lt i (length es)) [
 unmapped_later : (es : List RootEntry) (e : RootEntry) (s : SlotName) (n : ℕ) → IsUnmapped es s n → IsUnmapped (es ++ e ∷ []) s n
 unmapped_later es e s n (i, asked, x, at, is) = (i, asked, x, slice_get_more es (e ∷ []) i x at, is)
 
-unmapped_cases : (es : List RootEntry) (e : RootEntry) (s : SlotName) (n : ℕ) → IsUnmapped (es ++ e ∷ []) s n → IsUnmapped es s n ⊎ ((asked : ℕ) × (e.act ≡ Unmap asked (record { slot = s; number = n })))
+unmapped_cases : (es : List RootEntry) (e : RootEntry) (s : SlotName) (n : ℕ) → IsUnmapped (es ++ e ∷ []) s n → IsUnmapped es s n
+    ⊎ ((asked : ℕ) × (e.act ≡ Unmap asked (record { slot = s; number = n })))
 unmapped_cases es e s n (i, asked, x, at, is) = elim (last_of es e i x at) [
   | inl before ↦ inl (i, asked, x, before, is)
   | inr same ↦ inr (asked, ap (λ (z : RootEntry). z.act) same ∙ is)
@@ -65,7 +66,8 @@ record IsLeast (es : List RootEntry) (slot : Numbered) (least : ℕ) : Type 0 wh
   low : least ≤ slot.number
   below : (n : ℕ) → IsUnmapped es slot.slot n → least ≤ n
 
-least_is : (es : List RootEntry) (f : ℕ → Option ℕ) (slot : Numbered) (o : Option ℕ) → slot.slot.start < 4294967296 → f (name_key slot.slot) ≡ o → HasGone es f → IsLeast es slot (lesser_of o slot.number)
+least_is : (es : List RootEntry) (f : ℕ → Option ℕ) (slot : Numbered) (o : Option ℕ) → slot.slot.start < 4294967296
+    → f (name_key slot.slot) ≡ o → HasGone es f → IsLeast es slot (lesser_of o slot.number)
 least_is es f slot None low at h = record { among = inr refl; low = omega arith; below = λ n gone. absurd (h.miss slot.slot n low at gone) }
 least_is es f slot (Some k) low at h = elim (cases_lt slot.number k) [
   | inl less ↦
@@ -73,7 +75,11 @@ least_is es f slot (Some k) low at h = elim (cases_lt slot.number k) [
       record { among = inr is; low = omega arith; below = λ n gone. let down = h.least slot.slot k n low at gone in omega (arith, down) }
   | inr most ↦
       let is : min k slot.number ≡ k = omega (arith, most) in
-      record { among = inl (subst (λ z. IsUnmapped es slot.slot z) (sym is) (h.hit slot.slot k low at)); low = omega arith; below = λ n gone. let down = h.least slot.slot k n low at gone in omega (arith, down) }
+      record {
+        among = inl (subst (λ z. IsUnmapped es slot.slot z) (sym is) (h.hit slot.slot k low at));
+        low = omega arith;
+        below = λ n gone. let down = h.least slot.slot k n low at gone in omega (arith, down);
+      }
 ]
 
 -- an entry that takes a slot away leaves the lesser of its number and the one that the table had
@@ -148,7 +154,8 @@ none_next f slots j d below h here before known i n d' less gone = elim (cases_l
 ]
 
 -- none of the slots that an entry moves is gone exactly if it names none that is
-pub names_none : (es : List RootEntry) (e : RootEntry) (line : ℕ) (course : Course) (slots : List Numbered) → moves_by e.line e.act ≡ map (move_on line course) slots → NoneGone es slots ↔ NamesNoneGone es e
+pub names_none : (es : List RootEntry) (e : RootEntry) (line : ℕ) (course : Course) (slots : List Numbered)
+    → moves_by e.line e.act ≡ map (move_on line course) slots → NoneGone es slots ↔ NamesNoneGone es e
 names_none es e line course slots is = (
   λ none s n (m, (i, below, at), same) gone.
       let f = move_on line course in

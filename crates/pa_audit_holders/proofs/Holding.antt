@@ -36,7 +36,8 @@ abbrev OwnerIn : List Played → Journals → SlotName → ℕ → ℕ → Optio
 OwnerIn ps roots s k n None = moves_at (roots n) s k ≡ []
 OwnerIn ps roots s k n (Some o) = TellsOwner ps (moves_at (roots n) s k) s k o × (moves_at (roots n) s k ≡ [] → ⊥)
 
-owner_in : (ps : List Played) (roots : Journals) (s : SlotName) (k n : ℕ) (f : ℕ → Option Owner) (o : Option Owner) → IsSized s k → HasOwners ps (all_moves (roots n)) f → f (word_key s k) ≡ o → OwnerIn ps roots s k n o
+owner_in : (ps : List Played) (roots : Journals) (s : SlotName) (k n : ℕ) (f : ℕ → Option Owner) (o : Option Owner) → IsSized s k
+    → HasOwners ps (all_moves (roots n)) f → f (word_key s k) ≡ o → OwnerIn ps roots s k n o
 owner_in ps roots s k n f None sized h at = h.miss s k sized at
 owner_in ps roots s k n f (Some o) sized h at = h.hit s k o sized at
 
@@ -46,7 +47,8 @@ below_next n P before here q less = elim (cases_lt q n) [
   | inr least ↦ let same : n ≡ q = omega (arith, less, least) in subst P same here
 ]
 
-next_by : (ps : List Played) (roots : Journals) (s : SlotName) (k n : ℕ) (found o : Option Owner) → FoundSoFar ps roots s k n found → OwnerIn ps roots s k n o → (IsSome found × IsSome o → ⊥) → FoundSoFar ps roots s k (n + 1) (either_of found o)
+next_by : (ps : List Played) (roots : Journals) (s : SlotName) (k n : ℕ) (found o : Option Owner) → FoundSoFar ps roots s k n found
+    → OwnerIn ps roots s k n o → (IsSome found × IsSome o → ⊥) → FoundSoFar ps roots s k (n + 1) (either_of found o)
 next_by ps roots s k n None None h here one = below_next n (λ q. moves_at (roots q) s k ≡ []) h here
 next_by ps roots s k n None (Some o) h (owner, some) one = record {
   partition = n;
@@ -66,11 +68,13 @@ next_by ps roots s k n (Some f) None h here one =
     }
 next_by ps roots s k n (Some f) (Some o) h here one = absurd (one (refl, refl))
 
-pub found_next : (ps : List Played) (roots : Journals) (s : SlotName) (k n : ℕ) (f : ℕ → Option Owner) (found : Option Owner) → IsSized s k → HasOwners ps (all_moves (roots n)) f → FoundSoFar ps roots s k n found →
+pub found_next : (ps : List Played) (roots : Journals) (s : SlotName) (k n : ℕ) (f : ℕ → Option Owner) (found : Option Owner)
+    → IsSized s k → HasOwners ps (all_moves (roots n)) f → FoundSoFar ps roots s k n found →
     (IsSome found × IsSome (f (word_key s k)) → ⊥) → FoundSoFar ps roots s k (n + 1) (either_of found (f (word_key s k)))
 found_next ps roots s k n f found sized own h one = next_by ps roots s k n found (f (word_key s k)) h (owner_in ps roots s k n f (f (word_key s k)) sized own refl) one
 
-two_by : (ps : List Played) (roots : Journals) (s : SlotName) (k n : ℕ) (found o : Option Owner) → FoundSoFar ps roots s k n found → OwnerIn ps roots s k n o → IsSome found × IsSome o → (last : Holder) → IsHeld ps roots s k last → ⊥
+two_by : (ps : List Played) (roots : Journals) (s : SlotName) (k n : ℕ) (found o : Option Owner) → FoundSoFar ps roots s k n found
+    → OwnerIn ps roots s k n o → IsSome found × IsSome o → (last : Holder) → IsHeld ps roots s k last → ⊥
 two_by ps roots s k n None o h here (a, b) last held = absurd (false≢true a)
 two_by ps roots s k n (Some f) None h here (a, b) last held = absurd (false≢true b)
 two_by ps roots s k n (Some f) (Some o) h here two last (p, holder, others, first, after) =
@@ -81,20 +85,24 @@ two_by ps roots s k n (Some f) (Some o) h here two last (p, holder, others, firs
     ]
 
 -- two journals name it
-pub found_two : (ps : List Played) (roots : Journals) (s : SlotName) (k n : ℕ) (f : ℕ → Option Owner) (found : Option Owner) → IsSized s k → HasOwners ps (all_moves (roots n)) f → FoundSoFar ps roots s k n found →
+pub found_two : (ps : List Played) (roots : Journals) (s : SlotName) (k n : ℕ) (f : ℕ → Option Owner) (found : Option Owner) → IsSized s k
+    → HasOwners ps (all_moves (roots n)) f → FoundSoFar ps roots s k n found →
     IsSome found × IsSome (f (word_key s k)) → TellsHeld ps roots s k Nobody
 found_two ps roots s k n f found sized own h two = two_by ps roots s k n found (f (word_key s k)) h (owner_in ps roots s k n f (f (word_key s k)) sized own refl) two
 
 -- ---- after all
 
 -- no other journal than this one names it
-held_in : (ps : List Played) (roots : Journals) (s : SlotName) (k p : ℕ) (o : Owner) → ((q : ℕ) → (q ≡ p → ⊥) → moves_at (roots q) s k ≡ []) → ((last : Holder) → IsHeld ps roots s k last → HolderNow ps (moves_at (roots p) s k) s k last) →
+held_in : (ps : List Played) (roots : Journals) (s : SlotName) (k p : ℕ) (o : Owner)
+    → ((q : ℕ) → (q ≡ p → ⊥) → moves_at (roots q) s k ≡ []) →
+    ((last : Holder) → IsHeld ps roots s k last → HolderNow ps (moves_at (roots p) s k) s k last) →
     TellsOwner ps (moves_at (roots p) s k) s k o → TellsHeld ps roots s k o
 held_in ps roots s k p Nobody others only none = λ last held. none last (only last held)
 held_in ps roots s k p Root others only (h, first, after) = (p, h, others, first, after)
 held_in ps roots s k p (Thread t) others only (h, first, after) = (p, h, others, first, after)
 
-pub held_found : (ps : List Played) (roots : Journals) (s : SlotName) (k n : ℕ) (o : Owner) → ((q : ℕ) → n ≤ q → moves_at (roots q) s k ≡ []) → FoundSoFar ps roots s k n (Some o) → TellsHeld ps roots s k o
+pub held_found : (ps : List Played) (roots : Journals) (s : SlotName) (k n : ℕ) (o : Owner)
+    → ((q : ℕ) → n ≤ q → moves_at (roots q) s k ≡ []) → FoundSoFar ps roots s k n (Some o) → TellsHeld ps roots s k o
 held_found ps roots s k n o past h = held_in ps roots s k h.partition o
     (λ q other. elim (cases_lt q n) [ inl less ↦ h.others q less other | inr more ↦ past q more ])
     (λ last (p, holder, others, first, after). elim (cases_eq h.partition p) [
@@ -103,7 +111,8 @@ held_found ps roots s k n o past h = held_in ps roots s k h.partition o
     ])
     h.owner
 
-pub held_first : (ps : List Played) (roots : Journals) (s : SlotName) (k n : ℕ) (o : Owner) → ((q : ℕ) → n ≤ q → moves_at (roots q) s k ≡ []) → FoundSoFar ps roots s k n None → TellsOwner ps [] s k o → TellsHeld ps roots s k o
+pub held_first : (ps : List Played) (roots : Journals) (s : SlotName) (k n : ℕ) (o : Owner)
+    → ((q : ℕ) → n ≤ q → moves_at (roots q) s k ≡ []) → FoundSoFar ps roots s k n None → TellsOwner ps [] s k o → TellsHeld ps roots s k o
 held_first ps roots s k n o past h tells =
     let none : (q : ℕ) → moves_at (roots q) s k ≡ [] = λ q. elim (cases_lt q n) [ inl less ↦ h q less | inr more ↦ past q more ] in
     held_in ps roots s k 0 o (λ q other. none q)
@@ -139,7 +148,8 @@ held_is ps roots s k t (Thread u) known with_one = (
 seen_one : (a b : Seen) (u v : ℕ) → Made a u ≡ Made b v → a ≡ b
 seen_one a b u v e = cc
 
-pub issued_is : (ps : List Played) (roots : Journals) (x : Played) (seen : Seen) (usable : ℕ) → x.answer ≡ Made seen usable → IsHeld ps roots seen.slot (number_of seen.found.0) (WithThread x.thread) ↔ IsIssued ps roots x
+pub issued_is : (ps : List Played) (roots : Journals) (x : Played) (seen : Seen) (usable : ℕ) → x.answer ≡ Made seen usable
+    → IsHeld ps roots seen.slot (number_of seen.found.0) (WithThread x.thread) ↔ IsIssued ps roots x
 issued_is ps roots x seen usable is = (
   λ held other v is'. subst (λ (z : Seen). IsHeld ps roots z.slot (number_of z.found.0) (WithThread x.thread)) (seen_one seen other usable v (sym is ∙ is')) held,
   λ each. each seen usable is,
@@ -156,7 +166,8 @@ stays_is roots x s k of = (
   λ there p n gone. there p n k s gone of,
 )
 
-pub record_is : (ps : List Played) (roots : Journals) (x : Played) (issued stays both : Bool) → IsTrue issued ↔ IsIssued ps roots x → IsTrue stays ↔ StaysThere roots x → IsTrue both ↔ (IsTrue issued × IsTrue stays) → IsTrue both ↔ RecordHolds ps roots x
+pub record_is : (ps : List Played) (roots : Journals) (x : Played) (issued stays both : Bool) → IsTrue issued ↔ IsIssued ps roots x
+    → IsTrue stays ↔ StaysThere roots x → IsTrue both ↔ (IsTrue issued × IsTrue stays) → IsTrue both ↔ RecordHolds ps roots x
 record_is ps roots x issued stays both a b joint = (
   λ yes. record {
     issues = a.0 (joint.0 yes).0;
@@ -165,7 +176,8 @@ record_is ps roots x issued stays both a b joint = (
   λ holds. joint.1 (a.1 holds.issues, b.1 (λ p n k s (i, asked, e, at, is) of. holds.gone p i asked k (record { slot = s; number = n }) e at is of)),
 )
 
-pub record_fits : (ps : List Played) (roots : Journals) (i : ℕ) (d : Played) (issued stays both : Bool) → i < length ps → IsTrue issued ↔ IsIssued ps roots (get_or ps i d) → IsTrue stays ↔ StaysThere roots (get_or ps i d) →
+pub record_fits : (ps : List Played) (roots : Journals) (i : ℕ) (d : Played) (issued stays both : Bool) → i < length ps
+    → IsTrue issued ↔ IsIssued ps roots (get_or ps i d) → IsTrue stays ↔ StaysThere roots (get_or ps i d) →
     IsTrue both ↔ (IsTrue issued × IsTrue stays) → IsTrue both ↔ HoldersDemand ps roots (places.Record i)
 record_fits ps roots i d issued stays both below a b joint =
     let x = get_or ps i d in
@@ -199,10 +211,12 @@ slot_none x is s k (m, e, slot, number) = not_some (slot_by m) (is ∙ ap (optio
 
 -- ---- the direct maps that went back
 
-pub there_next : (roots : Journals) (s : SlotName) (k i : ℕ) → ((p n : ℕ) → p < i → IsUnmapped (roots p) s n → k < n) → ((n : ℕ) → IsUnmapped (roots i) s n → k < n) → (p n : ℕ) → p < i + 1 → IsUnmapped (roots p) s n → k < n
+pub there_next : (roots : Journals) (s : SlotName) (k i : ℕ) → ((p n : ℕ) → p < i → IsUnmapped (roots p) s n → k < n)
+    → ((n : ℕ) → IsUnmapped (roots i) s n → k < n) → (p n : ℕ) → p < i + 1 → IsUnmapped (roots p) s n → k < n
 there_next roots s k i before here p n less gone = below_next i (λ q. IsUnmapped (roots q) s n → k < n) (λ q below. before q n below) (here n) p less gone
 
-pub there_all : (roots : List (List RootEntry)) (s : SlotName) (k i : ℕ) → length roots ≤ i → ((p n : ℕ) → p < i → IsUnmapped (journal_at roots p) s n → k < n) → (p n : ℕ) → IsUnmapped (journal_at roots p) s n → k < n
+pub there_all : (roots : List (List RootEntry)) (s : SlotName) (k i : ℕ) → length roots ≤ i
+    → ((p n : ℕ) → p < i → IsUnmapped (journal_at roots p) s n → k < n) → (p n : ℕ) → IsUnmapped (journal_at roots p) s n → k < n
 there_all roots s k i end h p n gone = elim (cases_lt p i) [
   | inl less ↦ h p n less gone
   | inr past ↦

@@ -31,7 +31,9 @@ lines_start journal count table long none = record {
 }
 
 -- what the next entry adds to the acts of a line
-acts_more : (journal : List RootEntry) (j l : ℕ) → j < length journal → acts_on (take (j + 1) journal) l ≡ acts_on (take j journal) l ++ map act_in (cond ((get_or journal j no_entry).line == l) (get_or journal j no_entry ∷ []) [])
+acts_more : (journal : List RootEntry) (j l : ℕ) → j < length journal
+    → acts_on (take (j + 1) journal) l ≡ acts_on (take j journal) l ++ map act_in
+    (cond ((get_or journal j no_entry).line == l) (get_or journal j no_entry ∷ []) [])
 acts_more journal j l below =
     ap (map act_in) (filter_more (λ (e : RootEntry). e.line == l) journal j no_entry below)
     ∙ map-append act_in (filter (λ (e : RootEntry). e.line == l) (take j journal)) (cond ((get_or journal j no_entry).line == l) (get_or journal j no_entry ∷ []) [])
@@ -49,7 +51,8 @@ below_next : (j : ℕ) (xs : List ℕ) → All (λ k. k < j) xs → All (λ k. k
 below_next j xs h = λ i d less. let at = h i d less in omega (arith, at)
 
 -- an entry of a line that the table has
-pub lines_hit : (journal : List RootEntry) (count : ℕ) (table : List (List ℕ)) (j line : ℕ) → AreOnLinesTo journal count table j → j < length journal → (get_or journal j no_entry).line ≡ line → line < count →
+pub lines_hit : (journal : List RootEntry) (count : ℕ) (table : List (List ℕ)) (j line : ℕ) → AreOnLinesTo journal count table j
+    → j < length journal → (get_or journal j no_entry).line ≡ line → line < count →
     AreOnLinesTo journal count (set table line (get_or table line [] ++ j ∷ [])) (j + 1)
 lines_hit journal count table j line h below is within =
     let long = h.many in
@@ -57,7 +60,8 @@ lines_hit journal count table j line h below is within =
       many = length-set table line (get_or table line [] ++ j ∷ []) ∙ h.many;
       among = λ l less. elim (cases_eq l line) [
         | inl same ↦
-            subst (λ xs. All (λ k. k < j + 1) xs) (sym (ap (λ z. get_or (set table line (get_or table line [] ++ j ∷ [])) z []) same ∙ get_or-set_same table line (get_or table line [] ++ j ∷ []) [] (omega arith)))
+            subst (λ xs. All (λ k. k < j + 1) xs) (sym (ap (λ z. get_or (set table line (get_or table line [] ++ j ∷ [])) z []) same
+            ∙ get_or-set_same table line (get_or table line [] ++ j ∷ []) [] (omega arith)))
             (All-push (λ k. k < j + 1) (get_or table line []) j (below_next j (get_or table line []) (h.among line within)) (omega arith))
         | inr ne ↦ subst (λ xs. All (λ k. k < j + 1) xs) (sym (get_or-set_other table line l (get_or table line [] ++ j ∷ []) [] ne)) (below_next j (get_or table l []) (h.among l less))
       ];
@@ -104,7 +108,8 @@ pub no_acts_past : (roots : List (List RootEntry)) (line p : ℕ) → length roo
 no_acts_past roots line p past = ap (λ es. acts_on es line) (get_or_past roots p [] past)
 
 -- the next entry, whose place comes after those of its line if the table has that
-pub lines_next : (journal : List RootEntry) (count : ℕ) (table : List (List ℕ)) (j place line : ℕ) (e : RootEntry) → AreOnLinesTo journal count table j → place ≡ j → slice_get journal j ≡ Some e → e.line ≡ line →
+pub lines_next : (journal : List RootEntry) (count : ℕ) (table : List (List ℕ)) (j place line : ℕ) (e : RootEntry)
+    → AreOnLinesTo journal count table j → place ≡ j → slice_get journal j ≡ Some e → e.line ≡ line →
     AreOnLinesTo journal count (set table line (get_or table line [] ++ place ∷ [])) (j + 1)
 lines_next journal count table j place line e h same at is =
     let below : j < length journal = slice_get_within journal j e at in
@@ -148,7 +153,8 @@ one_of (x ∷ []) d one = refl
 one_of (x ∷ y ∷ xs) d one = absurd (omega (arith, one))
 
 -- the one entry of a line
-pub one_there : (journal : List RootEntry) (places : List ℕ) (acts : List RootAct) (e : RootEntry) → ArePlacesOf journal places acts → length places ≡ 1 → acts ≡ (get_or journal (get_or places 0 0) e).act ∷ []
+pub one_there : (journal : List RootEntry) (places : List ℕ) (acts : List RootAct) (e : RootEntry) → ArePlacesOf journal places acts
+    → length places ≡ 1 → acts ≡ (get_or journal (get_or places 0 0) e).act ∷ []
 one_there journal places acts e h one =
     let long = length-map places (did_at journal) in
     sym h.did ∙ one_of (map (did_at journal) places) Purge (long ∙ one) ∙ ap (λ a. a ∷ []) (act_found journal places 0 e h.among (omega (arith, one)))

@@ -17,7 +17,7 @@ use Rattle.pa_rules.specs.Caches.{Cache, CacheRow, DoneRow, FilledFirst, FrontIs
 use Rattle.pa_rules.proofs.Asking.{class_once, map_once, class_or_map}
 use Rattle.pa_audit_holders.specs.Gives.{PurgesAll, whole_purge}
 use Rattle.pa_audit_holders.specs.Homes.{HasOneHome, IsHomeless}
-use Rattle.pa_audit_holders.specs.Lists.{cache_in, caches_in}
+use Rattle.pa_audit_holders.specs.Lists.{VersionLists, cache_in, caches_in, no_lists}
 use Rattle.pa_audit_holders.proofs.Listing.{caches_set}
 use Rattle.pa_audit_holders.proofs.Caching.{filled_one}
 use Rattle.pa_audit_holders.specs.Rows.{BackRow, ClassRow, TellsFilled, TellsNext, TellsRow}
@@ -31,7 +31,8 @@ row_stays Row May cache true test onto back = onto (test.0 refl)
 row_stays Row May cache false test onto back = λ next row. false≢true (test.1 (back next row))
 
 -- a row in other words
-pub row_same : (Row Other : Cache → Type 0) (after : Cache) (b : Bool) → ((next : Cache) → Row next → Other next) → ((next : Cache) → Other next → Row next) → TellsRow Row after b → TellsRow Other after b
+pub row_same : (Row Other : Cache → Type 0) (after : Cache) (b : Bool) → ((next : Cache) → Row next → Other next)
+    → ((next : Cache) → Other next → Row next) → TellsRow Row after b → TellsRow Other after b
 row_same Row Other after true f g h = f after h
 row_same Row Other after false f g h = λ next row. h next (g next row)
 
@@ -78,7 +79,8 @@ IsRoomless roots line p class = (asked : ℕ) × OnlyActs roots line p (Full (So
 abbrev pub IsClassFull : Journals → ℕ → ℕ → ℕ → Cache → Type 0
 IsClassFull roots line p class cache = (cache p class ≡ []) × IsRoomless roots line p class
 
-pub full_by_class : (roots : Journals) (x : Played) (cache : Cache) (p class : ℕ) (b : Bool) → AsksForClass x p class → IsTrue b ↔ IsClassFull roots x.line p class cache → TellsRow (FullRow roots x cache) cache b
+pub full_by_class : (roots : Journals) (x : Played) (cache : Cache) (p class : ℕ) (b : Bool) → AsksForClass x p class
+    → IsTrue b ↔ IsClassFull roots x.line p class cache → TellsRow (FullRow roots x cache) cache b
 full_by_class roots x cache p class b asks test = row_stays (FullRow roots x cache) (IsClassFull roots x.line p class cache) cache b test
     (λ (empty, (asked, only)). inl (p, class, asked, asks, empty, only, λ q c. refl)) back
   where
@@ -101,15 +103,18 @@ full_by_map roots x cache p size b asks test = row_stays (FullRow roots x cache)
         let (e, f) = map_once x q p m size asks' asks in
         subst (λ z. IsMapFull roots x.line z) e (asked, only)
 
-pub full_by_none : (roots : Journals) (x : Played) (cache : Cache) → ((p class : ℕ) → AsksForClass x p class → ⊥) → ((p size : ℕ) → AsksForMap x p size → ⊥) → TellsRow (FullRow roots x cache) cache false
+pub full_by_none : (roots : Journals) (x : Played) (cache : Cache) → ((p class : ℕ) → AsksForClass x p class → ⊥)
+    → ((p size : ℕ) → AsksForMap x p size → ⊥) → TellsRow (FullRow roots x cache) cache false
 full_by_none roots x cache class map next (inl (q, d, asked, asks, empty, only, becomes)) = class q d asks
 full_by_none roots x cache class map next (inr (q, m, asked, asks, only, becomes)) = map q m asks
 
 -- ---- a slot came back
 
-pub back_by_class : (roots : Journals) (x : Played) (slot : Numbered) (cache after : Cache) (p class : ℕ) (b : Bool) → HasOneHome roots slot.slot → IsOfClass roots slot.slot p class
+pub back_by_class : {version : ℕ} (roots : Journals) (x : Played) (slot : Numbered) (cache after : Cache) (p class : ℕ) (b : Bool)
+    → HasOneHome version roots slot.slot → IsOfClass roots slot.slot p class
     → TellsRow (BackRow roots x.line p class slot cache) after b → TellsRow (ReturnRow roots x slot cache) after b
-back_by_class roots x slot cache after p class b kind of h = row_same (BackRow roots x.line p class slot cache) (ReturnRow roots x slot cache) after b (λ next row. inl (p, class, of, row.0, row.1)) back h
+back_by_class roots x slot cache after p class b kind of h = row_same (BackRow roots x.line p class slot cache)
+    (ReturnRow roots x slot cache) after b (λ next row. inl (p, class, of, row.0, row.1)) back h
   where
     back : (next : Cache) → ReturnRow roots x slot cache next → BackRow roots x.line p class slot cache next
     back next (inl (q, d, of', only, becomes)) =
@@ -120,7 +125,8 @@ back_by_class roots x slot cache after p class b kind of h = row_same (BackRow r
 abbrev pub IsUnmappedOnly : Journals → ℕ → ℕ → SlotName → Type 0
 IsUnmappedOnly roots line p s = (asked number : ℕ) × OnlyActs roots line p (unmap_at asked s number ∷ [])
 
-pub back_by_map : (roots : Journals) (x : Played) (slot : Numbered) (cache : Cache) (p : ℕ) (b : Bool) → HasOneHome roots slot.slot → IsDirect roots slot.slot p → IsTrue b ↔ IsUnmappedOnly roots x.line p slot.slot
+pub back_by_map : {version : ℕ} (roots : Journals) (x : Played) (slot : Numbered) (cache : Cache) (p : ℕ) (b : Bool)
+    → HasOneHome version roots slot.slot → IsDirect roots slot.slot p → IsTrue b ↔ IsUnmappedOnly roots x.line p slot.slot
     → TellsRow (ReturnRow roots x slot cache) cache b
 back_by_map roots x slot cache p b kind direct test = row_stays (ReturnRow roots x slot cache) (IsUnmappedOnly roots x.line p slot.slot) cache b test
     (λ (asked, number, only). inr (p, asked, number, direct, only, λ q c. refl)) back
@@ -150,7 +156,8 @@ done_none roots x seen cache b test = row_stays (DoneRow roots x None seen cache
 
 -- ---- a purge
 
-pub purged_row : (partitions : ℕ) (roots : Journals) (x : Played) (slots : ℕ) (cache after : Cache) → after ≡ (λ p c. []) → PurgesAll partitions roots x.line slots cache → PurgedRow partitions roots x slots cache after
+pub purged_row : (partitions : ℕ) (roots : Journals) (x : Played) (slots : ℕ) (cache after : Cache) → after ≡ (λ p c. [])
+    → PurgesAll partitions roots x.line slots cache → PurgedRow partitions roots x slots cache after
 unfolding whole_purge
 purged_row partitions roots x slots cache after none (acts, counted) = (acts, counted, same_as after (λ p c. []) none)
 
@@ -164,7 +171,8 @@ purged_was partitions roots x slots cache after (acts, counted, none) = (acts, c
 pub slice_rest : {X : Type 0} (k : ℕ) (xs : List X) → take (length xs - k) (drop k xs) ≡ drop k xs
 slice_rest k xs = let long = length-drop k xs in take_all (length xs - k) (drop k xs) (omega arith)
 
-pub put_row : (roots : Journals) (line p class stays : ℕ) (slot : Numbered) (cache after : Cache) (list whole items more : List Numbered) → list ≡ cache p class → whole ≡ slot ∷ list → items ≡ whole → more ≡ whole
+pub put_row : (roots : Journals) (line p class stays : ℕ) (slot : Numbered) (cache after : Cache) (list whole items more : List Numbered)
+    → list ≡ cache p class → whole ≡ slot ∷ list → items ≡ whole → more ≡ whole
     → take stays items ≡ kept class items → drop stays items ≡ spilled class items → OnlyActs roots line p (gives (drop stays more)) → after ≡ with_list cache p class (take stays whole)
     → BackRow roots line p class slot cache after
 put_row roots line p class stays slot cache after list whole items more there is same same' keeps spills only became =
@@ -173,7 +181,8 @@ put_row roots line p class stays slot cache after list whole items more there is
     let left : take stays whole ≡ kept class (slot ∷ cache p class) = ap (take stays) (sym same) ∙ keeps ∙ ap (kept class) all in
     (subst (λ z. OnlyActs roots line p (gives z)) gone only, same_as after (with_list cache p class (kept class (slot ∷ cache p class))) (became ∙ ap (λ z. with_list cache p class z) left))
 
-pub class_row : (roots : Journals) (line p class : ℕ) (seen : Seen) (cache after : Cache) (list xs rest left : List Numbered) → list ≡ cache p class → FilledFirst roots line p class list xs → FrontIs seen xs rest → left ≡ rest
+pub class_row : (roots : Journals) (line p class : ℕ) (seen : Seen) (cache after : Cache) (list xs rest left : List Numbered)
+    → list ≡ cache p class → FilledFirst roots line p class list xs → FrontIs seen xs rest → left ≡ rest
     → after ≡ with_list cache p class left → ClassRow roots line p class seen cache after
 class_row roots line p class seen cache after list xs rest left there filled front same became =
     (xs, rest, subst (λ z. FilledFirst roots line p class z xs) there filled, front, same_as after (with_list cache p class rest) (became ∙ ap (λ z. with_list cache p class z) same))
@@ -182,7 +191,8 @@ pub class_none : (roots : Journals) (line p class : ℕ) (seen : Seen) (cache : 
     → (next : Cache) → ClassRow roots line p class seen cache next → ⊥
 class_none roots line p class seen cache list there none next (xs, rest, filled, front, becomes) = none xs (subst (λ z. FilledFirst roots line p class z xs) (sym there) filled)
 
-pub class_other : (roots : Journals) (line p class : ℕ) (seen : Seen) (cache : Cache) (list xs : List Numbered) → list ≡ cache p class → FilledFirst roots line p class list xs → ((rest : List Numbered) → FrontIs seen xs rest → ⊥)
+pub class_other : (roots : Journals) (line p class : ℕ) (seen : Seen) (cache : Cache) (list xs : List Numbered) → list ≡ cache p class
+    → FilledFirst roots line p class list xs → ((rest : List Numbered) → FrontIs seen xs rest → ⊥)
     → (next : Cache) → ClassRow roots line p class seen cache next → ⊥
 class_other roots line p class seen cache list xs there filled other next (ys, rest, filled', front, becomes) =
     let same : ys ≡ xs = filled_one roots line p class list ys xs (subst (λ z. FilledFirst roots line p class z ys) (sym there) filled') filled in
@@ -206,12 +216,13 @@ front_drop seen xs rest front =
 
 -- ---- a thread's row among all threads
 
-pub play_next : (partitions : ℕ) (roots : Journals) (x : Played) (threads : List (List (List Numbered))) (d lists : List (List Numbered)) (b : Bool) → x.thread < length threads
+pub play_next : (partitions : ℕ) (roots : Journals) (x : Played) (threads : List VersionLists) (d lists : VersionLists) (b : Bool) → x.thread < length threads
     → TellsRow (CacheRow partitions roots x x.answer (cache_in (get_or threads x.thread d))) (cache_in lists) b
     → TellsNext partitions roots x (caches_in threads) (caches_in (set threads x.thread lists)) b
 play_next partitions roots x threads d lists b below h = by_test b
-    (subst (λ (z : List (List Numbered)). TellsRow (CacheRow partitions roots x x.answer (cache_in z)) (cache_in lists) b) (get_or_default threads x.thread d [] below) h)
+    (subst (λ (z : VersionLists). TellsRow (CacheRow partitions roots x x.answer (cache_in z)) (cache_in lists) b) (get_or_default threads x.thread d no_lists below) h)
   where
-    by_test : (b : Bool) → TellsRow (CacheRow partitions roots x x.answer (caches_in threads x.thread)) (cache_in lists) b → TellsNext partitions roots x (caches_in threads) (caches_in (set threads x.thread lists)) b
+    by_test : (b : Bool) → TellsRow (CacheRow partitions roots x x.answer (caches_in threads x.thread)) (cache_in lists) b
+        → TellsNext partitions roots x (caches_in threads) (caches_in (set threads x.thread lists)) b
     by_test true row = record { fits = λ e. (cache_in lists, row, caches_set threads x.thread lists below); misfits = λ e. absurd (false≢true (sym e)) }
     by_test false none = record { fits = λ e. absurd (false≢true e); misfits = λ e. none }

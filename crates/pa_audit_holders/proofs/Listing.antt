@@ -1,12 +1,17 @@
 -- A thread's lists in a table.
-use Rattle.std.proofs.Common.{◌≡◌, ℕ, ◌+◌, ◌*◌, ◌<◌, ◌≤◌, List, [], length, get_or, set, refl, sym, ◌∙◌, ap, arith, inl, inr}
+use Rattle.std.proofs.Common.{◌≡◌, ℕ, ◌+◌, ◌-◌, ◌*◌, ◌<◌, ◌≤◌, List, [], length, get_or, set, refl, sym, ◌∙◌, ap, subst, arith, inl, inr}
 use Rattle.std.specs.Prelude.{All}
-use Rattle.std.proofs.lemmas.Bool.{cases_eq, cases_lt, eq-eqb, ne_eqb, lt-ltb, le-ltb}
+use Rattle.std.proofs.lemmas.Bool.{cases_eq, cases_lt, eq-eqb, ne_eqb}
+use Rattle.std.proofs.Math.Nat.{mul-add, mul_comm, mul-one}
+use Rattle.std.proofs.lemmas.Nat.{mul-le}
 use Rattle.std.proofs.lemmas.List.{get_or_default, get_or_past, get_or-set_same, get_or-set_other}
+use Rattle.pa_buckets.specs.Limits.{first_class}
 use Rattle.pa_record.specs.declared.numbered.Numbered.{Numbered}
 use Rattle.pa_rules.specs.Caches.{Cache, no_caches, with_cache, with_list}
-use Rattle.pa_rules.proofs.Sums.{NoneBut}
-use Rattle.pa_audit_holders.specs.Lists.{cache_in, caches_in}
+use Rattle.pa_rules.specs.Sizes.{HasClass, class_total}
+use Rattle.pa_rules.proofs.Sums.{NoneButOf}
+use Rattle.pa_rules.proofs.Versions.{class_among, class_cases, class_end, class_no, class_row, class_yes}
+use Rattle.pa_audit_holders.specs.Lists.{VersionLists, cache_in, caches_in, no_lists}
 
 -- ---- one list changed
 
@@ -38,73 +43,117 @@ with_again cache before after p class xs ys first second = second ∙ (λ i q c.
 
 -- ---- the table
 
-pub listed : (lists : List (List Numbered)) (p c : ℕ) → c < 59 → cache_in lists p c ≡ get_or lists (59 * p + c) []
-listed lists p c less = rw (lt-ltb c 59 less) refl
+-- where a partition's list of a class is
+abbrev pub place_of : ℕ → ℕ → ℕ → ℕ
+place_of version p c = class_total version * p + (c - first_class version)
+
+-- the lists with others in one place
+abbrev pub with_place : VersionLists → ℕ → List Numbered → VersionLists
+with_place all at xs = record { version = all.version; lists = set all.lists at xs }
+
+-- so many places of a partition's lists end within four times as many
+pub row_end : (n p : ℕ) → p < 4 → n * p + n ≤ 4 * n
+row_end n p low =
+    let rows = mul-le n (p + 1) n 4 (omega arith) (omega (arith, low)) in
+    let row : n * (p + 1) ≡ n * p + n = mul-add n p 1 ∙ ap (λ k. n * p + k) (mul-one n) in
+    omega (arith, rows, row)
+
+-- a place is of one partition and class
+one_place : (version q c p d : ℕ) → HasClass version c → HasClass version d → place_of version q c ≡ place_of version p d → (q ≡ p) × (c ≡ d)
+one_place version q c p d h k is = class_row version q p c d h k (turned q c ∙ is ∙ sym (turned p d))
+  where
+    turned : (a b : ℕ) → a * class_total version + (b - first_class version) ≡ place_of version a b
+    turned a b = ap (λ m. m + (b - first_class version)) (mul_comm a (class_total version))
+
+same_place : (version q c p d : ℕ) → q ≡ p → c ≡ d → place_of version q c ≡ place_of version p d
+same_place version q c p d part class = ap (λ k. place_of version k c) part ∙ ap (λ k. place_of version p k) class
+
+pub listed : (all : VersionLists) (p c : ℕ) → HasClass all.version c → cache_in all p c ≡ get_or all.lists (place_of all.version p c) []
+listed all p c real = rw (class_yes all.version c real) refl
+
+-- the places of four partitions are as many as four times the classes
+pub place_below : (version p c : ℕ) → p < 4 → HasClass version c → place_of version p c < 4 * class_total version
+place_below version p c low real =
+    let among = class_among version c real in
+    let rows = row_end (class_total version) p low in
+    omega (arith, among, rows)
 
 -- a partition's lists are in the table
-pub listed_within : (lists : List (List Numbered)) (p c : ℕ) → length lists ≡ 236 → p < 4 → c < 59 → 59 * p + c < length lists
-listed_within lists p c many low real = omega (arith, many, low, real)
+pub listed_within : (all : VersionLists) (p c : ℕ) → length all.lists ≡ 4 * class_total all.version → p < 4 → HasClass all.version c → place_of all.version p c < length all.lists
+listed_within all p c many low real = let within = place_below all.version p c low real in omega (arith, many, within)
 
 -- what was read there is the list
-pub listed_there : (lists : List (List Numbered)) (p c : ℕ) (d found : List Numbered) → length lists ≡ 236 → p < 4 → c < 59 → found ≡ get_or lists (59 * p + c) d → found ≡ get_or lists (59 * p + c) []
-listed_there lists p c d found many low real is = is ∙ get_or_default lists (59 * p + c) d [] (listed_within lists p c many low real)
+pub listed_there : (all : VersionLists) (p c at : ℕ) (d found : List Numbered) → length all.lists ≡ 4 * class_total all.version → p < 4 → HasClass all.version c
+    → at ≡ place_of all.version p c → found ≡ get_or all.lists at d → found ≡ cache_in all p c
+listed_there all p c at d found many low real there is =
+    is ∙ ap (λ k. get_or all.lists k d) there ∙ get_or_default all.lists (place_of all.version p c) d [] (listed_within all p c many low real) ∙ sym (listed all p c real)
 
-pub unlisted : (lists : List (List Numbered)) (p c : ℕ) → 59 ≤ c → cache_in lists p c ≡ []
-unlisted lists p c more = rw (le-ltb c 59 more) refl
+pub unlisted : (all : VersionLists) (p c : ℕ) → (HasClass all.version c → ⊥) → cache_in all p c ≡ []
+unlisted all p c none = rw (class_no all.version c none) refl
 
--- none but the classes of version 1 have lists
-pub none_but : (lists : List (List Numbered)) (p : ℕ) → NoneBut 0 59 (cache_in lists p)
-none_but lists p c (inl low) = absurd (omega arith)
-none_but lists p c (inr past) = unlisted lists p c past
+-- none but the classes of the version have lists
+pub none_but : (all : VersionLists) (p : ℕ) → NoneButOf all.version (cache_in all p)
+none_but all p c (inl low) = unlisted all p c (λ h. let from = h.0 in omega (arith, low, from))
+none_but all p c (inr past) = unlisted all p c (λ h. let real = h.1 in let end = class_end all.version in omega (arith, past, real, end))
 
-pub cache_empty : (lists : List (List Numbered)) → All (λ xs. xs ≡ []) lists → cache_in lists ≡ (λ p c. [])
-cache_empty lists h = λ i p c. empty p c i
+pub cache_empty : (all : VersionLists) → All (λ xs. xs ≡ []) all.lists → cache_in all ≡ (λ p c. [])
+cache_empty all h = λ i p c. empty p c i
   where
-    empty : (p c : ℕ) → cache_in lists p c ≡ []
-    empty p c = elim (cases_lt c 59) [
-      | inl less ↦ listed lists p c less ∙ (elim (cases_lt (59 * p + c) (length lists)) [
-        | inl below ↦ h (59 * p + c) [] below
-        | inr past ↦ get_or_past lists (59 * p + c) [] past
+    empty : (p c : ℕ) → cache_in all p c ≡ []
+    empty p c = elim (class_cases all.version c) [
+      | inl real ↦ listed all p c real ∙ (elim (cases_lt (place_of all.version p c) (length all.lists)) [
+        | inl below ↦ h (place_of all.version p c) [] below
+        | inr past ↦ get_or_past all.lists (place_of all.version p c) [] past
       ])
-      | inr more ↦ unlisted lists p c more
+      | inr none ↦ unlisted all p c none
     ]
 
-pub cache_set : (lists : List (List Numbered)) (p class : ℕ) (xs : List Numbered) → 59 * p + class < length lists → class < 59 → cache_in (set lists (59 * p + class) xs) ≡ with_list (cache_in lists) p class xs
-cache_set lists p class xs below real = λ i q c. at q c i
+pub cache_set : (all : VersionLists) (p class : ℕ) (xs : List Numbered) → place_of all.version p class < length all.lists → HasClass all.version class
+    → cache_in (with_place all (place_of all.version p class) xs) ≡ with_list (cache_in all) p class xs
+cache_set all p class xs below real = λ i q c. at q c i
   where
-    table : List (List Numbered)
-    table = set lists (59 * p + class) xs
+    place : ℕ
+    place = place_of all.version p class
 
-    at : (q c : ℕ) → cache_in table q c ≡ with_list (cache_in lists) p class xs q c
-    at q c = elim (cases_lt c 59) [
-      | inl less ↦ elim (cases_eq (59 * q + c) (59 * p + class)) [
+    table : VersionLists
+    table = with_place all place xs
+
+    at : (q c : ℕ) → cache_in table q c ≡ with_list (cache_in all) p class xs q c
+    at q c = elim (class_cases all.version c) [
+      | inl one ↦ elim (cases_eq (place_of all.version q c) place) [
         | inl same ↦
-            let part : q ≡ p = omega (arith, same, less, real) in
-            let here : c ≡ class = omega (arith, same, less, real) in
-            listed table q c less ∙ ap (λ z. get_or table z []) same ∙ get_or-set_same lists (59 * p + class) xs [] below ∙ sym (with_here (cache_in lists) p class q c xs part here)
+            let (part, here) = one_place all.version q c p class one real same in
+            listed table q c one ∙ ap (λ z. get_or table.lists z []) same ∙ get_or-set_same all.lists place xs [] below ∙ sym (with_here (cache_in all) p class q c xs part here)
         | inr other ↦
-            listed table q c less ∙ get_or-set_other lists (59 * p + class) (59 * q + c) xs [] other ∙ sym (listed lists q c less)
-            ∙ sym (with_other (cache_in lists) p class q c xs (λ e f. other (omega (arith, e, f))))
+            listed table q c one ∙ get_or-set_other all.lists place (place_of all.version q c) xs [] other ∙ sym (listed all q c one)
+            ∙ sym (with_other (cache_in all) p class q c xs (λ e f. other (same_place all.version q c p class e f)))
       ]
-      | inr more ↦ unlisted table q c more ∙ sym (unlisted lists q c more) ∙ sym (with_other (cache_in lists) p class q c xs (λ e f. omega (arith, f, more, real)))
+      | inr none ↦ unlisted table q c none ∙ sym (unlisted all q c none)
+          ∙ sym (with_other (cache_in all) p class q c xs (λ e f. none (subst (λ k. HasClass all.version k) (sym f) real)))
     ]
+
+-- the list in a place was changed
+pub cache_put : (all : VersionLists) (p class at : ℕ) (xs : List Numbered) → length all.lists ≡ 4 * class_total all.version → p < 4 → HasClass all.version class → at ≡ place_of all.version p class
+    → cache_in (with_place all at xs) ≡ with_list (cache_in all) p class xs
+cache_put all p class at xs many low real there =
+    ap (λ k. cache_in (with_place all k xs)) there ∙ cache_set all p class xs (listed_within all p class many low real) real
 
 -- ---- all threads
 
-pub caches_empty : (threads : List (List (List Numbered))) → All (λ lists. cache_in lists ≡ (λ p c. [])) threads → caches_in threads ≡ no_caches
+pub caches_empty : (threads : List VersionLists) → All (λ lists. cache_in lists ≡ (λ p c. [])) threads → caches_in threads ≡ no_caches
 caches_empty threads h = λ i t. empty t i
   where
     empty : (t : ℕ) → caches_in threads t ≡ no_caches t
     empty t = elim (cases_lt t (length threads)) [
-      | inl below ↦ h t [] below
-      | inr past ↦ ap cache_in (get_or_past threads t [] past) ∙ cache_empty [] (λ i d below. absurd (omega (arith, below)))
+      | inl below ↦ h t no_lists below
+      | inr past ↦ ap cache_in (get_or_past threads t no_lists past) ∙ cache_empty no_lists (λ i d below. absurd (omega (arith, below)))
     ]
 
-pub caches_set : (threads : List (List (List Numbered))) (t : ℕ) (lists : List (List Numbered)) → t < length threads → caches_in (set threads t lists) ≡ with_cache (caches_in threads) t (cache_in lists)
+pub caches_set : (threads : List VersionLists) (t : ℕ) (lists : VersionLists) → t < length threads → caches_in (set threads t lists) ≡ with_cache (caches_in threads) t (cache_in lists)
 caches_set threads t lists below = λ i u. at u i
   where
     at : (u : ℕ) → caches_in (set threads t lists) u ≡ with_cache (caches_in threads) t (cache_in lists) u
     at u = elim (cases_eq u t) [
-      | inl same ↦ rw (eq-eqb u t same) (ap (λ z. caches_in (set threads t lists) z) same ∙ ap cache_in (get_or-set_same threads t lists [] below))
-      | inr ne ↦ rw (ne_eqb u t ne) (ap cache_in (get_or-set_other threads t u lists [] ne))
+      | inl same ↦ rw (eq-eqb u t same) (ap (λ z. caches_in (set threads t lists) z) same ∙ ap cache_in (get_or-set_same threads t lists no_lists below))
+      | inr ne ↦ rw (ne_eqb u t ne) (ap cache_in (get_or-set_other threads t u lists no_lists ne))
     ]

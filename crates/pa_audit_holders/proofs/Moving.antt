@@ -40,7 +40,8 @@ moved_start ps line course slots f = record {
   fits = λ ms h. (λ yes. tt, λ all. refl);
 }
 
-pub moved_more : (ps : List Played) (line : ℕ) (course : Course) (slots : List Numbered) (f g k : ℕ → Option Owner) (i : ℕ) (d : Numbered) (all fits both : Bool) → i < length slots → AreMoved ps line course slots f g i all
+pub moved_more : (ps : List Played) (line : ℕ) (course : Course) (slots : List Numbered) (f g k : ℕ → Option Owner) (i : ℕ) (d : Numbered)
+    (all fits both : Bool) → i < length slots → AreMoved ps line course slots f g i all
     → ((ms : List Move) → HasOwners ps ms g → HasOwners ps (ms ++ move_on line course (get_or slots i d) ∷ []) k)
     → ((ms : List Move) → HasOwners ps ms g → IsTrue fits ↔ MoveFits ps ms (move_on line course (get_or slots i d))) → IsTrue both ↔ (IsTrue all × IsTrue fits)
     → AreMoved ps line course slots f k (i + 1) both
@@ -104,12 +105,15 @@ HasHolder ps journal before m =
     (h : Holder) × (x : Played) × IsFirstHolder ps m.slot m.number h × IsOfLine ps m.line x
     × HolderAfter ps h (moves_at journal m.slot m.number ++ filter (is_move_of m.slot m.number) before) (needed_by m.way x)
 
-pub holds_is : (ps : List Played) (journal : List RootEntry) (moves : List Move) → AllFit ps (all_moves journal) moves → (before after : List Move) (m : Move) → moves ≡ before ++ m ∷ after → HasHolder ps journal before m
+pub holds_is : (ps : List Played) (journal : List RootEntry) (moves : List Move) → AllFit ps (all_moves journal) moves
+    → (before after : List Move) (m : Move) → moves ≡ before ++ m ∷ after → HasHolder ps journal before m
 holds_is ps journal moves all before after m e =
     let (x, of, (h, first, to)) = split_all ps (all_moves journal) moves all before after m e in
     (h, x, first, of, subst (λ z. HolderAfter ps h z (needed_by m.way x)) (filter-append (is_move_of m.slot m.number) (all_moves journal) before) to)
 
-pub holds_was : (ps : List Played) (journal : List RootEntry) (moves : List Move) → ((before after : List Move) (m : Move) → moves ≡ before ++ m ∷ after → HasHolder ps journal before m) → AllFit ps (all_moves journal) moves
+pub holds_was : (ps : List Played) (journal : List RootEntry) (moves : List Move)
+    → ((before after : List Move) (m : Move) → moves ≡ before ++ m ∷ after → HasHolder ps journal before m)
+    → AllFit ps (all_moves journal) moves
 holds_was ps journal moves h = all_split ps (all_moves journal) moves (λ before after m e.
     let (f, x, first, of, to) = h before after m e in
     (x, of, (f, first, subst (λ z. HolderAfter ps f z (needed_by m.way x)) (sym (filter-append (is_move_of m.slot m.number) (all_moves journal) before)) to)))

@@ -104,14 +104,17 @@ not_empty (n ∷ ms) m e = cc
 
 -- ---- what the table tells
 
-moved : (ps : List Played) (own : List Move) (s : SlotName) (k : ℕ) (mid : Holder) (m : Move) (x : Played) → HolderNow ps own s k mid → IsOfLine ps m.line x → HolderNow ps (own ++ m ∷ []) s k (made_by m.way x)
+moved : (ps : List Played) (own : List Move) (s : SlotName) (k : ℕ) (mid : Holder) (m : Move) (x : Played) → HolderNow ps own s k mid
+    → IsOfLine ps m.line x → HolderNow ps (own ++ m ∷ []) s k (made_by m.way x)
 moved ps own s k mid m x (h, first, to) of = (h, first, after_more ps h mid own m x to of)
 
-tells_after : (ps : List Played) (own : List Move) (s : SlotName) (k line thread : ℕ) (course : Course) (x : Played) → thread ≡ x.thread → HolderNow ps own s k (made_by (way_of course) x) → TellsOwner ps own s k (owner_after course thread)
+tells_after : (ps : List Played) (own : List Move) (s : SlotName) (k line thread : ℕ) (course : Course) (x : Played) → thread ≡ x.thread
+    → HolderNow ps own s k (made_by (way_of course) x) → TellsOwner ps own s k (owner_after course thread)
 tells_after ps own s k line thread Out x same now = subst (λ t. HolderNow ps own s k (WithThread t)) (sym same) now
 tells_after ps own s k line thread Back x same now = now
 
-owner_moved : (ps : List Played) (own : List Move) (line : ℕ) (thread : Option ℕ) (course : Course) (slot : Numbered) (held : Owner) → TellsThread ps line thread → TellsOwner ps own slot.slot slot.number held
+owner_moved : (ps : List Played) (own : List Move) (line : ℕ) (thread : Option ℕ) (course : Course) (slot : Numbered) (held : Owner)
+    → TellsThread ps line thread → TellsOwner ps own slot.slot slot.number held
     → TellsOwner ps (own ++ move_on line course slot ∷ []) slot.slot slot.number (made_owner held course thread)
 owner_moved ps own line thread course slot Nobody of none = λ last (h, first, to). let (mid, to') = after_less ps h last own (move_on line course slot) to in none mid (h, first, to')
 owner_moved ps own line None course slot Root of now = λ last (h, first, to). let (x, on) = after_line ps h last own (move_on line course slot) to in of x on
@@ -121,7 +124,8 @@ owner_moved ps own line (Some thread) course slot Root (x, of, same) now =
 owner_moved ps own line (Some thread) course slot (Thread t) (x, of, same) now =
     tells_after ps (own ++ move_on line course slot ∷ []) slot.slot slot.number line thread course x same (moved ps own slot.slot slot.number (WithThread t) (move_on line course slot) x now of)
 
-pub owners_more : (ps : List Played) (ms : List Move) (f g : ℕ → Option Owner) (line : ℕ) (thread : Option ℕ) (course : Course) (slot : Numbered) (held : Owner) → IsSized slot.slot slot.number → TellsThread ps line thread
+pub owners_more : (ps : List Played) (ms : List Move) (f g : ℕ → Option Owner) (line : ℕ) (thread : Option ℕ) (course : Course)
+    (slot : Numbered) (held : Owner) → IsSized slot.slot slot.number → TellsThread ps line thread
     → TellsOwner ps (filter (is_move_of slot.slot slot.number) ms) slot.slot slot.number held → Puts f g (word_key slot.slot slot.number) (made_owner held course thread) → HasOwners ps ms f
     → HasOwners ps (ms ++ move_on line course slot ∷ []) g
 owners_more ps ms f g line thread course slot held within of tells puts h =
@@ -137,7 +141,9 @@ owners_more ps ms f g line thread course slot held within of tells puts h =
             subst (λ z. TellsOwner ps (filter (is_move_of s' k') (ms ++ m ∷ [])) s' k' z) one
             (subst (λ own. TellsOwner ps own s' k' (made_owner held course thread)) (sym grown) (owner_moved ps (filter (is_move_of s' k') ms) line thread course slot held of tells)) in (
               subst (λ z. TellsOwner ps (filter (is_move_of z k) (ms ++ m ∷ [])) z k o) (sym e) (subst (λ z. TellsOwner ps (filter (is_move_of s' z) (ms ++ m ∷ [])) s' z o) (sym e') now),
-              λ none. not_empty (filter (is_move_of s' k') ms) m (sym grown ∙ ap (λ z. filter (is_move_of z k') (ms ++ m ∷ [])) (sym e) ∙ ap (λ z. filter (is_move_of s z) (ms ++ m ∷ [])) (sym e') ∙ none),
+              λ none. not_empty (filter (is_move_of s' k') ms) m
+                  (sym grown ∙ ap (λ z. filter (is_move_of z k') (ms ++ m ∷ [])) (sym e)
+                  ∙ ap (λ z. filter (is_move_of s z) (ms ++ m ∷ [])) (sym e') ∙ none),
             )
         | inr apart ↦
             let key : word_key s k ≡ word_key s' k' → ⊥ = λ e. let (a, b) = same_place s s' k k' sized within e in apart a b in
@@ -161,14 +167,16 @@ owners_more ps ms f g line thread course slot held within of tells puts h =
 
 -- ---- whether a move has the holder that it needs
 
-needed_tells : (ps : List Played) (own : List Move) (s : SlotName) (k thread : ℕ) (course : Course) (x : Played) → thread ≡ x.thread → TellsOwner ps own s k (needed_owner course thread) → HolderNow ps own s k (needed_by (way_of course) x)
+needed_tells : (ps : List Played) (own : List Move) (s : SlotName) (k thread : ℕ) (course : Course) (x : Played) → thread ≡ x.thread
+    → TellsOwner ps own s k (needed_owner course thread) → HolderNow ps own s k (needed_by (way_of course) x)
 needed_tells ps own s k thread Out x same now = now
 needed_tells ps own s k thread Back x same now = subst (λ t. HolderNow ps own s k (WithThread t)) same now
 
 thread_of : (s t : ℕ) → WithThread s ≡ WithThread t → s ≡ t
 thread_of s t e = cc
 
-held_needed : (ps : List Played) (own : List Move) (s : SlotName) (k thread : ℕ) (course : Course) (x : Played) (held : Owner) → AreOfRuns ps → thread ≡ x.thread → TellsOwner ps own s k held → HolderNow ps own s k (needed_by (way_of course) x)
+held_needed : (ps : List Played) (own : List Move) (s : SlotName) (k thread : ℕ) (course : Course) (x : Played) (held : Owner)
+    → AreOfRuns ps → thread ≡ x.thread → TellsOwner ps own s k held → HolderNow ps own s k (needed_by (way_of course) x)
     → held ≡ needed_owner course thread
 held_needed ps own s k thread course x Nobody known same none now = absurd (none (needed_by (way_of course) x) now)
 held_needed ps own s k thread Out x Root known same tells now = refl

@@ -28,7 +28,7 @@ line_known roots lines ps line known (i, x, at, on) =
 pub on_page : (b : RunBooks) (lines : List (List (List ℕ))) (at : ℕ → Option Home) (i : ℕ) (d : Played) → AreBooks b lines at → i < length b.records → IsOnPage b (get_or b.records i d)
 on_page b lines at i d h below =
     let is = slice_get-get_or b.records i d below in
-    record { among = (i, get_or b.records i d, is, refl); within = of_all IsOfThreads b.records i (get_or b.records i d) h.within is }
+    record { among = (i, get_or b.records i d, is, refl); within = of_all (IsOfThreads b.version) b.records i (get_or b.records i d) h.within is }
 
 -- a journal that has entries is one of four
 journal_within : (roots : List (List RootEntry)) (p k : ℕ) → length roots ≤ 4 → k < length (journal_at roots p) → p < 4

@@ -19,7 +19,9 @@ pub record HaveTablesTo (ps : List Played) (roots : List (List RootEntry)) (tabl
   pub many : length tables ≡ n
   pub each : (p : ℕ) (d : Table) → p < n → KnowsJournal ps (journal_at roots p) (get_or tables p d)
 
-pub tables_more : (ps : List Played) (roots : List (List RootEntry)) (tables after : List Table) (t : Table) (n : ℕ) → after ≡ tables ++ t ∷ [] → KnowsJournal ps (journal_at roots n) t → HaveTablesTo ps roots tables n → HaveTablesTo ps roots after (n + 1)
+pub tables_more : (ps : List Played) (roots : List (List RootEntry)) (tables after : List Table) (t : Table) (n : ℕ)
+    → after ≡ tables ++ t ∷ [] → KnowsJournal ps (journal_at roots n) t → HaveTablesTo ps roots tables n
+    → HaveTablesTo ps roots after (n + 1)
 tables_more ps roots tables after t n is here h =
     let long = length_push tables t in
     let many = h.many in
@@ -40,7 +42,8 @@ tables_more ps roots tables after t n is here h =
 demand_is : (ps : List Played) (roots : Journals) (p j : ℕ) → EntryMovesFitAt ps (roots p) j ↔ HoldersDemand ps roots (places.Root p j)
 demand_is ps roots p j = entry_demand ps roots p j
 
-entries_by : (ps : List Played) (roots : Journals) (n : ℕ) (misfit : Option (ℕ × ℕ)) (at : Option ℕ) → EntriesSoFar ps roots n misfit → TellsFirst (EntryMovesFitAt ps (roots n)) at → EntriesSoFar ps roots (n + 1) (first_in misfit n at)
+entries_by : (ps : List Played) (roots : Journals) (n : ℕ) (misfit : Option (ℕ × ℕ)) (at : Option ℕ) → EntriesSoFar ps roots n misfit
+    → TellsFirst (EntryMovesFitAt ps (roots n)) at → EntriesSoFar ps roots (n + 1) (first_in misfit n at)
 entries_by ps roots n (Some (p, j)) at h tells = h
 entries_by ps roots n None None h tells = λ p j less. elim (cases_lt p n) [
   | inl before ↦ h p j before
@@ -54,7 +57,8 @@ entries_by ps roots n None (Some at) h (unmet, before) = (
   ],
 )
 
-pub entries_next : (ps : List Played) (roots : List (List RootEntry)) (journal : List RootEntry) (n : ℕ) (misfit : Option (ℕ × ℕ)) (at : Option ℕ) → journal_at roots n ≡ journal → EntriesSoFar ps (journal_at roots) n misfit →
+pub entries_next : (ps : List Played) (roots : List (List RootEntry)) (journal : List RootEntry) (n : ℕ) (misfit : Option (ℕ × ℕ))
+    (at : Option ℕ) → journal_at roots n ≡ journal → EntriesSoFar ps (journal_at roots) n misfit →
     TellsFirst (EntryMovesFitAt ps journal) at → EntriesSoFar ps (journal_at roots) (n + 1) (first_in misfit n at)
 entries_next ps roots journal n misfit at is h tells = entries_by ps (journal_at roots) n misfit at h (subst (λ es. TellsFirst (EntryMovesFitAt ps es) at) (sym is) tells)
 

@@ -11,9 +11,11 @@ use Rattle.pa_record.specs.declared.numbered.Numbered.{Numbered}
 use Rattle.pa_record.specs.declared.report.Tally.{Tally}
 use Rattle.pa_rules.specs.Caches.{Cache, listed_slots, with_list}
 use Rattle.pa_rules.specs.Report.{listed_bytes}
+use Rattle.pa_rules.specs.Sizes.{HasClass, class_total}
 use Rattle.pa_rules.proofs.Sums.{slots_none, bytes_none}
-use Rattle.pa_audit_holders.specs.Lists.{AreSummed, HasPart, IsListedBy, cache_in, changed_by, no_slots}
-use Rattle.pa_audit_holders.proofs.Listing.{cache_empty, cache_set, listed, unlisted, with_here, with_other}
+use Rattle.pa_rules.proofs.Versions.{class_cases, real_in}
+use Rattle.pa_audit_holders.specs.Lists.{AreSummed, HasPart, IsListedBy, VersionLists, cache_in, changed_by, no_slots}
+use Rattle.pa_audit_holders.proofs.Listing.{cache_empty, cache_put, listed, listed_within, place_of, unlisted, with_here, with_other, with_place}
 
 -- ---- sums of numbers from one class on
 
@@ -84,35 +86,36 @@ slots_in cache p c = length (cache p c)
 abbrev pub bytes_in : Cache → ℕ → ℕ → ℕ
 bytes_in cache p c = slot_of c * length (cache p c)
 
-short_at : (lists : List (List Numbered)) (p c : ℕ) → All (λ slots. length slots ≤ 64) lists → length lists ≡ 236 → p < 4 → c < 59 → length (cache_in lists p c) ≤ 64
-short_at lists p c short many low real =
-    let h = short (59 * p + c) [] (omega (arith, many, low, real)) in
-    subst (λ zs. length zs ≤ 64) (sym (listed lists p c real)) h
+short_at : (all : VersionLists) (p c : ℕ) → All (λ slots. length slots ≤ 64) all.lists → length all.lists ≡ 4 * class_total all.version → p < 4 → HasClass all.version c
+    → length (cache_in all p c) ≤ 64
+short_at all p c short many low real =
+    let h = short (place_of all.version p c) [] (listed_within all p c many low real) in
+    subst (λ zs. length zs ≤ 64) (sym (listed all p c real)) h
 
-pub list_short : (lists : List (List Numbered)) (sums : List Tally) (p c : ℕ) → AreSummed lists sums → p < 4 → c < 59 → length (cache_in lists p c) ≤ 64
-list_short lists sums p c h low real = short_at lists p c h.short h.many low real
+pub list_short : (all : VersionLists) (sums : List Tally) (p c : ℕ) → AreSummed all sums → p < 4 → HasClass all.version c → length (cache_in all p c) ≤ 64
+list_short all sums p c h low real = short_at all p c h.short h.many low real
 
 -- no list of partition p has more than 64 slots, whatever the class c
-any_short : (lists : List (List Numbered)) (sums : List Tally) (p c : ℕ) → AreSummed lists sums → p < 4 → length (cache_in lists p c) ≤ 64
-any_short lists sums p c h low = elim (cases_lt c 59) [
-  | inl real ↦ list_short lists sums p c h low real
-  | inr past ↦ let e = ap length (unlisted lists p c past) in omega (arith, e)
+any_short : (all : VersionLists) (sums : List Tally) (p c : ℕ) → AreSummed all sums → p < 4 → length (cache_in all p c) ≤ 64
+any_short all sums p c h low = elim (class_cases all.version c) [
+  | inl real ↦ list_short all sums p c h low real
+  | inr none ↦ let e = ap length (unlisted all p c none) in omega (arith, e)
 ]
 
 few_bytes : (n c : ℕ) → n ≤ 64 → c < 170 → slot_of c * n ≤ 62914560
 few_bytes n c few real = mul-le (slot_of c) n 983040 64 (IsRow-of c real).greatest_slot few
 
-pub sum_few : (lists : List (List Numbered)) (sums : List Tally) (p : ℕ) (sum : Tally) → AreSummed lists sums → p < 4 → IsListedBy (cache_in lists) p sum → sum.slots ≤ 10880
-sum_few lists sums p sum h low by =
-    let most = over_most (slots_in (cache_in lists) p) 64 0 170 (λ c real. any_short lists sums p c h low) in
-    let is = slots_over (cache_in lists p) 0 170 in
+pub sum_few : (all : VersionLists) (sums : List Tally) (p : ℕ) (sum : Tally) → AreSummed all sums → p < 4 → IsListedBy (cache_in all) p sum → sum.slots ≤ 10880
+sum_few all sums p sum h low by =
+    let most = over_most (slots_in (cache_in all) p) 64 0 170 (λ c real. any_short all sums p c h low) in
+    let is = slots_over (cache_in all p) 0 170 in
     let a = by.slots in
     omega (arith, most, is, a)
 
-pub sum_small : (lists : List (List Numbered)) (sums : List Tally) (p : ℕ) (sum : Tally) → AreSummed lists sums → p < 4 → IsListedBy (cache_in lists) p sum → sum.bytes ≤ 10695475200
-sum_small lists sums p sum h low by =
-    let most = over_most (bytes_in (cache_in lists) p) 62914560 0 170 (λ c real. few_bytes (length (cache_in lists p c)) c (any_short lists sums p c h low) real) in
-    let is = bytes_over (λ class. length (cache_in lists p class)) 0 170 in
+pub sum_small : (all : VersionLists) (sums : List Tally) (p : ℕ) (sum : Tally) → AreSummed all sums → p < 4 → IsListedBy (cache_in all) p sum → sum.bytes ≤ 10695475200
+sum_small all sums p sum h low by =
+    let most = over_most (bytes_in (cache_in all) p) 62914560 0 170 (λ c real. few_bytes (length (cache_in all p c)) c (any_short all sums p c h low) real) in
+    let is = bytes_over (λ class. length (cache_in all p class)) 0 170 in
     let a = by.bytes in
     omega (arith, most, is, a)
 
@@ -129,41 +132,40 @@ four_none (suc (suc zero)) = refl
 four_none (suc (suc (suc zero))) = refl
 four_none (suc (suc (suc (suc q)))) = refl
 
-pub none_summed : (lists : List (List Numbered)) (sums : List Tally) → length lists ≡ 236 → All (λ xs. xs ≡ []) lists → sums ≡ no_slots ∷ no_slots ∷ no_slots ∷ no_slots ∷ [] → AreSummed lists sums
-none_summed lists sums many none no_sums = subst (AreSummed lists) (sym no_sums)
+pub none_summed : (all : VersionLists) (sums : List Tally) → length all.lists ≡ 4 * class_total all.version → All (λ xs. xs ≡ []) all.lists → sums ≡ no_slots ∷ no_slots ∷ no_slots ∷ no_slots ∷ []
+    → AreSummed all sums
+none_summed all sums many none no_sums = subst (AreSummed all) (sym no_sums)
     (record {
       many = many;
       short = λ k d below. let e = ap length (none k d below) in omega (arith, e);
       four = refl;
-      each = λ p low. subst (λ (t : Tally). IsListedBy (cache_in lists) p t) (sym (four_none p)) (none_listed (cache_in lists) p (cache_empty lists none));
+      each = λ p low. subst (λ (t : Tally). IsListedBy (cache_in all) p t) (sym (four_none p)) (none_listed (cache_in all) p (cache_empty all none));
     })
 
 -- ---- one list changed
 
-pub part_of : (lists : List (List Numbered)) (sums : List Tally) (p class after : ℕ) (sum : Tally) → AreSummed lists sums → p < 4 → class < 59 → IsListedBy (cache_in lists) p sum → after ≤ 64
-    → HasPart sum class (length (get_or lists (59 * p + class) [])) after
-part_of lists sums p class after sum h low real by few =
-    let there = listed lists p class real in
-    let long = ap length there in
-    let heavy : slot_of class * length (cache_in lists p class) ≡ slot_of class * length (get_or lists (59 * p + class) []) = ap (λ z. slot_of class * z) long in
-    let a = over_part (slots_in (cache_in lists) p) class 0 170 (omega arith) (omega (arith, real)) in
-    let b = over_part (bytes_in (cache_in lists) p) class 0 170 (omega arith) (omega (arith, real)) in
-    let c = slots_over (cache_in lists p) 0 170 in
-    let d = bytes_over (λ k. length (cache_in lists p k)) 0 170 in
+pub part_of : (all : VersionLists) (sums : List Tally) (p class after : ℕ) (sum : Tally) → AreSummed all sums → p < 4 → HasClass all.version class → IsListedBy (cache_in all) p sum → after ≤ 64
+    → HasPart sum class (length (cache_in all p class)) after
+part_of all sums p class after sum h low real by few =
+    let among = real_in all.version class real in
+    let a = over_part (slots_in (cache_in all) p) class 0 170 (omega arith) (omega (arith, among)) in
+    let b = over_part (bytes_in (cache_in all) p) class 0 170 (omega arith) (omega (arith, among)) in
+    let c = slots_over (cache_in all p) 0 170 in
+    let d = bytes_over (λ k. length (cache_in all p k)) 0 170 in
     let e = by.slots in
     let f = by.bytes in
-    let g = list_short lists sums p class h low real in
     record {
-      slots = omega (arith, a, c, e, long);
-      bytes = omega (arith, b, d, f, heavy);
-      few = sum_few lists sums p sum h low by;
-      small = sum_small lists sums p sum h low by;
-      short = omega (arith, g, long);
+      slots = omega (arith, a, c, e);
+      bytes = omega (arith, b, d, f);
+      few = sum_few all sums p sum h low by;
+      small = sum_small all sums p sum h low by;
+      short = list_short all sums p class h low real;
       short_too = few;
     }
 
 -- the sum of the partition's lists
-sum_here : (cache next : Cache) (p class : ℕ) (xs : List Numbered) (sum after : Tally) → class < 59 → next ≡ with_list cache p class xs → IsListedBy cache p sum → after ≡ changed_by sum class (length (cache p class)) (length xs)
+sum_here : (cache next : Cache) (p class : ℕ) (xs : List Numbered) (sum after : Tally) → class < 170 → next ≡ with_list cache p class xs
+    → IsListedBy cache p sum → after ≡ changed_by sum class (length (cache p class)) (length xs)
     → IsListedBy next p after
 sum_here cache next p class xs sum after real becomes by is = record { slots = slots; bytes = bytes }
   where
@@ -203,51 +205,54 @@ sum_here cache next p class xs sum after real becomes by is = record { slots = s
 
 -- the sum of another partition's lists
 sum_there : (cache next : Cache) (p q class : ℕ) (xs : List Numbered) (sum : Tally) → (q ≡ p → ⊥) → next ≡ with_list cache p class xs → IsListedBy cache q sum → IsListedBy next q sum
-sum_there cache next p q class xs sum ne becomes by = record { slots = by.slots ∙ ap (λ (z : ℕ → List Numbered). listed_slots z 0 170) same; bytes = by.bytes ∙ ap (λ (z : ℕ → List Numbered). listed_bytes (λ k. length (z k)) 0 170) same }
+sum_there cache next p q class xs sum ne becomes by = record {
+  slots = by.slots
+      ∙ ap (λ (z : ℕ → List Numbered). listed_slots z 0 170) same;
+  bytes = by.bytes
+      ∙ ap (λ (z : ℕ → List Numbered). listed_bytes (λ k. length (z k)) 0 170) same;
+}
   where
     same : cache q ≡ next q
     same = λ i c. sym (ap (λ (z : Cache). z q c) becomes ∙ with_other cache p class q c xs (λ e f. ne e)) i
 
-pub summed_set : (lists : List (List Numbered)) (sums : List Tally) (p class : ℕ) (xs : List Numbered) (sum after : Tally) → p < 4 → class < 59 → AreSummed lists sums → length xs ≤ 64 → sum ≡ get_or sums p no_slots
-    → after ≡ changed_by sum class (length (get_or lists (59 * p + class) [])) (length xs) → AreSummed (set lists (59 * p + class) xs) (set sums p after)
-summed_set lists sums p class xs sum after low real h few there is = record {
-  many = length-set lists (59 * p + class) xs ∙ h.many;
-  short = All-set (λ (slots : List Numbered). length slots ≤ 64) lists (59 * p + class) xs few h.short;
+pub summed_set : (all : VersionLists) (sums : List Tally) (p class at : ℕ) (xs : List Numbered) (sum after : Tally) → p < 4
+    → HasClass all.version class → at ≡ place_of all.version p class → AreSummed all sums
+    → length xs ≤ 64 → sum ≡ get_or sums p no_slots → after ≡ changed_by sum class (length (cache_in all p class)) (length xs) → AreSummed (with_place all at xs) (set sums p after)
+summed_set all sums p class at xs sum after low real place h few there is = record {
+  many = length-set all.lists at xs ∙ h.many;
+  short = All-set (λ (slots : List Numbered). length slots ≤ 64) all.lists at xs few h.short;
   four = length-set sums p after ∙ h.four;
   each = each;
 }
   where
     next : Cache
-    next = cache_in (set lists (59 * p + class) xs)
+    next = cache_in (with_place all at xs)
 
-    becomes : next ≡ with_list (cache_in lists) p class xs
-    becomes = cache_set lists p class xs (omega (arith, h.many, low, real)) real
-
-    is' : after ≡ changed_by sum class (length (cache_in lists p class)) (length xs)
-    is' = is ∙ ap (λ (zs : List Numbered). changed_by sum class (length zs) (length xs)) (sym (listed lists p class real))
+    becomes : next ≡ with_list (cache_in all) p class xs
+    becomes = cache_put all p class at xs h.many low real place
 
     each : (q : ℕ) → q < 4 → IsListedBy next q (get_or (set sums p after) q no_slots)
     each q small = elim (cases_eq q p) [
       | inl same ↦
-          let by : IsListedBy (cache_in lists) p sum = subst (λ (t : Tally). IsListedBy (cache_in lists) p t) (sym there) (h.each p low) in
+          let by : IsListedBy (cache_in all) p sum = subst (λ (t : Tally). IsListedBy (cache_in all) p t) (sym there) (h.each p low) in
           let t : get_or (set sums p after) q no_slots ≡ after = ap (λ z. get_or (set sums p after) z no_slots) same ∙ get_or-set_same sums p after no_slots (omega (arith, h.four, low)) in
           subst (λ z. IsListedBy next z (get_or (set sums p after) q no_slots)) (sym same)
-          (subst (λ (z : Tally). IsListedBy next p z) (sym t) (sum_here (cache_in lists) next p class xs sum after real becomes by is'))
+          (subst (λ (z : Tally). IsListedBy next p z) (sym t) (sum_here (cache_in all) next p class xs sum after (real_in all.version class real) becomes by is))
       | inr other ↦
           subst (λ (z : Tally). IsListedBy next q z) (sym (get_or-set_other sums p q after no_slots other))
-          (sum_there (cache_in lists) next p q class xs (get_or sums q no_slots) other becomes (h.each q small))
+          (sum_there (cache_in all) next p q class xs (get_or sums q no_slots) other becomes (h.each q small))
     ]
 
--- what `set` knows: the class by its number, and how long the list is that is there
-pub part_there : (lists : List (List Numbered)) (sums : List Tally) (p class number before after : ℕ) → AreSummed lists sums → p < 4 → number ≡ class → number < 59 → before ≡ length (get_or lists (59 * p + number) []) → after ≤ 64
+-- what `replace` knows: where the list is, and how long it was
+pub part_there : (all : VersionLists) (sums : List Tally) (p class before after : ℕ) → AreSummed all sums → p < 4 → HasClass all.version class → before ≡ length (cache_in all p class) → after ≤ 64
     → HasPart (get_or sums p no_slots) class before after
-part_there lists sums p class number before after h low is real long few =
-    subst (λ k. HasPart (get_or sums p no_slots) class k after) (sym (long ∙ ap (λ k. length (get_or lists (59 * p + k) [])) is))
-    (part_of lists sums p class after (get_or sums p no_slots) h low (omega (arith, is, real)) (h.each p low) few)
+part_there all sums p class before after h low real long few =
+    subst (λ k. HasPart (get_or sums p no_slots) class k after) (sym long) (part_of all sums p class after (get_or sums p no_slots) h low real (h.each p low) few)
 
-pub summed_there : (lists : List (List Numbered)) (sums : List Tally) (p class number before after : ℕ) (xs : List Numbered) (sum : Tally) → AreSummed lists sums → p < 4 → number ≡ class → number < 59
-    → before ≡ length (get_or lists (59 * p + number) []) → after ≡ length xs → length xs ≤ 64 → sum ≡ changed_by (get_or sums p no_slots) class before after → AreSummed (set lists (59 * p + number) xs) (set sums p sum)
-summed_there lists sums p class number before after xs sum h low is real long more few becomes =
-    summed_set lists sums p number xs (get_or sums p no_slots) sum low real h few refl
-    (becomes ∙ ap (λ k. changed_by (get_or sums p no_slots) k before after) (sym is) ∙ ap (λ k. changed_by (get_or sums p no_slots) number k after) long
-    ∙ ap (λ k. changed_by (get_or sums p no_slots) number (length (get_or lists (59 * p + number) [])) k) more)
+pub summed_there : (all : VersionLists) (sums : List Tally) (p class at before after : ℕ) (xs : List Numbered) (sum : Tally) → AreSummed all sums → p < 4 → HasClass all.version class
+    → at ≡ place_of all.version p class → before ≡ length (cache_in all p class) → after ≡ length xs → length xs ≤ 64 → sum ≡ changed_by (get_or sums p no_slots) class before after
+    → AreSummed (with_place all at xs) (set sums p sum)
+summed_there all sums p class at before after xs sum h low real place long more few becomes =
+    summed_set all sums p class at xs (get_or sums p no_slots) sum low real place h few refl
+    (becomes ∙ ap (λ k. changed_by (get_or sums p no_slots) class k after) long
+    ∙ ap (λ k. changed_by (get_or sums p no_slots) class (length (cache_in all p class)) k) more)

@@ -22,12 +22,15 @@ use Rattle.pa_audit_holders.proofs.Moving.{holds_is, holds_was, moves_grown}
 
 -- ---- an entry
 
-pub owners_grown : (ps : List Played) (before : List RootEntry) (e : RootEntry) (line : ℕ) (course : Course) (slots : List Numbered) (g : ℕ → Option Owner) → moves_by e.line e.act ≡ map (move_on line course) slots →
+pub owners_grown : (ps : List Played) (before : List RootEntry) (e : RootEntry) (line : ℕ) (course : Course) (slots : List Numbered)
+    (g : ℕ → Option Owner) → moves_by e.line e.act ≡ map (move_on line course) slots →
     HasOwners ps (all_moves before ++ map (move_on line course) slots) g → HasOwners ps (all_moves (before ++ e ∷ [])) g
 owners_grown ps before e line course slots g is h = subst (λ ms. HasOwners ps ms g) (ap (λ z. all_moves before ++ z) (sym is) ∙ sym (moves_grown before e)) h
 
-pub entry_fits : (ps : List Played) (before : List RootEntry) (e : RootEntry) (line : ℕ) (course : Course) (slots : List Numbered) (fit stays both : Bool) → moves_by e.line e.act ≡ map (move_on line course) slots →
-    IsTrue fit ↔ AllFit ps (all_moves before) (map (move_on line course) slots) → IsTrue stays ↔ NoneGone before slots → IsTrue both ↔ (IsTrue fit × IsTrue stays) → IsTrue both ↔ EntryMovesFit ps before e
+pub entry_fits : (ps : List Played) (before : List RootEntry) (e : RootEntry) (line : ℕ) (course : Course) (slots : List Numbered)
+    (fit stays both : Bool) → moves_by e.line e.act ≡ map (move_on line course) slots →
+    IsTrue fit ↔ AllFit ps (all_moves before) (map (move_on line course) slots) → IsTrue stays ↔ NoneGone before slots
+    → IsTrue both ↔ (IsTrue fit × IsTrue stays) → IsTrue both ↔ EntryMovesFit ps before e
 entry_fits ps before e line course slots fit stays both is moves there joint = (
   λ yes. record {
     moves = subst (λ zs. AllFit ps (all_moves before) zs) (sym is) (moves.0 (joint.0 yes).0);
@@ -38,10 +41,12 @@ entry_fits ps before e line course slots fit stays both is moves there joint = (
 
 -- ---- a journal
 
-pub fits_at : (ps : List Played) (journal : List RootEntry) (j : ℕ) (e : RootEntry) (fits : Bool) → slice_get journal j ≡ Some e → IsTrue fits ↔ EntryMovesFit ps (take j journal) e → IsTrue fits ↔ EntryMovesFitAt ps journal j
+pub fits_at : (ps : List Played) (journal : List RootEntry) (j : ℕ) (e : RootEntry) (fits : Bool) → slice_get journal j ≡ Some e
+    → IsTrue fits ↔ EntryMovesFit ps (take j journal) e → IsTrue fits ↔ EntryMovesFitAt ps journal j
 fits_at ps journal j e fits at is = (λ yes f at'. subst (λ (z : RootEntry). EntryMovesFit ps (take j journal) z) (of_some e f (sym at ∙ at')) (is.0 yes), λ each. is.1 (each e at))
 
-pub table_next : (ps : List Played) (journal : List RootEntry) (at i : ℕ) (e : RootEntry) (t : Table) → at ≡ i → slice_get journal i ≡ Some e → KnowsJournal ps (take at journal ++ e ∷ []) t → KnowsJournal ps (take (at + 1) journal) t
+pub table_next : (ps : List Played) (journal : List RootEntry) (at i : ℕ) (e : RootEntry) (t : Table) → at ≡ i
+    → slice_get journal i ≡ Some e → KnowsJournal ps (take at journal ++ e ∷ []) t → KnowsJournal ps (take (at + 1) journal) t
 table_next ps journal at i e t same there h =
     let here = subst (λ n. slice_get journal n ≡ Some e) (sym same) there in
     let below = slice_get_within journal at e here in

@@ -1,6 +1,5 @@
 -- What the threads' lists have together.
 use Rattle.std.proofs.Common.{◌≡◌, ℕ, ◌+◌, List, length, map, take, sym, ◌∙◌, ap, subst, arith}
-use Rattle.pa_record.specs.declared.numbered.Numbered.{Numbered}
 use Rattle.pa_record.specs.declared.report.Tally.{Tally}
 use Rattle.pa_rules.specs.declared.played.Played.{Played}
 use Rattle.pa_rules.specs.Roots.{Journals}
@@ -9,7 +8,7 @@ use Rattle.pa_rules.specs.Report.{cached_bytes, cached_slots, listed_bytes, unti
 use Rattle.pa_audit_records.specs.Cuts.{IsCut, IsLow}
 use Rattle.pa_audit_records.proofs.Cutting.{until_is}
 use Rattle.pa_audit_holders.specs.Cached.{AreCachedAt, CachesSoFar, HaveLed, HaveListed, IsListed}
-use Rattle.pa_audit_holders.specs.Lists.{IsListedBy, caches_in}
+use Rattle.pa_audit_holders.specs.Lists.{IsListedBy, VersionLists, caches_in}
 use Rattle.pa_lists.proofs.Tests.{one_more}
 
 pub cached_at : (partitions threads : ℕ) (roots : Journals) (ps : List Played) (end : ℕ) (all : Caches) (tallies : List Tally) → HaveLed partitions roots ps end all → HaveListed threads all tallies
@@ -22,14 +21,14 @@ cached_at partitions threads roots ps end all tallies h listed = record {
 -- ---- phase by phase
 
 -- what is known at the end of a phase, whose records and those before it are the first `count` ones
-pub record IsEnded (partitions threads : ℕ) (roots : Journals) (ps : List Played) (phase count : ℕ) (caches : List (List (List Numbered))) (tallies : List Tally) : Type 0 where
+pub record IsEnded (partitions threads : ℕ) (roots : Journals) (ps : List Played) (phase count : ℕ) (caches : List VersionLists) (tallies : List Tally) : Type 0 where
   pub low : IsLow (map (λ (x : Played). x.phase) ps) phase count
   pub sixteen : length caches ≡ 16
   pub walk : CachesSoFar partitions roots ps (caches_in caches) count
   pub listed : HaveListed threads (caches_in caches) tallies
   pub here : AreCachedAt partitions threads roots (until phase ps) tallies
 
-pub phase_ended : (partitions threads : ℕ) (roots : Journals) (ps : List Played) (phase count end : ℕ) (caches : List (List (List Numbered))) (tallies : List Tally)
+pub phase_ended : (partitions threads : ℕ) (roots : Journals) (ps : List Played) (phase count end : ℕ) (caches : List VersionLists) (tallies : List Tally)
     → IsCut (map (λ (x : Played). x.phase) ps) phase end → count ≡ end → length caches ≡ 16
     → CachesSoFar partitions roots ps (caches_in caches) end → HaveListed threads (caches_in caches) tallies
     → IsEnded partitions threads roots ps phase count caches tallies

@@ -1,6 +1,6 @@
 -- The owner of a free slot: the lists of its partition and class, or its root.
 use Rattle.std.specs.Prelude.{◌≡◌, ℕ, ◌<◌, nat_lt, if◌then◌else◌, List, Option, Some, None, IsSome, Contains}
-use Rattle.pa_buckets.specs.Limits.{class_count, sparse_count}
+use Rattle.pa_buckets.specs.Limits.{class_count}
 use Rattle.pa_buckets.specs.Table.{slot_of}
 use Rattle.pa_slot.specs.declared.word.SlotName.{SlotName}
 use Rattle.pa_record.specs.declared.pool.PoolEntry.{PoolEntry}
@@ -13,6 +13,7 @@ use Rattle.pa_rules.specs.declared.played.Played.{Played}
 use Rattle.pa_rules.specs.Roots.{Journals, IsEntry, AreRoots, IsPoolOf}
 use Rattle.pa_rules.specs.Caches.{IsOfClass, IsDirect}
 use Rattle.pa_rules.specs.Report.{HasSize}
+use Rattle.pa_rules.specs.Sizes.{HasClass}
 use Rattle.pa_audit_records.specs.Keys.{name_key}
 use Rattle.pa_audit_holders.specs.declared.homes.Home.{Home}
 
@@ -26,19 +27,19 @@ pub record IsHomeOf (roots : Journals) (s : SlotName) (h : Home) : Type 0 where
   pub goes : IsHomeIn roots s h.partition h.class
   pub size : HasSize roots h.partition s h.bytes
 
--- The slot has one home: fills give it one partition and class, of version 1, direct maps one partition, and it isn't both.
-pub record HasOneHome (roots : Journals) (s : SlotName) : Type 0 where
+-- The slot has one home: fills give it one partition and class, of the version, direct maps one partition, and it isn't both.
+pub record HasOneHome (version : ℕ) (roots : Journals) (s : SlotName) : Type 0 where
   pub class : (p q c d : ℕ) → IsOfClass roots s p c → IsOfClass roots s q d → (p ≡ q) × (c ≡ d)
-  pub real : (p c : ℕ) → IsOfClass roots s p c → c < sparse_count
+  pub real : (p c : ℕ) → IsOfClass roots s p c → HasClass version c
   pub direct : (p q : ℕ) → IsDirect roots s p → IsDirect roots s q → p ≡ q
   pub either : (p q c : ℕ) → IsOfClass roots s p c → IsDirect roots s q → ⊥
 
--- each slot of the journals has one home, if the records are of version 1 and the clauses of the pool and the roots hold
+-- each slot of the journals has one home, if the records are of one version and the clauses of the pool and the roots hold
 abbrev pub OneHome : Type 0
 OneHome =
-    (supers partitions : ℕ) (ps : List Played) (pools : List PoolEntry) (roots : Journals) (s : SlotName) →
-    ((x : Played) → Contains ps x → x.rules.version ≡ 1) → AreRoots partitions ps pools roots → IsPoolOf supers ps pools roots →
-    HasOneHome roots s
+    (version supers partitions : ℕ) (ps : List Played) (pools : List PoolEntry) (roots : Journals) (s : SlotName) →
+    ((x : Played) → Contains ps x → x.rules.version ≡ version) → AreRoots partitions ps pools roots → IsPoolOf supers ps pools roots →
+    HasOneHome version roots s
 
 -- no entry of a journal handed the slot out
 pub record IsHomeless (roots : Journals) (s : SlotName) : Type 0 where

@@ -1,21 +1,32 @@
 -- The lists of the threads' caches, in tables, and what they have together.
-use Rattle.std.specs.Prelude.{◌≡◌, ℕ, ◌+◌, ◌-◌, ◌*◌, ◌<◌, ◌≤◌, nat_lt, if◌then◌else◌, List, [], All, length, slice_index_or}
-use Rattle.pa_buckets.specs.Limits.{class_count, sparse_count}
+use Rattle.std.specs.Prelude.{◌≡◌, ℕ, ◌+◌, ◌-◌, ◌*◌, ◌<◌, ◌≤◌, if◌then◌else◌, List, [], All, length, slice_index_or}
+use Rattle.pa_buckets.specs.Limits.{class_count, first_class}
 use Rattle.pa_buckets.specs.Table.{slot_of}
 use Rattle.pa_record.specs.declared.numbered.Numbered.{Numbered}
 use Rattle.pa_record.specs.declared.report.Tally.{Tally}
 use Rattle.pa_trace.specs.Limits.{most_partitions}
-use Rattle.pa_rules.specs.Limits.{list_count}
 use Rattle.pa_rules.specs.Caches.{Cache, Caches, listed_slots}
 use Rattle.pa_rules.specs.Report.{listed_bytes}
+use Rattle.pa_rules.specs.Sizes.{is_class, class_total}
 
--- the lists of one thread, 59 of each partition, one for each class of version 1, and an empty one past the end
-abbrev pub cache_in : List (List Numbered) → Cache
-cache_in lists p class = if nat_lt class sparse_count then slice_index_or lists (sparse_count * p + class) [] else []
+-- the lists of one thread in a run of a version: of each partition one for each class of the version
+pub record VersionLists : Type 0 where
+  pub version : ℕ
+  pub lists : List (List Numbered)
+
+-- no lists
+abbrev pub no_lists : VersionLists
+no_lists = record { version = 1; lists = [] }
+
+-- the lists of one thread by partition and class, and an empty one past the end
+abbrev pub cache_in : VersionLists → Cache
+cache_in all p class =
+    if is_class all.version class
+    then slice_index_or all.lists (class_total all.version * p + (class - first_class all.version)) [] else []
 
 -- the lists of all threads, and empty ones past the last thread
-abbrev pub caches_in : List (List (List Numbered)) → Caches
-caches_in threads t = cache_in (slice_index_or threads t [])
+abbrev pub caches_in : List VersionLists → Caches
+caches_in threads t = cache_in (slice_index_or threads t no_lists)
 
 -- the tally of no slots
 abbrev pub no_slots : Tally
@@ -27,13 +38,13 @@ pub record IsListedBy (cache : Cache) (p : ℕ) (tally : Tally) : Type 0 where
   pub bytes : tally.bytes ≡ listed_bytes (λ class. length (cache p class)) 0 class_count
 
 -- What is true of a thread's lists and of their sums.
---   many, short: the lists are 59 of each of four partitions, none longer than a thread keeps or than a fill is
+--   many, short: the lists are one for each class of each of four partitions, none longer than a thread keeps or than a fill is
 --   four, each: a sum of each partition is that of its lists
-pub record AreSummed (lists : List (List Numbered)) (sums : List Tally) : Type 0 where
-  pub many : length lists ≡ list_count
-  pub short : All (λ slots. length slots ≤ 64) lists
+pub record AreSummed (all : VersionLists) (sums : List Tally) : Type 0 where
+  pub many : length all.lists ≡ most_partitions * class_total all.version
+  pub short : All (λ slots. length slots ≤ 64) all.lists
   pub four : length sums ≡ most_partitions
-  pub each : (p : ℕ) → p < most_partitions → IsListedBy (cache_in lists) p (slice_index_or sums p no_slots)
+  pub each : (p : ℕ) → p < most_partitions → IsListedBy (cache_in all) p (slice_index_or sums p no_slots)
 
 -- the tally of lists after one of a class went from the first number of slots to the second
 abbrev pub changed_by : Tally → ℕ → ℕ → ℕ → Tally

@@ -42,9 +42,9 @@ NamesPartition (ops.Read reg place) = Unit {0}
 NamesPartition (ops.Swap cell reg) = Unit {0}
 NamesPartition ops.Purge = Unit {0}
 
--- the record's thread is one of 16, a partition that its op names is one of four, and it is of version 1
-abbrev pub IsOfThreads : Played → Type 0
-IsOfThreads x = (x.thread < most_threads) × NamesPartition x.op × (x.rules.version ≡ 1)
+-- the record's thread is one of 16, a partition that its op names is one of four, and it is of the version
+abbrev pub IsOfThreads : ℕ → Played → Type 0
+IsOfThreads version x = (x.thread < most_threads) × NamesPartition x.op × (x.rules.version ≡ version)
 
 -- With true, the record's row leads from these lists to those. With false, it leads to none.
 pub record TellsNext (partitions : ℕ) (roots : Journals) (x : Played) (all after : Caches) (b : Bool) : Type 0 where

@@ -26,6 +26,7 @@ use std::marker::Model;
 /// of the slots. They are seen as the records and the journals.
 #[derive(Drop)]
 pub struct Books<'a> {
+    version: u32,
     partitions: u32,
     records: &'a [Played],
     roots: &'a [DenseJournal],
@@ -39,18 +40,19 @@ impl<'a> Model for Books<'a> {
 
     ghost Value = { RunBooks };
 
-    ghost view = { λ b. record { partitions = b.partitions; records = b.records.now; roots = b.roots.now } };
+    ghost view = { λ b. record { version = b.version; partitions = b.partitions; records = b.records.now; roots = b.roots.now } };
 
     ghost invariant = { λ b.
-        AreBooks (record { partitions = b.partitions; records = b.records.now; roots = b.roots.now }) b.lines.items
+        AreBooks (record { version = b.version; partitions = b.partitions; records = b.records.now; roots = b.roots.now }) b.lines.items
         (value_at b.homes.now) };
 }
 
 impl<'a> Books<'a> {
-    /// The books of these records and journals. The records are of at most 16 threads and four partitions, and each slot of the
-    /// journals is of one partition, and of one class or a direct map, as the table of homes has it.
+    /// The books of these records and journals. The records are of at most 16 threads and four partitions and of the version, and each slot
+    /// of the journals is of one partition, and of one class of the version or a direct map, as the table of homes has it.
     pub fn of(
         alloc: Global,
+        version: u32,
         partitions: u32,
         records: &'a [Played],
         roots: &'a [DenseJournal],
@@ -58,21 +60,29 @@ impl<'a> Books<'a> {
     ) -> Result<Books<'a>, OutOfMemory>
         requires partitions { partitions ≤ most_partitions }
         requires few { length records.now < 2 ^ 32 }
-        requires within { All IsOfThreads records.now }
+        requires within { All (IsOfThreads version) records.now }
         requires four { length roots.now ≤ most_partitions }
         requires entries { (p : ℕ) → length (journal_at roots.now p) < 2 ^ 32 }
         requires homes { KnowsHomes (journal_at roots.now) (value_at homes.now) }
-        requires kinds { (s : Name) → HasOneHome (journal_at roots.now) s }
-        ensures { IfOk result (λ books. books ≡ record { partitions = partitions; records = records.now; roots = roots.now }) }
+        requires kinds { (s : Name) → HasOneHome version (journal_at roots.now) s }
+        ensures { IfOk result (λ books. books ≡ record { version = version; partitions = partitions; records = records.now; roots = roots.now }) }
     {
         let lines = lines_of(alloc, lines_below(records), roots)?;
         Ok(Books {
+            version,
             partitions,
             records,
             roots,
             lines,
             homes,
         })
+    }
+
+    // The version of the run.
+    pub(crate) fn version(&self) -> u32
+        ensures { result ≡ self.now.version }
+    {
+        self.version
     }
 
     fn partitions(&self) -> u32
@@ -102,7 +112,7 @@ impl<'a> Books<'a> {
         requires { at < length self.now.records }
         ensures page { (x : Played) → IsRecord self.now.records at x → result ≡ page_of self.now x }
         ensures few { at < 2 ^ 32 }
-        ensures kinds { (s : Name) → HasOneHome (journal_at self.now.roots) s }
+        ensures kinds { (s : Name) → HasOneHome self.now.version (journal_at self.now.roots) s }
     {
         let records = self.records;
         let told = records[at];
@@ -124,7 +134,7 @@ impl<'a> Books<'a> {
     fn home_of(&self, slot: SlotName) -> Option<Home>
         ensures home { TellsHome (journal_at self.now.roots) slot result }
         ensures partition { IfSome result (λ home. home.partition < most_partitions) }
-        ensures one { HasOneHome (journal_at self.now.roots) slot }
+        ensures one { HasOneHome self.now.version (journal_at self.now.roots) slot }
     {
         match self.homes.find(key(slot)) {
             Some(home) => Some(home),
@@ -175,7 +185,7 @@ impl<'a> Page<'a> {
     pub(crate) fn told(&self) -> Played
         ensures told { result ≡ self.now.told }
         ensures partition { NamesPartition result.op }
-        ensures version { result.rules.version ≡ 1 }
+        ensures version { result.rules.version ≡ self.now.version }
     {
         self.told
     }
@@ -190,7 +200,7 @@ impl<'a> Page<'a> {
     pub(crate) fn home_of(&self, slot: SlotName) -> Option<Home>
         ensures home { TellsHome (journal_at self.now.roots) slot result }
         ensures partition { IfSome result (λ home. home.partition < most_partitions) }
-        ensures one { HasOneHome (journal_at self.now.roots) slot }
+        ensures one { HasOneHome self.now.version (journal_at self.now.roots) slot }
     {
         self.books.home_of(slot)
     }

@@ -1,4 +1,4 @@
-ghost use Rattle.std.specs.Prelude.{◌≡◌, ◌≤◌, IfOk, None, OnOk, length};
+ghost use Rattle.std.specs.Prelude.{◌≡◌, ◌≤◌, All, IfOk, None, OnOk, length};
 ghost use Rattle.pa_trace.specs.Limits.{most_threads};
 ghost use Rattle.pa_audit_records.specs.Cuts.{AreRecordCuts};
 ghost use Rattle.pa_rules.specs.declared.verdict.Place.TheVariants as places;
@@ -44,7 +44,7 @@ pub fn caches_meet(
     ensures cached { IfOk result (λ found. found.misfit ≡ None
         → HaveCached books.now.partitions threads (journal_at books.now.roots) books.now.records found.cached.items) }
 {
-    let mut caches = no_lists(alloc)?;
+    let mut caches = no_lists(alloc, books.version())?;
     let mut listed = all_listed(threads, caches.as_slice());
     let mut cached = Vec::new(alloc);
     let mut from = 0;
@@ -74,8 +74,10 @@ fn play_phase(
     requires order { from ≤ end }
     requires end { end ≤ length books.now.records }
     requires sixteen { length caches.old.items ≡ most_threads }
+    requires version { All (λ x. x.version ≡ books.now.version) caches.old.items }
     requires before { CachesSoFar books.now.partitions (journal_at books.now.roots) books.now.records (caches_in caches.old.items) from }
     ensures sixteen { OnOk result (length caches.new.items ≡ most_threads) }
+    ensures version { OnOk result (All (λ x. x.version ≡ books.now.version) caches.new.items) }
     ensures played { IfOk result
         (TellsPlayed books.now.partitions (journal_at books.now.roots) books.now.records (caches_in caches.new.items) end) }
 {
@@ -89,14 +91,15 @@ fn play_phase(
     Ok(None)
 }
 
-// The lists of 16 threads, which are empty.
-fn no_lists(alloc: Global) -> Result<Vec<ThreadLists>, OutOfMemory>
+// The lists of 16 threads of a run of the version, which are empty.
+fn no_lists(alloc: Global, version: u32) -> Result<Vec<ThreadLists>, OutOfMemory>
+    ensures version { IfOk result (λ lists. All (λ x. x.version ≡ version) lists.items) }
     ensures many { IfOk result (λ lists. length lists.items ≡ most_threads) }
     ensures none { IfOk result (λ lists. caches_in lists.items ≡ no_caches) }
 {
     let mut lists = Vec::new(alloc);
     for _ in 0..MOST_THREADS {
-        let empty = ThreadLists::new(alloc)?;
+        let empty = ThreadLists::new(alloc, version)?;
         lists.push(empty)?;
     }
     Ok(lists)
@@ -105,9 +108,11 @@ fn no_lists(alloc: Global) -> Result<Vec<ThreadLists>, OutOfMemory>
 // Whether a record's row leads on from the lists. If it does, they are the next ones.
 fn play(alloc: Global, page: &Page<'_>, caches: &mut Vec<ThreadLists>) -> Result<bool, OutOfMemory>
     requires threads { length caches.old.items ≡ most_threads }
+    requires version { All (λ x. x.version ≡ page.now.version) caches.old.items }
     ensures next { IfOk result (TellsNext page.now.partitions (journal_at page.now.roots) page.now.told
         (caches_in caches.old.items) (caches_in caches.new.items)) }
     ensures threads { length caches.new.items ≡ most_threads }
+    ensures version { All (λ x. x.version ≡ page.now.version) caches.new.items }
 {
     let cache = &mut caches[page.thread() as usize];
     let fits = plays(alloc, page, cache)?;

@@ -1,12 +1,12 @@
-ghost use Rattle.std.specs.Prelude.{◌≡◌, ℕ, ◌+◌, ◌<◌, ◌≤◌, [], ◌∷◌, ◌↔◌, All, IfOk, IsTrue, OnErr, OnOk, drop, length, slice_index_or, take};
-ghost use Rattle.pa_buckets.specs.Limits.{sparse_count};
+ghost use Rattle.std.specs.Prelude.{◌≡◌, ℕ, ◌+◌, ◌*◌, ◌-◌, ◌<◌, ◌≤◌, [], ◌∷◌, ◌↔◌, All, IfOk, IsTrue, OnErr, OnOk, drop, length, slice_index_or, take};
+ghost use Rattle.pa_buckets.specs.Limits.{first_class};
 ghost use Rattle.pa_trace.specs.Limits.{most_partitions};
 ghost use Rattle.pa_rules.specs.Caches.{listed_slots, with_list};
+ghost use Rattle.pa_rules.specs.Sizes.{HasClass, class_total};
 ghost use Rattle.pa_audit_holders.specs.Lists.{AreSummed, HasPart, IsListedBy, cache_in, changed_by, no_slots};
 
-use pa_buckets::{Class, slot_size};
+use pa_buckets::{Class, first_class, past_class, slot_size};
 use pa_record::{Numbered, Tally};
-use pa_rules::LISTS;
 use pa_slot::OutOfMemory;
 use pa_trace::MOST_PARTITIONS;
 use std::alloc::Global;
@@ -14,8 +14,6 @@ use std::marker::Model;
 use std::mem;
 
 const PARTITIONS: usize = MOST_PARTITIONS as usize;
-
-const CLASSES: usize = pa_buckets::SPARSE_CLASSES as usize;
 
 // The least number of unused entries that are put before the free slots.
 const LEAST_UNUSED: usize = 4;
@@ -116,69 +114,79 @@ impl FreeSlots {
     }
 }
 
-// A thread's lists of free slots, at most 64 each. They are seen as the list of them: of each of four partitions one of each
-// class of version 1. Beside them is what those of each partition have together.
+// A thread's lists of free slots, at most 64 each: of each of four partitions one of each class of the version. Beside them is what those
+// of each partition have together.
 #[derive(Drop)]
 pub(crate) struct ThreadLists {
+    version: u32,
     lists: Vec<FreeSlots>,
     sums: [Tally; MOST_PARTITIONS as usize],
 }
 
 impl Model for ThreadLists {
-    ghost use Rattle.std.specs.Prelude.{List};
-    ghost use Rattle.pa_record.specs.declared.numbered.Numbered.{Numbered};
-    ghost use Rattle.pa_audit_holders.specs.Lists.{AreSummed};
+    ghost use Rattle.pa_audit_holders.specs.Lists.{AreSummed, VersionLists};
 
-    ghost Value = { List (List Numbered) };
+    ghost Value = { VersionLists };
 
-    ghost view = { λ t. t.lists.items };
+    ghost view = { λ t. record { version = t.version; lists = t.lists.items } };
 
-    ghost invariant = { λ t. AreSummed t.lists.items t.sums };
+    ghost invariant = { λ t. AreSummed (record { version = t.version; lists = t.lists.items }) t.sums };
 }
 
 impl ThreadLists {
     // Lists that are all empty.
-    pub(crate) fn new(alloc: Global) -> Result<ThreadLists, OutOfMemory>
-        ensures { IfOk result (λ t. cache_in t ≡ (λ p class. [])) }
+    pub(crate) fn new(alloc: Global, version: u32) -> Result<ThreadLists, OutOfMemory>
+        ensures version { IfOk result (λ t. t.version ≡ version) }
+        ensures empty { IfOk result (λ t. cache_in t ≡ (λ p class. [])) }
     {
         let mut lists = Vec::new(alloc);
-        for _ in 0..LISTS {
+        for _ in 0..PARTITIONS * classes(version) {
             lists.push(FreeSlots::new(alloc))?;
         }
         Ok(ThreadLists {
+            version,
             lists,
             sums: no_sums(),
         })
     }
 
+    // The version of the run.
+    pub(crate) fn version(&self) -> u32
+        ensures { result ≡ self.now.version }
+    {
+        self.version
+    }
+
     // Empties all lists.
     pub(crate) fn clear(&mut self)
-        ensures { cache_in self.new ≡ (λ p class. []) }
+        ensures version { self.new.version ≡ self.old.version }
+        ensures empty { cache_in self.new ≡ (λ p class. []) }
     {
-        clear_all(&mut self.lists, &self.sums);
+        clear_all(&mut self.lists, self.version, &self.sums);
         self.sums = no_sums();
     }
 
     // The slots of a partition's list, front first.
     pub(crate) fn list(&self, partition: u32, class: Class) -> &[Numbered]
         requires partition { partition < most_partitions }
-        requires class { class < sparse_count }
+        requires class { HasClass self.now.version class }
         ensures slots { result.now ≡ cache_in self.now partition class }
         ensures few { length result.now ≤ 64 }
     {
-        self.lists[CLASSES * partition as usize + class.number() as usize].items()
+        self.lists[place(self.version, partition, class)].items()
     }
 
     // Replaces the slots of a partition's list by others, at most 64, and returns the old ones.
     pub(crate) fn replace(&mut self, partition: u32, class: Class, slots: FreeSlots) -> FreeSlots
         requires partition { partition < most_partitions }
-        requires class { class < sparse_count }
+        requires class { HasClass self.old.version class }
         requires few { length slots ≤ 64 }
+        ensures version { self.new.version ≡ self.old.version }
         ensures slots { result ≡ cache_in self.old partition class }
         ensures few { length result ≤ 64 }
         ensures after { cache_in self.new ≡ with_list (cache_in self.old) partition class slots }
     {
-        let at = CLASSES * partition as usize + class.number() as usize;
+        let at = place(self.version, partition, class);
         let after = slots.len();
         let replaced = mem::replace(&mut self.lists[at], slots);
         let before = replaced.len();
@@ -196,6 +204,25 @@ impl ThreadLists {
     {
         self.sums[partition as usize]
     }
+}
+
+// How many classes the version has.
+fn classes(version: u32) -> usize
+    ensures count { result ≡ class_total version }
+    ensures few { result ≤ 111 }
+{
+    (past_class(version) - first_class(version)) as usize
+}
+
+// Where a partition's list of a class of the version is.
+fn place(version: u32, partition: u32, class: Class) -> usize
+    requires partition { partition < most_partitions }
+    requires class { HasClass version class }
+    ensures place { result ≡ class_total version * partition + (class - first_class version) }
+    ensures within { result < most_partitions * class_total version }
+{
+    let number = class.number() - first_class(version);
+    classes(version) * partition as usize + number as usize
 }
 
 // Puts unused entries before the slots, more than there are slots. Returns how many.
@@ -221,25 +248,27 @@ fn no_sums() -> [Tally; MOST_PARTITIONS as usize]
     [none, none, none, none]
 }
 
-// Empties the lists, of which each partition's have this sum.
-fn clear_all(lists: &mut Vec<FreeSlots>, sums: &[Tally; MOST_PARTITIONS as usize])
-    requires { AreSummed lists.old.items sums.now }
+// Empties the lists of a version, of which each partition's have this sum.
+fn clear_all(lists: &mut Vec<FreeSlots>, version: u32, sums: &[Tally; MOST_PARTITIONS as usize])
+    requires { AreSummed (record { version = version; lists = lists.old.items }) sums.now }
     ensures many { length lists.new.items ≡ length lists.old.items }
     ensures empty { All (λ slots. slots ≡ []) lists.new.items }
 {
     for partition in 0..PARTITIONS {
-        clear_from(lists, CLASSES * partition, sums[partition].slots);
+        let count = classes(version);
+        clear_from(lists, count * partition, count, sums[partition].slots);
     }
 }
 
-// Empties a partition's lists, which begin at this index and have this many slots. Those after the last of them that has
+// Empties a partition's lists, which begin at this index, are so many, and have this many slots. Those after the last of them that has
 // some are left alone.
-fn clear_from(lists: &mut Vec<FreeSlots>, first: usize, slots: u64)
-    requires within { first + sparse_count ≤ length lists.old.items }
-    requires slots { slots ≡ listed_slots (λ class. slice_index_or lists.old.items (first + class) []) 0 sparse_count }
+fn clear_from(lists: &mut Vec<FreeSlots>, first: usize, count: usize, slots: u64)
+    requires few { count ≤ 111 }
+    requires within { first + count ≤ length lists.old.items }
+    requires slots { slots ≡ listed_slots (λ at. slice_index_or lists.old.items (first + at) []) 0 count }
     ensures many { length lists.new.items ≡ length lists.old.items }
-    ensures these { (at : ℕ) → first ≤ at → at < first + sparse_count → slice_index_or lists.new.items at [] ≡ [] }
-    ensures others { (at : ℕ) → (first ≤ at → first + sparse_count ≤ at)
+    ensures these { (at : ℕ) → first ≤ at → at < first + count → slice_index_or lists.new.items at [] ≡ [] }
+    ensures others { (at : ℕ) → (first ≤ at → first + count ≤ at)
         → slice_index_or lists.new.items at [] ≡ slice_index_or lists.old.items at [] }
 {
     let mut rest = slots as usize;

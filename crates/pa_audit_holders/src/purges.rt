@@ -10,12 +10,13 @@ ghost use Rattle.pa_audit_holders.specs.Rows.{TellsRow};
 use crate::books::Page;
 use crate::gives::{ends_with_purge, gives_from};
 use crate::lists::ThreadLists;
-use pa_buckets::Class;
+use pa_buckets::{Class, first_class};
 use pa_dense::DenseEntry;
 
 // A purge gave all lists back, and its answer says how many slots they had.
 pub(crate) fn purged(page: &Page<'_>, slots: u32, cache: &mut ThreadLists) -> bool
-    ensures { TellsRow (PurgedRow page.now.partitions (journal_at page.now.roots) page.now.told slots (cache_in cache.old))
+    ensures version { cache.new.version ≡ cache.old.version }
+    ensures row { TellsRow (PurgedRow page.now.partitions (journal_at page.now.roots) page.now.told slots (cache_in cache.old))
         (cache_in cache.new) result }
 {
     if !purges_all(page, slots, cache) {
@@ -64,7 +65,7 @@ fn purges_lists(
 {
     let mut left = slots;
     let mut rest = cache.sum(partition).slots as usize;
-    let mut number = 0;
+    let mut number = first_class(cache.version());
     let mut at = 0;
     'lists: while rest > 0 {
         let list = cache.list(partition, Class::of(number).unwrap());

@@ -1,5 +1,5 @@
 ghost use Rattle.std.specs.Prelude.{◌≡◌, ℕ, ◌<◌, ◌≤◌, ◌↔◌, [], ◌∷◌, IfOk, IsTrue, Some, drop, length, take};
-ghost use Rattle.pa_buckets.specs.Limits.{sparse_count};
+ghost use Rattle.pa_rules.specs.Sizes.{HasClass};
 ghost use Rattle.pa_trace.specs.Limits.{most_partitions};
 ghost use Rattle.pa_rules.specs.Roots.{journal_at};
 ghost use Rattle.pa_rules.specs.Caches.{DoneRow, OnlyActs, ReturnRow, gives, kept, spilled, unmap_at};
@@ -26,7 +26,9 @@ pub(crate) fn done(
     seen: Seen,
     cache: &mut ThreadLists,
 ) -> Result<bool, OutOfMemory>
-    ensures { IfOk result
+    requires version { cache.old.version ≡ page.now.version }
+    ensures version { cache.new.version ≡ cache.old.version }
+    ensures row { IfOk result
         (TellsRow (DoneRow (journal_at page.now.roots) page.now.told step seen (cache_in cache.old)) (cache_in cache.new)) }
 {
     match step {
@@ -43,7 +45,9 @@ fn stepped(
     seen: Seen,
     cache: &mut ThreadLists,
 ) -> Result<bool, OutOfMemory>
-    ensures { IfOk result
+    requires version { cache.old.version ≡ page.now.version }
+    ensures version { cache.new.version ≡ cache.old.version }
+    ensures row { IfOk result
         (TellsRow (DoneRow (journal_at page.now.roots) page.now.told (Some step) seen (cache_in cache.old)) (cache_in cache.new)) }
 {
     if !returns(step, seen.found) {
@@ -64,7 +68,9 @@ fn put_back(
     slot: Numbered,
     cache: &mut ThreadLists,
 ) -> Result<bool, OutOfMemory>
-    ensures { IfOk result (TellsRow (ReturnRow (journal_at page.now.roots) page.now.told slot (cache_in cache.old)) (cache_in cache.new)) }
+    requires version { cache.old.version ≡ page.now.version }
+    ensures version { cache.new.version ≡ cache.old.version }
+    ensures row { IfOk result (TellsRow (ReturnRow (journal_at page.now.roots) page.now.told slot (cache_in cache.old)) (cache_in cache.new)) }
 {
     match page.home_of(slot.slot) {
         Some(home) => go_home(alloc, page, home, slot, cache),
@@ -82,8 +88,10 @@ fn go_home(
 ) -> Result<bool, OutOfMemory>
     requires home { IsHomeOf (journal_at page.now.roots) slot.slot home }
     requires partition { home.partition < most_partitions }
-    requires one { HasOneHome (journal_at page.now.roots) slot.slot }
-    ensures { IfOk result (TellsRow (ReturnRow (journal_at page.now.roots) page.now.told slot (cache_in cache.old)) (cache_in cache.new)) }
+    requires one { HasOneHome page.now.version (journal_at page.now.roots) slot.slot }
+    requires version { cache.old.version ≡ page.now.version }
+    ensures version { cache.new.version ≡ cache.old.version }
+    ensures row { IfOk result (TellsRow (ReturnRow (journal_at page.now.roots) page.now.told slot (cache_in cache.old)) (cache_in cache.new)) }
 {
     let partition = home.partition;
     match home.class {
@@ -106,8 +114,10 @@ fn put_in_list(
     cache: &mut ThreadLists,
 ) -> Result<bool, OutOfMemory>
     requires partition { bin.now.partition < most_partitions }
-    requires class { bin.now.class < sparse_count }
-    ensures { IfOk result (TellsRow
+    requires class { HasClass cache.old.version bin.now.class }
+    requires version { cache.old.version ≡ page.now.version }
+    ensures version { cache.new.version ≡ cache.old.version }
+    ensures row { IfOk result (TellsRow
         (BackRow (journal_at page.now.roots) page.now.told.line bin.now.partition bin.now.class slot (cache_in cache.old))
         (cache_in cache.new)) }
 {

@@ -2,7 +2,7 @@ ghost use Rattle.std.specs.Prelude.{◌≡◌, ℕ, ◌+◌, ◌<◌, ◌≤◌,
 ghost use Rattle.pa_slot.specs.Run.{IsReturning};
 ghost use Rattle.pa_record.specs.declared.numbered.Numbered.{Numbered as Listed};
 ghost use Rattle.pa_record.specs.declared.root.RootAct.TheVariants as acts;
-ghost use Rattle.pa_buckets.specs.Limits.{sparse_count};
+ghost use Rattle.pa_rules.specs.Sizes.{HasClass};
 ghost use Rattle.pa_trace.specs.Limits.{most_partitions};
 ghost use Rattle.pa_rules.specs.Roots.{AsksForClass, AsksForMap, journal_at};
 ghost use Rattle.pa_rules.specs.Caches.{CacheRow, DoneRow, FilledFirst, FrontIs, FullRow, MadeRow, NoActs, OnlyActs, PurgedRow, ReturnRow, acts_of, gives, kept, spilled, unmap_at, with_list};
@@ -26,7 +26,9 @@ pub(crate) fn plays(
     page: &Page<'_>,
     cache: &mut ThreadLists,
 ) -> Result<bool, OutOfMemory>
-    ensures { IfOk result (TellsRow
+    requires version { cache.old.version ≡ page.now.version }
+    ensures version { cache.new.version ≡ cache.old.version }
+    ensures row { IfOk result (TellsRow
         (CacheRow page.now.partitions (journal_at page.now.roots) page.now.told page.now.told.answer (cache_in cache.old))
         (cache_in cache.new)) }
 {
@@ -46,7 +48,9 @@ fn made(
     seen: Seen,
     cache: &mut ThreadLists,
 ) -> Result<bool, OutOfMemory>
-    ensures { IfOk result (TellsRow (MadeRow (journal_at page.now.roots) page.now.told seen (cache_in cache.old)) (cache_in cache.new)) }
+    requires version { cache.old.version ≡ page.now.version }
+    ensures version { cache.new.version ≡ cache.old.version }
+    ensures row { IfOk result (TellsRow (MadeRow (journal_at page.now.roots) page.now.told seen (cache_in cache.old)) (cache_in cache.new)) }
 {
     let told = page.told();
     match class_asked(told) {
@@ -70,8 +74,10 @@ fn made_of_class(
     cache: &mut ThreadLists,
 ) -> Result<bool, OutOfMemory>
     requires partition { bin.now.partition < most_partitions }
-    requires class { bin.now.class < sparse_count }
-    ensures { IfOk result (TellsRow
+    requires class { HasClass cache.old.version bin.now.class }
+    requires version { cache.old.version ≡ page.now.version }
+    ensures version { cache.new.version ≡ cache.old.version }
+    ensures row { IfOk result (TellsRow
         (ClassRow (journal_at page.now.roots) page.now.told.line bin.now.partition bin.now.class seen (cache_in cache.old))
         (cache_in cache.new)) }
 {
@@ -146,6 +152,7 @@ fn is_mapped(page: &Page<'_>, partition: u32, slot: SlotName) -> bool
 
 // There was no room.
 fn full(page: &Page<'_>, cache: &ThreadLists) -> bool
+    requires version { cache.now.version ≡ page.now.version }
     ensures { TellsRow (FullRow (journal_at page.now.roots) page.now.told (cache_in cache.now)) (cache_in cache.now) result }
 {
     let told = page.told();

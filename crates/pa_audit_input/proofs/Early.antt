@@ -3,6 +3,7 @@ use Rattle.std.proofs.Common.{◌≡◌, ◌∙◌, ℕ, zero, suc, ◌+◌, ◌
 use Rattle.std.specs.List.{AllByRecursion}
 use Rattle.std.proofs.lemmas.Bool.{cases_eq, cases_lt}
 use Rattle.std.proofs.lemmas.List.{length-append, append-nil}
+use Rattle.pa_trace.specs.Grammar.{last_version}
 use Rattle.pa_trace.specs.declared.fault.TraceFault.{TraceFault}
 use Rattle.pa_trace.specs.Faults.{with_front, lines_of, IsFirstFault}
 use Rattle.pa_trace.proofs.Cuts.{lf_front, other_front}
@@ -20,11 +21,11 @@ use Rattle.pa_audit_input.proofs.Parting.{some_parting}
 
 -- ---- the trace's part
 
-long_fault : (e : TraceFault) (p z w : List ℕ) → length p ≡ 4194305 → IsFirstFault e (p ++ z) → IsFirstFault e (p ++ w)
+long_fault : (e : TraceFault) (p z w : List ℕ) → length p ≡ 4194305 → IsFirstFault last_version e (p ++ z) → IsFirstFault last_version e (p ++ w)
 long_fault e p z w full h =
-    let found = some_fault p (λ t input. let s = input.short in omega (arith, s, full)) in
-    let same : found.0 ≡ e = one_fault found.0 e (p ++ z) (first_early found.0 p z full found.1) h in
-    first_early e p w full (subst (λ (x : TraceFault). IsFirstFault x p) same found.1)
+    let found = some_fault last_version (omega arith) p (λ t recent input. let s = input.short in omega (arith, s, full)) in
+    let same : found.0 ≡ e = one_fault last_version found.0 e (p ++ z) (first_early last_version found.0 p z full found.1) h in
+    first_early last_version e p w full (subst (λ (x : TraceFault). IsFirstFault last_version x p) same found.1)
 
 -- what begins longer text begins shorter one
 prefix_of : (a b c d : List ℕ) → a ++ b ≡ c ++ d → length c ≤ length a → (v : List ℕ) × (a ≡ c ++ v)
@@ -94,7 +95,9 @@ more_grows : (b c : ℕ) (x more : List ℕ) → (b ≡ 10) ⊎ (b ≡ 10 → �
     → (lines_of (c ∷ x) ≡ (c ∷ x) ∷ [] → Grows (c ∷ x) more) → Grows (b ∷ c ∷ x) more
 unfolding lines_of
 more_grows b c x more (inl lf) one rest = absurd (lf_splits b (lines_of (c ∷ x)) c x lf one)
-more_grows b c x more (inr other) one rest = front_grows b (c ∷ x) more other (rest (other_whole b (c ∷ x) (lines_of (c ∷ x)) other (λ none. let long : suc (length x) ≡ 0 = ap length (sym (lines_joined (c ∷ x)) ∙ ap joined none) in omega (arith, long)) one))
+more_grows b c x more (inr other) one rest = front_grows b (c ∷ x) more other
+    (rest (other_whole b (c ∷ x) (lines_of (c ∷ x)) other (λ none. let long : suc (length x) ≡ 0 = ap length
+    (sym (lines_joined (c ∷ x)) ∙ ap joined none) in omega (arith, long)) one))
 
 -- a text that is one line, with more after it
 line_grows : (x more : List ℕ) → lines_of x ≡ x ∷ [] → Grows x more
@@ -147,7 +150,7 @@ begun_fault e front back more full (inr h) =
     )
 
 -- a part that is too long for a trace has the fault itself
-first_part : (e : TraceFault) (front back : List ℕ) → length front ≡ most_audited + 1 → IsFirstOfParts e front back → IsFirstFault e front
+first_part : (e : TraceFault) (front back : List ℕ) → length front ≡ most_audited + 1 → IsFirstOfParts e front back → IsFirstFault last_version e front
 first_part e front back full (inl h) = h
 first_part e front back full (inr h) = absurd (let s = h.1.short in omega (arith, s, full))
 
@@ -200,14 +203,14 @@ front_long bytes more front back (line ∷ lines) same full none parted short =
     has_run (lines_of front) (lines_of v.0) (subst (λ (z : List (List ℕ)). AllByRecursion (λ line. line ≡ run_line → ⊥) z) there none)
 
 -- texts that begin with the same 4,194,305 bytes have the same fault
-shared_front : (e : TraceFault) (bytes front p z w : List ℕ) → length p ≡ 4194305 → bytes ≡ p ++ w → front ≡ p ++ z → IsFirstFault e bytes
-    → IsFirstFault e front
+shared_front : (e : TraceFault) (bytes front p z w : List ℕ) → length p ≡ 4194305 → bytes ≡ p ++ w → front ≡ p ++ z → IsFirstFault last_version e bytes
+    → IsFirstFault last_version e front
 shared_front e bytes front p z w full first second h =
-    subst (IsFirstFault e) (sym second) (long_fault e p w z full (subst (IsFirstFault e) first h))
+    subst (IsFirstFault last_version e) (sym second) (long_fault e p w z full (subst (IsFirstFault last_version e) first h))
 
 -- the part before `run 1` has the fault that the first bytes have
-front_fault : (e : TraceFault) (bytes more front back : List ℕ) → length bytes ≡ most_audited + 1 → IsFirstFault e bytes
-    → AllByRecursion (λ line. line ≡ run_line → ⊥) (lines_of bytes) → IsParted front back (bytes ++ more) → IsFirstFault e front
+front_fault : (e : TraceFault) (bytes more front back : List ℕ) → length bytes ≡ most_audited + 1 → IsFirstFault last_version e bytes
+    → AllByRecursion (λ line. line ≡ run_line → ⊥) (lines_of bytes) → IsParted front back (bytes ++ more) → IsFirstFault last_version e front
 front_fault e bytes more front back full h none parted =
     let long : 4194305 ≤ length front =
     elim (cases_lt (length front) 4194305) [
@@ -220,7 +223,7 @@ front_fault e bytes more front back full h none parted =
     shared_front e bytes front p.0 p.1 w.0 p.3 w.1 p.2 h
 
 -- the parts if it hasn't
-whole_early : (e : TraceFault) (bytes more : List ℕ) → length bytes ≡ most_audited + 1 → IsFirstFault e bytes
+whole_early : (e : TraceFault) (bytes more : List ℕ) → length bytes ≡ most_audited + 1 → IsFirstFault last_version e bytes
     → AllByRecursion (λ line. line ≡ run_line → ⊥) (lines_of bytes) → IsFirstAuditFault e (bytes ++ more)
 whole_early e bytes more full h none =
     let parts = some_parting (bytes ++ more) in
@@ -236,7 +239,7 @@ early_by : (e : TraceFault) (bytes more front back : List ℕ) (lines : List (Li
 early_by e bytes more front back [] none full parted fault =
     let empty : back ≡ [] = sym (lines_joined back) ∙ ap joined none in
     let same : front ≡ bytes = sym (append-nil front) ∙ ap (λ (z : List ℕ). front ++ z) (sym empty) ∙ sym parted.parts in
-    whole_early e bytes more full (subst (IsFirstFault e) same (first_part e front back (ap length same ∙ full) fault))
+    whole_early e bytes more full (subst (IsFirstFault last_version e) same (first_part e front back (ap length same ∙ full) fault))
     (subst (λ (z : List ℕ). AllByRecursion (λ line. line ≡ run_line → ⊥) (lines_of z)) same parted.before)
 early_by e bytes more front back (line ∷ lines) some full parted fault = begun_early e bytes more front back line lines some full parted fault
 

@@ -3,6 +3,7 @@ use Rattle.std.proofs.Common.{◌≡◌, ◌∙◌, ℕ, ◌+◌, ◌≤◌, Lis
 use Rattle.std.specs.List.{AllByRecursion, flat_map}
 use Rattle.std.proofs.lemmas.List.{length-append}
 use Rattle.std.proofs.lemmas.Grind.{flat_map-append}
+use Rattle.pa_trace.specs.Grammar.{last_version}
 use Rattle.pa_trace.specs.declared.script.Trace.{Trace}
 use Rattle.pa_trace.specs.declared.fault.TraceFault.{TraceFault}
 use Rattle.pa_trace.specs.Limits.{IsInput}
@@ -122,9 +123,9 @@ fault_of_parts e front back bytes parted h =
     subst (λ (z : List ℕ). IsFirstOfParts e front z) same.1 (subst (λ (z : List ℕ). IsFirstOfParts e z h.back) same.0 h.fault)
 
 one_of_parts : (d e : TraceFault) (front back : List ℕ) → IsFirstOfParts d front back → IsFirstOfParts e front back → d ≡ e
-one_of_parts d e front back (inl h) (inl k) = one_fault d e front h k
-one_of_parts d e front back (inl h) (inr k) = absurd (no_fault_of_input k.0 front d k.1 h)
-one_of_parts d e front back (inr h) (inl k) = absurd (no_fault_of_input h.0 front e h.1 k)
+one_of_parts d e front back (inl h) (inl k) = one_fault last_version d e front h k
+one_of_parts d e front back (inl h) (inr k) = absurd (no_fault_of_input last_version k.0 front d k.1.limits.version.1 k.1 h)
+one_of_parts d e front back (inr h) (inl k) = absurd (no_fault_of_input last_version h.0 front e h.1.limits.version.1 h.1 k)
 one_of_parts d e front back (inr h) (inr k) =
     one_of_run (lines_of back) (length (lines_of front) + 1) (length front) None d e h.2 k.2
 
@@ -133,7 +134,7 @@ one_audit_fault d e bytes h k = one_of_parts d e h.front h.back h.fault (fault_o
 
 none_of_parts : (t : Trace) (r : Run) (front back : List ℕ) (e : TraceFault) → IsInput t front → IsRunText r back
     → length front + length back ≤ most_audited → IsFirstOfParts e front back → ⊥
-none_of_parts t r front back e input run short (inl h) = no_fault_of_input t front e input h
+none_of_parts t r front back e input run short (inl h) = no_fault_of_input last_version t front e input.limits.version.1 input h
 none_of_parts t r front back e input run short (inr h) =
     no_fault_of_run r back (length (lines_of front) + 1) (length front) e run short h.2
 

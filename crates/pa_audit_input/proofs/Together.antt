@@ -7,7 +7,8 @@ use Rattle.pa_trace.specs.declared.script.Line.TheVariants.{Phase, Do}
 use Rattle.pa_trace.specs.declared.script.Trace.{Trace}
 use Rattle.pa_trace.specs.Cut.{IsOneLine}
 use Rattle.pa_trace.specs.Faults.{lines_of}
-use Rattle.pa_trace.specs.Grammar.{IsHeadText, IsLineText, AreLinesText, IsTraceText}
+use Rattle.pa_trace.specs.Grammar.{IsHeadText, IsLineText, AreLinesText, IsTraceText, head_of_trace}
+use Rattle.pa_trace.specs.declared.line.Head.{Head}
 use Rattle.pa_trace.specs.Limits.{IsInput}
 use Rattle.pa_trace.proofs.Cuts.{cut_lines, no_lines, line_line, head_line}
 use Rattle.pa_record.specs.declared.run.Run.{Run}
@@ -35,9 +36,9 @@ line_other Phase text h e =
     let first : 112 ≡ 114 = ap (λ (z : List ℕ). first_byte (z ++ 10 ∷ [])) (sym h) ∙ ap first_byte e in omega (arith, first)
 line_other (Do thread op) text h e = number_other thread h.0 (codes " ") h.1 h.2 (ap (λ (z : List ℕ). z ++ 10 ∷ []) (sym h.4) ∙ e)
 
-head_other : (region partitions threads : ℕ) (text : List ℕ) → IsHeadText region partitions threads text → IsOther (text ++ 10 ∷ [])
-head_other region partitions threads text h e =
-    let first : 116 ≡ 114 = ap (λ (z : List ℕ). first_byte (z ++ 10 ∷ [])) (sym h.6) ∙ ap first_byte e in omega (arith, first)
+head_other : (head : Head) (text : List ℕ) → IsHeadText head text → IsOther (text ++ 10 ∷ [])
+head_other head text h e =
+    let first : 116 ≡ 114 = ap (λ (z : List ℕ). first_byte (z ++ 10 ∷ [])) (sym h.8) ∙ ap first_byte e in omega (arith, first)
 
 -- ---- so a text after it is cut off where it begins
 
@@ -68,7 +69,7 @@ lines_before (l ∷ ls) text back h =
 trace_before : (t : Trace) (text back : List ℕ) → IsTraceText t text → StandsBefore text back
 trace_before t text back h =
     subst (λ (z : List ℕ). StandsBefore z back) (sym h.4)
-    (line_before h.0 h.1 back (head_line t.region t.partitions t.threads h.0 h.2) (head_other t.region t.partitions t.threads h.0 h.2)
+    (line_before h.0 h.1 back (head_line (head_of_trace t) h.0 h.2) (head_other (head_of_trace t) h.0 h.2)
     (lines_before t.lines h.1 back h.3))
 
 trace_parted : (t : Trace) (r : Run) (front back : List ℕ) → IsTraceText t front → IsRunText r back → IsParted front back (front ++ back)

@@ -2,6 +2,7 @@
 -- faulty one. Lines and bytes count from 1 in the whole input, and a line contains its LF.
 use Rattle.std.specs.Prelude.{◌≡◌, ℕ, ◌+◌, ◌<◌, ◌≤◌, ◌⊎◌, List, [], ◌∷◌, ◌++◌, Option, Some, None, codes, length}
 use Rattle.std.specs.List.{AllByRecursion}
+use Rattle.pa_trace.specs.Grammar.{last_version}
 use Rattle.pa_trace.specs.declared.script.Trace.{Trace}
 use Rattle.pa_trace.specs.declared.fault.TraceFault.{TraceFault}
 use Rattle.pa_trace.specs.declared.fault.TraceFault.TheVariants.{BadLine, Limit}
@@ -63,7 +64,7 @@ IsFirstOfRun n before last (line ∷ lines) e =
 -- the first faulty line of these parts, and its fault: that of the trace's part, or, if this is a trace, that of the run's part
 abbrev pub IsFirstOfParts : TraceFault → List ℕ → List ℕ → Type 0
 IsFirstOfParts e front back =
-    IsFirstFault e front
+    IsFirstFault last_version e front
     ⊎ ((t : Trace) × IsInput t front × IsFirstOfRun (length (lines_of front) + 1) (length front) None (lines_of back) e)
 
 -- the first faulty line of the bytes, and its fault; if all lines are those of a trace, the one after them is bad

@@ -214,7 +214,8 @@ cut_mark cells ps A k marked rest floor left next has h =
       within = λ i among. h.within i (Contains-append_left rest (k ∷ []) i among);
       ahead = λ i x there at. h.ahead i x (was i there) at;
       below = λ i less. keep i (h.below i less);
-      near = λ i j other is near. keep j (h.near i j (λ e. let low = slice_get_within marked i true (was_marked marked k i other is) in omega (arith, low, long, e)) (was_marked marked k i other is) near);
+      near = λ i j other is near. keep j (h.near i j (λ e. let low = slice_get_within marked i true (was_marked marked k i other is) in
+          omega (arith, low, long, e)) (was_marked marked k i other is) near);
       numbers = has;
     }
   where

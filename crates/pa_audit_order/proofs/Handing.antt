@@ -167,10 +167,12 @@ given_all cells ps told x o rising swaps exchanges among all hands =
 pub giver_is : (cells : ℕ → List CellEntry) (ps : List Played) (told : Played) (l : ℕ) (o : Option ℕ) → RiseByLine ps → AsksSwaps cells ps → AsksExchanges cells ps → Contains ps told
     → (k reg j : ℕ) × (told.op ≡ Swap k reg) × (told.answer ≡ Swapped j) × IsGiving cells k j l → IfSome o (IsOnLine ps l) → IfSome o (λ j. (x : Played) × IsRecord ps j x × HandsTo cells x told)
 giver_is cells ps told l None rising swaps exchanges among given found = tt
-giver_is cells ps told l (Some i) rising swaps exchanges among (k, reg, j, op, answer, giving) (x, here, line) = (x, here, gives_to cells ps told x k reg j l rising swaps exchanges among op answer giving line)
+giver_is cells ps told l (Some i) rising swaps exchanges among (k, reg, j, op, answer, giving) (x, here, line) =
+    (x, here, gives_to cells ps told x k reg j l rising swaps exchanges among op answer giving line)
 
 pub giver_all : (cells : ℕ → List CellEntry) (ps : List Played) (told x : Played) (l j : ℕ) (o : Option ℕ) → RiseByLine ps → AsksSwaps cells ps → AsksExchanges cells ps → Contains ps told
-    → ((k reg j n : ℕ) → told.op ≡ Swap k reg → told.answer ≡ Swapped j → IsGiving cells k j n → Some l ≡ Some n) → IfSome o (IsOnLine ps l) → IfNone o (NoneOnLine ps l) → IsRecord ps j x → HandsTo cells x told → o ≡ Some j
+    → ((k reg j n : ℕ) → told.op ≡ Swap k reg → told.answer ≡ Swapped j → IsGiving cells k j n → Some l ≡ Some n)
+    → IfSome o (IsOnLine ps l) → IfNone o (NoneOnLine ps l) → IsRecord ps j x → HandsTo cells x told → o ≡ Some j
 giver_all cells ps told x l j o rising swaps exchanges among all some none here hands =
     on_line o some none
   where

@@ -75,14 +75,16 @@ closed cells ps A marked floor left h i is j near = only (h.near i j (λ e. let 
 
 pub fresh_met : (cells : ℕ → List CellEntry) (ps : List Played) (A : Played → Type 0) (table : List (Option ℕ)) (marked : List Bool) (floor k : ℕ) (left : ℕ → Option ℕ) (y : Played)
     → RiseByLine ps → ArePrevious ps table (length ps)
-    → IsGrown cells ps A (length ps) marked [] floor left → ((j : ℕ) → IsNear cells ps j k → IsMarked marked j) → IsRecord ps k y → IsOrderly marked k left (mark_of y) → SeenDemand cells ps (places.Record k)
+    → IsGrown cells ps A (length ps) marked [] floor left → ((j : ℕ) → IsNear cells ps j k → IsMarked marked j) → IsRecord ps k y
+    → IsOrderly marked k left (mark_of y) → SeenDemand cells ps (places.Record k)
 fresh_met cells ps A table marked floor k left y rising tables h near here (new, enough) =
     let all = closed cells ps A marked floor left h in
     let has : (j : ℕ) (x : Played) → IsRecord ps j x → IsBefore cells ps x y → IsMarked marked j = λ j x at before. before_marked cells ps table marked k j x y rising tables all near at here before in
     λ z at.
     let same : y ≡ z = one_at ps k y z here at in
     subst
-    (λ (w : Played). (IsBefore cells ps w w → ⊥) × ((x : Played) (m n : Mark) → Contains ps x → IsBefore cells ps x w → mark_of x ≡ Some m → mark_of w ≡ Some n → m.slot ≡ n.slot → left_number m ≤ number_of n.found))
+    (λ (w : Played). (IsBefore cells ps w w → ⊥) × ((x : Played) (m n : Mark) → Contains ps x → IsBefore cells ps x w → mark_of x ≡ Some m
+    → mark_of w ≡ Some n → m.slot ≡ n.slot → left_number m ≤ number_of n.found))
     same (
       λ before. new (has k y here before),
       λ x m n among before tells tells' slot.

@@ -52,9 +52,11 @@ walked_cut cells ps t k at d marked stack floor left same below of h =
     (cut_weaker cells ps (IsAhead cells ps t k) (IsAheadAt cells ps k) (length ps) marked stack floor left (λ x ahead. ahead_at cells ps t k (get_or ps k d) x (here_is ps k d below) of ahead) h.cut)
 
 -- the walk goes on if the record at its place is orderly
-pub walked_on : (cells : ℕ → List CellEntry) (ps : List Played) (table : List (Option ℕ)) (t k at : ℕ) (d : Played) (before marked : List Bool) (old stack : List ℕ) (low floor : ℕ) (earlier left : ℕ → Option ℕ)
+pub walked_on : (cells : ℕ → List CellEntry) (ps : List Played) (table : List (Option ℕ)) (t k at : ℕ) (d : Played)
+    (before marked : List Bool) (old stack : List ℕ) (low floor : ℕ) (earlier left : ℕ → Option ℕ)
     → at ≡ k → k < length ps
-    → (get_or ps k d).thread ≡ t → RiseByLine ps → ArePrevious ps table (length ps) → IsWalked cells ps t k before old low earlier → IsGrown cells ps (IsAheadAt cells ps at) (length ps) marked [] floor left → stack ≡ []
+    → (get_or ps k d).thread ≡ t → RiseByLine ps → ArePrevious ps table (length ps) → IsWalked cells ps t k before old low earlier
+    → IsGrown cells ps (IsAheadAt cells ps at) (length ps) marked [] floor left → stack ≡ []
     → ((j : ℕ) → IsNear cells ps j at → IsMarked marked j) → IsOrderly marked at left (mark_of (get_or ps k d)) → IsWalked cells ps t (k + 1) marked stack floor left
 walked_on cells ps table t k at d before marked old stack low floor earlier left same below of rising tables h cut empty near fresh =
     let y = get_or ps k d in

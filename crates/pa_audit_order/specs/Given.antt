@@ -8,9 +8,17 @@ use Rattle.pa_trace.specs.declared.script.Op.TheVariants as ops
 use Rattle.pa_record.specs.declared.entry.Answer.{Answer}
 use Rattle.pa_record.specs.declared.entry.Answer.TheVariants.{Value, Dangling}
 use Rattle.pa_rules.specs.declared.register.Register.TheVariants.{Ref}
+use Rattle.pa_record.specs.declared.history.CellEntry.{CellEntry}
 use Rattle.pa_rules.specs.declared.played.Played.{Played}
+use Rattle.pa_rules.specs.declared.verdict.Place.TheVariants as places
 use Rattle.pa_rules.specs.Registers.{Regs}
+use Rattle.pa_rules.specs.RecordDemands.{RegistersDemand}
+use Rattle.pa_rules.specs.Sizes.{usable_of}
 use Rattle.pa_rules.specs.Contents.{IsContent, IsNextFree}
+
+-- each record has an answer that its thread's registers require by the rules of the version
+abbrev pub MeetRegisters : ℕ → (ℕ → List CellEntry) → List Played → Type 0
+MeetRegisters version cells ps = (i : ℕ) → RegistersDemand (usable_of version) cells ps (places.Record i)
 
 -- the op reads slot s through a raw_ptr
 abbrev pub ReadsRaw : Regs → Op → SlotName → Type 0

@@ -5,7 +5,7 @@ ghost use Rattle.pa_rules.specs.declared.played.Played.{Played};
 ghost use Rattle.pa_rules.specs.declared.verdict.Place.TheVariants as places;
 ghost use Rattle.pa_rules.specs.Cells.{history_at};
 ghost use Rattle.pa_rules.specs.Contents.{IsContent, IsNextFree};
-ghost use Rattle.pa_rules.specs.RecordDemands.{RegistersDemand, SlotsDemand, ContentsDemand};
+ghost use Rattle.pa_rules.specs.RecordDemands.{SlotsDemand, ContentsDemand};
 ghost use Rattle.pa_rules.specs.Sizes.{usable_of};
 ghost use Rattle.pa_rules.specs.Tells.{TellsFirst};
 ghost use Rattle.pa_rules.specs.Rising.{RiseByLine};
@@ -13,7 +13,7 @@ ghost use Rattle.pa_audit_records.specs.Rows.{IsPlayedWithin};
 ghost use Rattle.pa_audit_records.specs.Tables.{regs_in};
 ghost use Rattle.pa_audit_order.specs.declared.numbers.Kind.TheVariants.{Fill, Free};
 ghost use Rattle.pa_audit_order.specs.Numbers.{AreByNumber, IsOneAt, put_by};
-ghost use Rattle.pa_audit_order.specs.Given.{ReadsRaw, IsOther, IsFreedMeanwhile, MayFindPoison, MayGive, NeedsNoContent};
+ghost use Rattle.pa_audit_order.specs.Given.{MeetRegisters, ReadsRaw, IsOther, IsFreedMeanwhile, MayFindPoison, MayGive, NeedsNoContent};
 
 use crate::keys::{greatest, key, least};
 use crate::numbers::{Kind, by_number};
@@ -26,7 +26,8 @@ use std::alloc::Global;
 use std::collections::BTreeMap;
 
 /// The index of the first record that read a value which it may not report: neither the content of its slot at the number that it found
-/// nor poison, or poison when no other thread's free was under way. None if no record did.
+/// nor poison, or poison when no other thread's free was under way. None if no record did. So it is by the rules of each version by which
+/// the records have answers that their registers require.
 pub fn contents_meet(
     alloc: Global,
     records: &[Played],
@@ -35,9 +36,9 @@ pub fn contents_meet(
     requires few { length records.now < 2 ^ 32 }
     requires rising { RiseByLine records.now }
     requires within { All IsPlayedWithin records.now }
-    requires registers { (i : ℕ) → RegistersDemand (usable_of 1) (history_at cells.now) records.now (places.Record i) }
     requires slots { (i : ℕ) → SlotsDemand records.now (places.Record i) }
-    ensures { IfOk result (TellsFirst (λ i. ContentsDemand (usable_of 1) (history_at cells.now) records.now (places.Record i))) }
+    ensures { IfOk result (λ at. (version : ℕ) → MeetRegisters version (history_at cells.now) records.now
+        → TellsFirst (λ i. ContentsDemand (usable_of version) (history_at cells.now) records.now (places.Record i)) at) }
 {
     if need_no_content(records) {
         return Ok(None);

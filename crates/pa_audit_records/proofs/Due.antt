@@ -40,7 +40,8 @@ here xs at = ap (slice_get xs) (omega arith)
 due_here : (r : Rules) (ls : List Line) (es : List Entry) (rest : List Line) (n at thread : ℕ) (op : Op) → DueSoFar r ls es (Do thread op ∷ rest) n at → slice_get (due r 2 1 ls) at ≡ Some (n, thread)
 due_here r ls es rest n at thread op h = sym (here (due r 2 1 ls) at) ∙ h.asks 0
 
-op_on : (r : Rules) (ls : List Line) (es : List Entry) (rest : List Line) (n at thread : ℕ) (op : Op) → DueSoFar r ls es (Do thread op ∷ rest) n at → slice_get (map key_of_entry es) at ≡ Some (n, thread)
+op_on : (r : Rules) (ls : List Line) (es : List Entry) (rest : List Line) (n at thread : ℕ) (op : Op)
+    → DueSoFar r ls es (Do thread op ∷ rest) n at → slice_get (map key_of_entry es) at ≡ Some (n, thread)
     → DueSoFar r ls es rest (n + 1) (at + 1)
 op_on r ls es rest n at thread op h is = record {
   phase = h.phase;
@@ -83,7 +84,8 @@ all_due r ls es n at h none i = elim (cases_lt i at) [
 
 -- ---- the same at a place of the lines
 
-pub due_phase : (r : Rules) (ls : List Line) (es : List Entry) (i n at : ℕ) → i < length ls → get_or ls i Phase ≡ Phase → DueSoFar r ls es (drop i ls) n at → DueSoFar r ls es (drop (i + 1) ls) (n + 1) at
+pub due_phase : (r : Rules) (ls : List Line) (es : List Entry) (i n at : ℕ) → i < length ls → get_or ls i Phase ≡ Phase
+    → DueSoFar r ls es (drop i ls) n at → DueSoFar r ls es (drop (i + 1) ls) (n + 1) at
 due_phase r ls es i n at below is h = phase_on r ls es (drop (i + 1) ls) n at (subst (λ zs. DueSoFar r ls es zs n at) (line_here ls i Phase below is) h)
 
 pub due_more : (r : Rules) (ls : List Line) (es : List Entry) (i n at thread : ℕ) (op : Op) → i < length ls → get_or ls i Phase ≡ Do thread op → DueSoFar r ls es (drop i ls) n at
@@ -96,8 +98,10 @@ pub due_not : (r : Rules) (ls : List Line) (es : List Entry) (i n at thread : �
 due_not r ls es i n at thread op below is h other =
     op_not r ls es (drop (i + 1) ls) n at thread op (subst (λ zs. DueSoFar r ls es zs n at) (line_here ls i (Do thread op) below is) h) other
 
-pub due_over : (r : Rules) (ls : List Line) (es : List Entry) (i n at : ℕ) → length ls ≤ i → DueSoFar r ls es (drop i ls) n at → at < length es → TellsFirst (λ k. LinesDemand r ls es (places.Record k)) (Some at)
+pub due_over : (r : Rules) (ls : List Line) (es : List Entry) (i n at : ℕ) → length ls ≤ i → DueSoFar r ls es (drop i ls) n at
+    → at < length es → TellsFirst (λ k. LinesDemand r ls es (places.Record k)) (Some at)
 due_over r ls es i n at end h more = over r ls es n at (subst (λ zs. DueSoFar r ls es zs n at) (drop_all i ls end) h) more
 
-pub due_all : (r : Rules) (ls : List Line) (es : List Entry) (i n at : ℕ) → length ls ≤ i → DueSoFar r ls es (drop i ls) n at → length es ≤ at → TellsFirst (λ k. LinesDemand r ls es (places.Record k)) None
+pub due_all : (r : Rules) (ls : List Line) (es : List Entry) (i n at : ℕ) → length ls ≤ i → DueSoFar r ls es (drop i ls) n at
+    → length es ≤ at → TellsFirst (λ k. LinesDemand r ls es (places.Record k)) None
 due_all r ls es i n at end h none = all_due r ls es n at (subst (λ zs. DueSoFar r ls es zs n at) (drop_all i ls end) h) none

@@ -31,7 +31,8 @@ use Rattle.pa_lists.proofs.Tests.{met_more}
 swap_asked : (cells : ℕ → List CellEntry) (op : Op) (answer : Answer) (line k reg : ℕ) → SwapFits cells op answer line → op ≡ Swap k reg → NamesExchange (cells k) answer line
 swap_asked cells op answer line k reg fits is = subst (λ o. SwapFits cells o answer line) is fits
 
-pub swap_met : (cells : ℕ → List CellEntry) (ps : List Played) (i : ℕ) (d : Played) → i < length ps → SwapFits cells (get_or ps i d).op (get_or ps i d).answer (get_or ps i d).line → CellsDemand cells ps (places.Record i)
+pub swap_met : (cells : ℕ → List CellEntry) (ps : List Played) (i : ℕ) (d : Played) → i < length ps
+    → SwapFits cells (get_or ps i d).op (get_or ps i d).answer (get_or ps i d).line → CellsDemand cells ps (places.Record i)
 swap_met cells ps i d below fits x k reg at op =
     let same : get_or ps i d ≡ x = of_some (get_or ps i d) x (sym (here_is ps i d below) ∙ at) in
     swap_asked cells x.op x.answer x.line k reg (subst (λ (z : Played). SwapFits cells z.op z.answer z.line) same fits) op
@@ -40,7 +41,8 @@ swap_gives : (cells : ℕ → List CellEntry) (op : Op) (answer : Answer) (line 
 swap_gives cells (Swap k reg) answer line h = h k reg refl
 swap_gives cells op answer line h = tt
 
-pub swap_fits : (cells : ℕ → List CellEntry) (ps : List Played) (i : ℕ) (d : Played) → i < length ps → CellsDemand cells ps (places.Record i) → SwapFits cells (get_or ps i d).op (get_or ps i d).answer (get_or ps i d).line
+pub swap_fits : (cells : ℕ → List CellEntry) (ps : List Played) (i : ℕ) (d : Played) → i < length ps
+    → CellsDemand cells ps (places.Record i) → SwapFits cells (get_or ps i d).op (get_or ps i d).answer (get_or ps i d).line
 swap_fits cells ps i d below asks =
     let x = get_or ps i d in
     swap_gives cells x.op x.answer x.line (λ k reg op. asks x k reg (here_is ps i d below) op)
@@ -59,7 +61,8 @@ none_or_some : (o : Option ℕ) → (o ≡ None) ⊎ IsSome o
 none_or_some None = inl refl
 none_or_some (Some n) = inr refl
 
-pub exchange_fits : (cells : ℕ → List CellEntry) (ps : List Played) (known last : ℕ → Option ℕ) (phase : ℕ) (given : Held) (k j : ℕ) (e : CellEntry) (x : Played) → RiseByLine ps → AreLinesKnown cells known k j
+pub exchange_fits : (cells : ℕ → List CellEntry) (ps : List Played) (known last : ℕ → Option ℕ) (phase : ℕ) (given : Held) (k j : ℕ)
+    (e : CellEntry) (x : Played) → RiseByLine ps → AreLinesKnown cells known k j
     → HasLatest ps (cells k) j last phase → WasGiven (cells k) j given → IsExchange cells k j e → IsRecordOfSwap ps k e x → FitsNow known last phase given e x → ExchangeFits cells ps k j e
 exchange_fits cells ps known last phase given k j e x rising lines latest was here (among, line, (reg, op)) (found, fresh, behind, later) = record {
   found = subst (WasGiven (cells k) j) (sym found) was;
@@ -81,7 +84,8 @@ exchange_fits cells ps known last phase given k j e x rising lines latest was he
         omega (arith, less, most, low, behind)
     stands a early (inr less) = let most = latest.phases a early in omega (arith, less, most, later)
 
-pub fits_exchange : (cells : ℕ → List CellEntry) (ps : List Played) (known last : ℕ → Option ℕ) (phase : ℕ) (given : Held) (k j : ℕ) (e : CellEntry) → AreLinesKnown cells known k j → HasLatest ps (cells k) j last phase
+pub fits_exchange : (cells : ℕ → List CellEntry) (ps : List Played) (known last : ℕ → Option ℕ) (phase : ℕ) (given : Held) (k j : ℕ)
+    (e : CellEntry) → AreLinesKnown cells known k j → HasLatest ps (cells k) j last phase
     → WasGiven (cells k) j given → IsExchange cells k j e → ExchangeFits cells ps k j e → (x : Played) × IsRecordOfSwap ps k e x × FitsNow known last phase given e x
 fits_exchange cells ps known last phase given k j e lines latest was here h =
     let (x, reg, (among, line), op) = h.line in (
@@ -129,7 +133,8 @@ earlier_on : (ps : List Played) (es : List CellEntry) (j : ℕ) (x : Played) →
 earlier_on ps es j x (i, e, less, at, among, line) = (i, e, omega (arith, less), at, among, line)
 
 -- the record of an exchange so far is that of one before, or of the last
-earlier_cases : (ps : List Played) (es : List CellEntry) (j : ℕ) (e : CellEntry) (x y : Played) → RiseByLine ps → slice_get es j ≡ Some e → Contains ps x → x.line ≡ e.line → IsEarlier ps es (j + 1) y → IsEarlier ps es j y ⊎ (y ≡ x)
+earlier_cases : (ps : List Played) (es : List CellEntry) (j : ℕ) (e : CellEntry) (x y : Played) → RiseByLine ps → slice_get es j ≡ Some e
+    → Contains ps x → x.line ≡ e.line → IsEarlier ps es (j + 1) y → IsEarlier ps es j y ⊎ (y ≡ x)
 earlier_cases ps es j e x y rising here among line (i, g, less, at, among', line') = elim (cases_lt i j) [
   | inl early ↦ inl (i, g, early, at, among', line')
   | inr late ↦
@@ -206,7 +211,8 @@ pub record CellSoFar (cells : ℕ → List CellEntry) (ps : List Played) (known 
   pub latest : HasLatest ps (cells k) j last phase
   pub was : WasGiven (cells k) j given
 
-pub cell_start : (cells : ℕ → List CellEntry) (ps : List Played) (known last : ℕ → Option ℕ) (k : ℕ) → AreLinesKnown cells known k 0 → ((q : ℕ) → last q ≡ None) → CellSoFar cells ps known last 0 Nothing k 0
+pub cell_start : (cells : ℕ → List CellEntry) (ps : List Played) (known last : ℕ → Option ℕ) (k : ℕ) → AreLinesKnown cells known k 0
+    → ((q : ℕ) → last q ≡ None) → CellSoFar cells ps known last 0 Nothing k 0
 cell_start cells ps known last k lines none = record {
   met = λ i less. absurd (omega (arith, less));
   lines = lines;
@@ -220,20 +226,23 @@ cell_start cells ps known last k lines none = record {
 }
 
 pub cell_more : (cells : ℕ → List CellEntry) (ps : List Played) (known known' last last' : ℕ → Option ℕ) (phase v : ℕ) (given : Held) (k j : ℕ) (e : CellEntry) (x : Played) → RiseByLine ps
-    → CellSoFar cells ps known last phase given k j → IsExchange cells k j e → IsRecordOfSwap ps k e x → FitsNow known last phase given e x → Puts known known' e.line v → Puts last last' x.thread x.line
+    → CellSoFar cells ps known last phase given k j → IsExchange cells k j e → IsRecordOfSwap ps k e x
+    → FitsNow known last phase given e x → Puts known known' e.line v → Puts last last' x.thread x.line
     → CellSoFar cells ps known' last' x.phase e.gave k (j + 1)
 cell_more cells ps known known' last last' phase v given k j e x rising h here taken fits put put' =
     let (among, line, swap) = taken in
     let (found, fresh, behind, later) = fits in
     record {
       met = met_more (λ i. CellsDemand cells ps (places.Cell k i)) j h.met
-          (λ f at. let one : e ≡ f = of_some e f (sym here ∙ at) in subst (ExchangeFits cells ps k j) one (exchange_fits cells ps known last phase given k j e x rising h.lines h.latest h.was here taken fits));
+          (λ f at. let one : e ≡ f = of_some e f (sym here ∙ at) in subst (ExchangeFits cells ps k j) one
+          (exchange_fits cells ps known last phase given k j e x rising h.lines h.latest h.was here taken fits));
       lines = known_more cells known known' k j v e here put h.lines;
       latest = latest_more ps (cells k) j e x last last' phase rising here among line behind later put' h.latest;
       was = rw add-one (e, here, refl);
     }
 
-pub cell_not : (cells : ℕ → List CellEntry) (ps : List Played) (known last : ℕ → Option ℕ) (phase : ℕ) (given : Held) (k j : ℕ) (e : CellEntry) → CellSoFar cells ps known last phase given k j → IsExchange cells k j e
+pub cell_not : (cells : ℕ → List CellEntry) (ps : List Played) (known last : ℕ → Option ℕ) (phase : ℕ) (given : Held) (k j : ℕ)
+    (e : CellEntry) → CellSoFar cells ps known last phase given k j → IsExchange cells k j e
     → ((x : Played) → IsRecordOfSwap ps k e x → FitsNow known last phase given e x → ⊥) → CellsDemand cells ps (places.Cell k j) → ⊥
 cell_not cells ps known last phase given k j e h here none asks =
     let (x, taken, fits) = fits_exchange cells ps known last phase given k j e h.lines h.latest h.was here (asks e here) in
@@ -280,7 +289,8 @@ swap_none ps n i k d x rising on none among line swap =
     let (mine, is) = line_is ps n i d on in
     none (subst (λ (z : Played). IsSwapOf k z.op) (one_line ps x (get_or ps i d) rising among mine (line ∙ sym is)) swap)
 
-pub taken_none : (ps : List Played) (known last : ℕ → Option ℕ) (phase : ℕ) (given : Held) (k : ℕ) (e : CellEntry) (told x : Played) → RiseByLine ps → IsRecordOfSwap ps k e told → (FitsNow known last phase given e told → ⊥)
+pub taken_none : (ps : List Played) (known last : ℕ → Option ℕ) (phase : ℕ) (given : Held) (k : ℕ) (e : CellEntry) (told x : Played)
+    → RiseByLine ps → IsRecordOfSwap ps k e told → (FitsNow known last phase given e told → ⊥)
     → IsRecordOfSwap ps k e x → FitsNow known last phase given e x → ⊥
 taken_none ps known last phase given k e told x rising (among, line, swap) none (among', line', swap') fits =
     none (subst (FitsNow known last phase given e) (one_line ps x told rising among' among (line' ∙ sym line)) fits)

@@ -74,7 +74,8 @@ step_fits ps firsts i x m rising f here is sized used (Some p) e =
     let (first, can) = used p e in
     (mine_is ps firsts i x m p rising f here is sized first (firsts (word_key m.slot m.found)) refl, can)
 
-mark_fits : (ps : List Played) (firsts reached : ℕ → Option ℕ) (i : ℕ) (x : Played) → RiseByLine ps → AreFirsts ps firsts → AreReached ps reached → HasAllSlots ps reached → IsRecord ps i x → SlotsDemand ps (places.Record i)
+mark_fits : (ps : List Played) (firsts reached : ℕ → Option ℕ) (i : ℕ) (x : Played) → RiseByLine ps → AreFirsts ps firsts
+    → AreReached ps reached → HasAllSlots ps reached → IsRecord ps i x → SlotsDemand ps (places.Record i)
     → (o : Option Mark) → mark_of x ≡ o → MarkFits firsts reached i o
 mark_fits ps firsts reached i x rising f r all here asks None e = tt
 mark_fits ps firsts reached i x rising f r all here asks (Some m) e =
@@ -85,7 +86,8 @@ mark_fits ps firsts reached i x rising f r all here asks (Some m) e =
     let some : IsSome (reached (word_key m.slot m.found)) = whole m.found sized (subst (λ zs. Contains (0 ∷ zs) m.found) same among) in
     (some, step_fits ps firsts i x m rising f here e sized used m.step refl)
 
-pub slot_fits : (ps : List Played) (firsts reached : ℕ → Option ℕ) (i at : ℕ) (d : Played) → at ≡ i → RiseByLine ps → AreFirsts ps firsts → AreReached ps reached → HasAllSlots ps reached → i < length ps
+pub slot_fits : (ps : List Played) (firsts reached : ℕ → Option ℕ) (i at : ℕ) (d : Played) → at ≡ i → RiseByLine ps → AreFirsts ps firsts
+    → AreReached ps reached → HasAllSlots ps reached → i < length ps
     → SlotsDemand ps (places.Record i) → MarkFits firsts reached at (mark_of (get_or ps i d))
 slot_fits ps firsts reached i at d same rising f r all below asks =
     subst (λ k. MarkFits firsts reached k (mark_of (get_or ps i d))) (sym same)

@@ -69,7 +69,8 @@ RunsTo ps i word = HasRuns (marks_of (take i ps)) word
 pub along_start : (ps : List Played) (f : ℕ → Option ℕ) → ((q : ℕ) → f q ≡ None) → RunsTo ps 0 (word_by f)
 along_start ps f none = runs_none (word_by f) (word_none f none)
 
-pub along_told : (ps : List Played) (before after : SlotName → ℕ) (i : ℕ) (d : Played) (m : Mark) → RiseByLine ps → i < length ps → mark_of (get_or ps i d) ≡ Some m → LeadsOn before after m.slot m.found m.step → RunsTo ps i before →
+pub along_told : (ps : List Played) (before after : SlotName → ℕ) (i : ℕ) (d : Played) (m : Mark) → RiseByLine ps → i < length ps
+    → mark_of (get_or ps i d) ≡ Some m → LeadsOn before after m.slot m.found m.step → RunsTo ps i before →
     RunsTo ps (i + 1) after
 along_told ps before after i d m rising below is goes h = subst (λ ms. HasRuns ms after) (sym (marks_more ps i d (Some m) below is)) (go m.step refl goes)
   where

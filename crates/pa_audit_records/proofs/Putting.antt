@@ -35,7 +35,8 @@ same_key s t within within' same =
 -- ---- the first usable numbers
 
 -- a record that made a slot, before others
-used_front : (x : Played) (rest : List Played) (seen : Seen) (usable : ℕ) (f g : ℕ → Option ℕ) → x.answer ≡ Made seen usable → seen.slot.start < 4294967296 → Puts f g (name_key seen.slot) usable → AreUsables rest f →
+used_front : (x : Played) (rest : List Played) (seen : Seen) (usable : ℕ) (f g : ℕ → Option ℕ) → x.answer ≡ Made seen usable
+    → seen.slot.start < 4294967296 → Puts f g (name_key seen.slot) usable → AreUsables rest f →
     AreUsables (x ∷ rest) g
 used_front x rest seen usable f g is start puts h s within =
     let at : usable_in (x ∷ rest) s ≡ (if same_slot seen.slot s then usable else usable_in rest s) = ap (λ a. usable_or (made_of a) s (usable_in rest s)) is in
@@ -48,7 +49,8 @@ used_front x rest seen usable f g is start puts h s within =
           one ∙ sym (at ∙ rw (same_slot_no seen.slot s other) refl)
     ]
 
-pub used_here : (ps : List Played) (k at : ℕ) (d : Played) (seen : Seen) (usable : ℕ) (f g : ℕ → Option ℕ) → k < length ps → at ≡ k + 1 → (get_or ps k d).answer ≡ Made seen usable → seen.slot.start < 4294967296 →
+pub used_here : (ps : List Played) (k at : ℕ) (d : Played) (seen : Seen) (usable : ℕ) (f g : ℕ → Option ℕ) → k < length ps → at ≡ k + 1
+    → (get_or ps k d).answer ≡ Made seen usable → seen.slot.start < 4294967296 →
     Puts f g (name_key seen.slot) usable → AreUsables (drop at ps) f → AreUsables (drop k ps) g
 used_here ps k at d seen usable f g below next is start puts h =
     subst (λ zs. AreUsables zs g) (sym (drop_more ps k d below))

@@ -38,7 +38,8 @@ one_step_of : (x : Played) (q r : ℕ) → IsStepOf x q → IsStepOf x r → q �
 one_step_of x q r (m, is, made, at) (n, is', made', at') =
     sym at ∙ ap (λ (z : Mark). word_key z.slot z.found) (of_some m n (sym is ∙ is')) ∙ at'
 
-sized_more : (ps : List Played) (f : ℕ → Option ℕ) (k : ℕ) (d : Played) → k < length ps → AreFirstsFrom ps f (k + 1) → IsSizedMark (get_or ps k d) → (i : ℕ) (x : Played) → k ≤ i → IsRecord ps i x → IsSizedMark x
+sized_more : (ps : List Played) (f : ℕ → Option ℕ) (k : ℕ) (d : Played) → k < length ps → AreFirstsFrom ps f (k + 1)
+    → IsSizedMark (get_or ps k d) → (i : ℕ) (x : Played) → k ≤ i → IsRecord ps i x → IsSizedMark x
 sized_more ps f k d below h here i x from is = elim (cases_lt k i) [
   | inl less ↦ h.sized i x (omega (arith, less)) is
   | inr most ↦
@@ -53,7 +54,8 @@ at_k ps k j d x q below same (y, is, step) =
     let one : y ≡ get_or ps k d = of_some y (get_or ps k d) (sym is ∙ ap (slice_get ps) (sym same) ∙ here_is ps k d below) in
     subst (λ z. IsStepOf z q) one step
 
-pub firsts_same : (ps : List Played) (f : ℕ → Option ℕ) (k at : ℕ) (d : Played) → k < length ps → at ≡ k + 1 → ((q : ℕ) → IsStepOf (get_or ps k d) q → ⊥) → IsSizedMark (get_or ps k d) → AreFirstsFrom ps f at
+pub firsts_same : (ps : List Played) (f : ℕ → Option ℕ) (k at : ℕ) (d : Played) → k < length ps → at ≡ k + 1
+    → ((q : ℕ) → IsStepOf (get_or ps k d) q → ⊥) → IsSizedMark (get_or ps k d) → AreFirstsFrom ps f at
     → AreFirstsFrom ps f k
 firsts_same ps f k at d below next none sized past =
     let h = subst (λ n. AreFirstsFrom ps f n) next past in
@@ -73,7 +75,8 @@ firsts_same ps f k at d below next none sized past =
       sized = sized_more ps f k d below h sized;
     }
 
-pub firsts_more : (ps : List Played) (f g : ℕ → Option ℕ) (k at q : ℕ) (d : Played) → k < length ps → at ≡ k + 1 → IsStepOf (get_or ps k d) q → IsSizedMark (get_or ps k d) → Puts f g q k → AreFirstsFrom ps f at
+pub firsts_more : (ps : List Played) (f g : ℕ → Option ℕ) (k at q : ℕ) (d : Played) → k < length ps → at ≡ k + 1
+    → IsStepOf (get_or ps k d) q → IsSizedMark (get_or ps k d) → Puts f g q k → AreFirstsFrom ps f at
     → AreFirstsFrom ps g k
 firsts_more ps f g k at q d below next here sized puts past =
     let h = subst (λ n. AreFirstsFrom ps f n) next past in
@@ -170,7 +173,8 @@ one_first ps s w m n p q rising f g =
 
 -- ---- what the table's record tells
 
-pub first_told : (ps : List Played) (f : ℕ → Option ℕ) (s : SlotName) (w i : ℕ) (d : Played) (m : Mark) → RiseByLine ps → AreFirsts ps f → IsSized s w → f (word_key s w) ≡ Some i → mark_of (get_or ps i d) ≡ Some m
+pub first_told : (ps : List Played) (f : ℕ → Option ℕ) (s : SlotName) (w i : ℕ) (d : Played) (m : Mark) → RiseByLine ps → AreFirsts ps f
+    → IsSized s w → f (word_key s w) ≡ Some i → mark_of (get_or ps i d) ≡ Some m
     → IfSome m.step (λ p. (n : Mark) × IsFirstAt (marks_of ps) s w n p)
 first_told ps f s w i d m rising h sized at is = go m.step refl
   where
@@ -208,7 +212,8 @@ fresh_words ps at s v h none sized some =
     let first : IsSome (at (word_key s 0)) = whole 0 (sized.0, omega arith) (first_in 0 vs) in
     false≢true (subst (λ z. IsSome z) none first)
 
-pub reach_start : (ps : List Played) (before at : ℕ → Option ℕ) (s : SlotName) (q n : ℕ) → s.start < 4294967296 → AreReached ps before → before (word_key s 0) ≡ None → q ≡ word_key s 0 → Puts before at q n
+pub reach_start : (ps : List Played) (before at : ℕ → Option ℕ) (s : SlotName) (q n : ℕ) → s.start < 4294967296 → AreReached ps before
+    → before (word_key s 0) ≡ None → q ≡ word_key s 0 → Puts before at q n
     → IsReaching ps before at s 0
 reach_start ps before at s q n start h none is puts =
     let put : Puts before at (word_key s 0) n = subst (λ k. Puts before at k n) is puts in
@@ -279,6 +284,7 @@ reach_kept ps before at s w start k t low some = elim (same_slot_cases t s) [
 ]
 
 -- a step that is refused ends the run
-pub refused_last : (ps : List Played) (s : SlotName) (w : ℕ) (m : Mark) (p : Step) (o : Option Word) → RiseByLine ps → IsFirstAt (marks_of ps) s w m p → IfNone o (¬ CanStep p w) → IfNone o (IsLastWord ps s w)
+pub refused_last : (ps : List Played) (s : SlotName) (w : ℕ) (m : Mark) (p : Step) (o : Option Word) → RiseByLine ps
+    → IsFirstAt (marks_of ps) s w m p → IfNone o (¬ CanStep p w) → IfNone o (IsLastWord ps s w)
 refused_last ps s w m p None rising first h = λ n q other can. h (subst (λ z. CanStep z w) (one_first ps s w n m q p rising other first) can)
 refused_last ps s w m p (Some v) rising first h = tt

@@ -46,9 +46,9 @@ AreRegsOf list all = (t r : ℕ) → regs_in list t r ≡ all t r
 abbrev pub with_register : AllRegs → ℕ → ℕ → Reg → AllRegs
 with_register all thread reg holds = with_thread all thread (with (all thread) reg holds)
 
--- what the rows need besides the registers, by these records and cells
-abbrev pub facts_by : (ℕ → List CellEntry) → List Played → Facts
-facts_by cells ps = record { usable_of = usable_of 1; usable_at = usable_in ps; cells = cells }
+-- what the rows of a version need besides the registers, by these records and cells
+abbrev pub facts_by : ℕ → (ℕ → List CellEntry) → List Played → Facts
+facts_by version cells ps = record { usable_of = usable_of version; usable_at = usable_in ps; cells = cells }
 
 -- the registers after a record, by its answer
 abbrev pub regs_next : (ℕ → List CellEntry) → AllRegs → Played → AllRegs

@@ -21,28 +21,28 @@ fn is_done(slot: SlotName, answer: Answer) -> bool
     }
 }
 
-// Whether a request of that many bytes may have this answer.
-fn may_request(size: u32, answer: Answer) -> bool
-    ensures { IsTrue result ↔ AnswersRequest (usable_of 1 size) size answer }
+// Whether a request of that many bytes may have this answer in the version.
+fn may_request(version: u32, size: u32, answer: Answer) -> bool
+    ensures { IsTrue result ↔ AnswersRequest (usable_of version size) size answer }
 {
     if size > GREATEST_SIZE {
         return matches!(answer, Answer::TooLarge);
     }
     match answer {
-        Answer::Made { usable, .. } => usable == usable_for(size),
+        Answer::Made { usable, .. } => usable == usable_for(version, size),
         Answer::Full { .. } => true,
         _ => false,
     }
 }
 
-// Whether an allocation may have this answer, by what its register holds.
-pub(crate) fn may_alloc(holds: Register<SlotName>, size: u32, answer: Answer) -> bool
-    ensures { IsTrue result ↔ AnswersAlloc holds (usable_of 1 size) size answer }
+// Whether an allocation may have this answer in the version, by what its register holds.
+pub(crate) fn may_alloc(version: u32, holds: Register<SlotName>, size: u32, answer: Answer) -> bool
+    ensures { IsTrue result ↔ AnswersAlloc holds (usable_of version size) size answer }
 {
     if holds.has_handle() {
         matches!(answer, Answer::Filled)
     } else {
-        may_request(size, answer)
+        may_request(version, size, answer)
     }
 }
 

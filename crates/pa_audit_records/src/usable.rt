@@ -7,7 +7,7 @@ ghost use Rattle.pa_audit_records.specs.Tables.{AreUsables};
 use crate::by_key::ByKey;
 use crate::keys::key;
 use crate::salt::Salt;
-use pa_buckets::{class_of, raw_of, slot_size};
+use pa_buckets::{class_in, raw_of, slot_size};
 use pa_direct::shape;
 use pa_record::Answer;
 use pa_rules::Played;
@@ -17,12 +17,12 @@ use std::alloc::Global;
 // Bytes of a count word.
 const COUNT_WORD: u32 = 8;
 
-// How many bytes of the slot of a request for `size` bytes are usable in version 1.
-pub(crate) fn usable_for(size: u32) -> u32
+// How many bytes of the slot of a request for `size` bytes are usable in the version.
+pub(crate) fn usable_for(version: u32, size: u32) -> u32
     requires { size ≤ greatest_size }
-    ensures { result ≡ usable_of 1 size }
+    ensures { result ≡ usable_of version size }
 {
-    match class_of(raw_of(size)) {
+    match class_in(version, raw_of(size)) {
         Some(class) => slot_size(class) - COUNT_WORD,
         None => match shape(size) {
             Some(direct) => direct.slot - COUNT_WORD,

@@ -22,22 +22,24 @@ use pa_slot::{OutOfMemory, SlotName};
 use pa_trace::Op;
 use std::alloc::Global;
 
-/// The index of the first record with another answer than its thread's registers require. None if there is no such record.
+/// The index of the first record with another answer than its thread's registers require by the rules of the version. None if there is no
+/// such record.
 pub fn registers_meet(
     alloc: Global,
     salt: Salt,
+    version: u32,
     records: &[Played],
     cells: &[History],
 ) -> Result<Option<u32>, OutOfMemory>
     requires few { length records.now < 2 ^ 32 }
     requires within { All IsPlayedWithin records.now }
-    ensures { IfOk result (TellsFirst (λ i. RegistersDemand (usable_of 1) (history_at cells.now) records.now (places.Record i))) }
+    ensures { IfOk result (TellsFirst (λ i. RegistersDemand (usable_of version) (history_at cells.now) records.now (places.Record i))) }
 {
     let usables = usables_to_read(alloc, salt, records)?;
     let mut registers = Registers::new(alloc)?;
     let mut at: u32 = 0;
     for record in records {
-        if !may_answer(&registers, &usables, cells, record) {
+        if !may_answer(version, &registers, &usables, cells, record) {
             return Ok(Some(at));
         }
         registers.change(cells, record);
@@ -89,16 +91,24 @@ fn may_read(usables: &ByKey<u32>, holds: Register<SlotName>, place: u32, answer:
 }
 
 // Whether a record's answer is one that its thread's registers require.
-fn may_answer(registers: &Registers, usables: &ByKey<u32>, cells: &[History], told: &Played) -> bool
+fn may_answer(
+    version: u32,
+    registers: &Registers,
+    usables: &ByKey<u32>,
+    cells: &[History],
+    told: &Played,
+) -> bool
     requires within { IsPlayedWithin told.now }
     ensures { (ps : List Played) → (ReadsSlot told.now.op → AreUsables ps (value_at usables.now)) →
         IsTrue result ↔
-        MayAnswer (facts_by (history_at cells.now) ps) told.now.op (regs_in registers.now told.now.thread) told.now.answer }
+        MayAnswer (facts_by version (history_at cells.now) ps) told.now.op (regs_in registers.now told.now.thread) told.now.answer }
 {
     let thread = told.thread;
     let answer = told.answer;
     match told.op {
-        Op::Alloc { reg, size, .. } => may_alloc(registers.get(thread, reg), size, answer),
+        Op::Alloc { reg, size, .. } => {
+            may_alloc(version, registers.get(thread, reg), size, answer)
+        }
         Op::Copy { from, to } => {
             may_copy(
                 registers.get(thread, from),

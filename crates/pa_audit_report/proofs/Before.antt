@@ -39,9 +39,9 @@ names_within partitions (ops.Read reg place) few within = tt
 names_within partitions (ops.Swap cell reg) few within = tt
 names_within partitions ops.Purge few within = tt
 
-all_of : (xs : List Played) → ((x : Played) → Contains xs x → IsOfThreads x) → All IsOfThreads xs
-all_of [] h = All-nil IsOfThreads
-all_of (x ∷ xs) h = All-cons IsOfThreads x xs (h x (first_in x xs)) (all_of xs (λ y among. h y (later_in x y xs among)))
+all_of : (version : ℕ) (xs : List Played) → ((x : Played) → Contains xs x → IsOfThreads version x) → All (IsOfThreads version) xs
+all_of version [] h = All-nil (IsOfThreads version)
+all_of version (x ∷ xs) h = All-cons (IsOfThreads version) x xs (h x (first_in x xs)) (all_of version xs (λ y among. h y (later_in x y xs among)))
 
 -- ---- the clauses
 
@@ -52,18 +52,19 @@ module _ (t : Trace) (r : Run) (limits : IsWithinLimits t) (before : HoldBefore 
   lines : AreLines (rules_of t) t.lines (records_of t (told_by r))
   lines = records_are_lines.lines (rules_of t) t.lines r.entries.items due
 
-  within : (x : Played) → Contains (records_of t (told_by r)) x → IsOfThreads x
+  within : (x : Played) → Contains (records_of t (told_by r)) x → IsOfThreads t.version x
   within x among =
       let (thread, op) = records_within t (records_of t (told_by r)) x limits lines among in
       let few = limits.head.1.1 in
       let many = limits.head.2.1 in
-      (omega (arith, thread, many), names_within t.partitions x.op few op, told_version t (told_by r) x limits among)
+      (omega (arith, thread, many), names_within t.partitions x.op few op, told_version t (told_by r) x among)
 
   given_here : IsGiven t.region t.partitions (records_of t (told_by r)) r.pool.items (told_by r).roots
   given_here = record {
     rising = lines_rise (rules_of t) t.lines (records_of t (told_by r)) lines;
     phased = phased_played (rules_of t) t.lines r.entries.items;
-    within = all_of (records_of t (told_by r)) within;
+    version = t.version;
+    within = all_of t.version (records_of t (told_by r)) within;
     slots = (slots_are_places t (told_by r) due).1 (before clauses.Slots (omega arith));
     ordered = seen_in_phases (told_by r).cells (records_of t (told_by r)) ((seen_is_places t (told_by r)).1 (before clauses.Seen (omega arith)));
     pool = (pool_is_places t (told_by r) due).1 (before clauses.Pool (omega arith));

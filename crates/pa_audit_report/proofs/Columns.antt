@@ -5,7 +5,7 @@ use Rattle.std.proofs.lemmas.List.{map-append, append-nil, append_assoc}
 use Rattle.std.proofs.lemmas.List.Elements.{All-nil, All-push, All-contains}
 use Rattle.std.proofs.lemmas.List.Kept.{AllPairs-filter}
 use Rattle.pa_audit_holders.specs.Rows.{IsOfThreads}
-use Rattle.pa_rules.proofs.Versions.{real_first}
+use Rattle.pa_rules.specs.Sizes.{HasClass}
 use Rattle.pa_record.specs.declared.census.Census.{Census}
 use Rattle.pa_record.specs.declared.pool.PoolEntry.{PoolEntry}
 use Rattle.pa_record.specs.declared.report.ReportLine.{ReportLine}
@@ -34,12 +34,12 @@ use Rattle.pa_rules.proofs.ReportLines.{phases_push}
 
 -- ---- what is given
 
-pub kinds_given : (supers partitions : ℕ) (ps : List Played) (pools : List PoolEntry) (roots : Journals) → IsGiven supers partitions ps pools roots → HaveOneKind roots
+pub kinds_given : (supers partitions : ℕ) (ps : List Played) (pools : List PoolEntry) (roots : Journals) → (g : IsGiven supers partitions ps pools roots) → HaveOneKind g.version roots
 kinds_given supers partitions ps pools roots g s =
     let kind = one_kind supers partitions ps pools roots s g.journals g.pool in
     record {
       class = kind.class;
-      real = λ p c of. let (x, among, has) = kind.real p c of in real_first x.rules.version c (All-contains IsOfThreads ps x g.within among).2 has;
+      real = λ p c of. let (x, among, has) = kind.real p c of in subst (λ v. HasClass v c) (All-contains (IsOfThreads g.version) ps x g.within among).2 has;
       direct = kind.direct;
       either = kind.either;
     }
@@ -57,8 +57,10 @@ tallied_given supers partitions n ps pools roots g =
 
 -- ---- a line
 
-pub line_due : (supers partitions threads p i : ℕ) (ps : List Played) (pools : List PoolEntry) (roots : Journals) (at : ℕ → Option Home) (u : InUse) (tallies : List Tally) (cached : Tally) (c : Census) (l : ReportLine)
-    → IsGiven supers partitions ps pools roots → KnowsHomes roots at → p < 4 → IsUse at p (until (i + 1) ps) u → AreCachedAt partitions threads roots (until (i + 1) ps) tallies → cached ≡ slice_index_or tallies p no_slots
+pub line_due : (supers partitions threads p i : ℕ) (ps : List Played) (pools : List PoolEntry) (roots : Journals) (at : ℕ → Option Home)
+    (u : InUse) (tallies : List Tally) (cached : Tally) (c : Census) (l : ReportLine)
+    → IsGiven supers partitions ps pools roots → KnowsHomes roots at → p < 4 → IsUse at p (until (i + 1) ps) u
+    → AreCachedAt partitions threads roots (until (i + 1) ps) tallies → cached ≡ slice_index_or tallies p no_slots
     → HasCensus ps pools roots (i + 1) p c → l ≡ line_by (i + 1) p u cached c → IsDueAt partitions threads ps pools roots (i + 1) p l
 line_due supers partitions threads p i ps pools roots at u tallies cached c l g knows low used listed is census same =
     let tallied = tallied_given supers partitions (i + 1) ps pools roots g in
@@ -128,7 +130,8 @@ gathers_phase phases partitions i p columns lines end h threads ps pools roots a
     turned n = omega arith
 
 pub gathers_all : (phases partitions i : ℕ) (columns : List (List ReportLine)) (lines : List ReportLine) → i ≡ phases → GathersTo phases partitions columns i 0 lines
-    → (threads : ℕ) (ps : List Played) (pools : List PoolEntry) (roots : Journals) → AreColumns phases partitions threads ps pools roots partitions columns → IsReport phases partitions threads ps pools roots lines
+    → (threads : ℕ) (ps : List Played) (pools : List PoolEntry) (roots : Journals)
+    → AreColumns phases partitions threads ps pools roots partitions columns → IsReport phases partitions threads ps pools roots lines
 gathers_all phases partitions i columns lines end h threads ps pools roots are =
     let so = h threads ps pools roots are in
     record { places = so.places ∙ append-nil (phases_of partitions 1 i) ∙ ap (phases_of partitions 1) end; right = so.right }

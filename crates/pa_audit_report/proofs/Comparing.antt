@@ -36,7 +36,9 @@ key l = (l.phase, l.partition)
 module _ (supers partitions threads : ℕ) (ps : List Played) (pools : List PoolEntry) (roots : Journals) (g : IsGiven supers partitions ps pools roots) where
   one_tally : (P : ℕ → Type 0) (xs : List Played) (p : ℕ) (t u : Tally) → IsTally P roots xs p t → IsTally P roots xs p u → t ≡ u
   one_tally P xs p t u (slots, sizes, are, count, bytes) (others', more, are', count', bytes') =
-      let (long, sums) = one_sum (λ s len. HasSize roots p s len) (λ s m n x y. ((one_kind supers partitions ps pools roots s g.journals g.pool).size p p m n x y).1) slots others' sizes more are.once are'.once are.sized are'.sized
+      let (long, sums) = one_sum (λ s len. HasSize roots p s len)
+      (λ s m n x y. ((one_kind supers partitions ps pools roots s g.journals g.pool).size p p m n x y).1) slots others' sizes more
+      are.once are'.once are.sized are'.sized
       (λ s among. (are'.all s).1 ((are.all s).0 among)) (λ s among. (are.all s).1 ((are'.all s).0 among)) in
       same_tally t u (count ∙ long ∙ sym count') (bytes ∙ sums ∙ sym bytes')
 
@@ -57,7 +59,8 @@ module _ (supers partitions threads : ℕ) (ps : List Played) (pools : List Pool
       let root' : HasCensus ps pools roots l.phase l.partition (census_of m) =
       subst (λ k. HasCensus ps pools roots k l.partition (census_of m)) (sym phases) (subst (λ k. HasCensus ps pools roots m.phase k (census_of m)) (sym places) y.root) in
       let live = one_tally IsLive (until l.phase ps) l.partition l.live m.live x.live (here (λ zs p. IsTally IsLive roots zs p m.live) y.live) in
-      let quarantined = one_tally IsQuarantined (until l.phase ps) l.partition l.quarantined m.quarantined x.quarantined (here (λ zs p. IsTally IsQuarantined roots zs p m.quarantined) y.quarantined) in
+      let quarantined = one_tally IsQuarantined (until l.phase ps) l.partition l.quarantined m.quarantined x.quarantined
+      (here (λ zs p. IsTally IsQuarantined roots zs p m.quarantined) y.quarantined) in
       let cached = one_cached (until l.phase ps) l.partition l.cached m.cached x.cached (here (λ zs p. IsCached partitions threads roots zs p m.cached) y.cached) in
       let root = one_census l.phase l.partition (census_of l) (census_of m) x.root root' in
       same_line l m phases places live quarantined cached

@@ -167,7 +167,8 @@ left_is into out at p xs a b tally low x y is went =
     let xs1 = x.slots in let xs2 = y.slots in let xb1 = x.bytes in let xb2 = y.bytes in
     record { slots = omega (arith, s1, s2, f, e, xs1, xs2); bytes = omega (arith, b1, b2, g, d, xb1, xb2) }
 
-module _ (supers partitions p : ℕ) (ps xs : List Played) (pools : List PoolEntry) (roots : Journals) (at : ℕ → Option Home) (knows : KnowsHomes roots at) (given : IsTallied supers partitions ps xs pools roots) where
+module _ (supers partitions p : ℕ) (ps xs : List Played) (pools : List PoolEntry) (roots : Journals) (at : ℕ → Option Home)
+    (knows : KnowsHomes roots at) (given : IsTallied supers partitions ps xs pools roots) where
   tallied : IsTallied supers partitions ps (those at xs) pools roots
   tallied = record {
     journals = given.journals;

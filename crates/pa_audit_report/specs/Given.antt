@@ -30,7 +30,7 @@ AreRecordsOf t r ps = ps ≡ records_of t (told_by r)
 
 -- What the clauses before the report say of the records, the pool's entries and the journals.
 --   rising, phased: lines and phases of the records rise
---   within: they are of at most 16 threads and four partitions
+--   within: they are of at most 16 threads and four partitions, and of one version
 --   slots: each slot's steps are one run
 --   ordered: no record finds a lower number of a slot than one of an earlier phase left there
 --   pool, journals, caches: three clauses of a legal run
@@ -38,7 +38,8 @@ AreRecordsOf t r ps = ps ≡ records_of t (told_by r)
 pub record IsGiven (supers partitions : ℕ) (ps : List Played) (pools : List PoolEntry) (roots : Journals) : Type 0 where
   pub rising : RiseByLine ps
   pub phased : RiseByPhase ps
-  pub within : All IsOfThreads ps
+  pub version : ℕ
+  pub within : All (IsOfThreads version) ps
   pub slots : Slots (marks_of ps)
   pub ordered : IsInPhases ps
   pub pool : IsPoolOf supers ps pools roots

@@ -1,11 +1,11 @@
 ghost use Rattle.std.specs.Prelude.{◌≡◌, ◌↔◌, ℕ, ◌+◌, ◌^◌, ◌<◌, max, IsNone, IfSome, ◌≤◌};
-ghost use Rattle.pa_buckets.specs.Limits.{class_count, greatest_raw};
+ghost use Rattle.pa_buckets.specs.Limits.{class_count, first_class, past_class, greatest_raw};
 ghost use Rattle.pa_buckets.specs.Classes.{IsClassOf, IsClassIn};
 ghost use Rattle.pa_buckets.specs.Table.{slot_of, span_shape_of};
 ghost use Rattle.pa_buckets.specs.Bands.{limit_of, fill_of};
 
 use crate::spans::SpanShape;
-use crate::table::{CLASSES, COUNT, ROWS, SPARSE};
+use crate::table::{CLASSES, COUNT, ROWS, SPARSE, SPARSE_CLASSES};
 use std::marker::Model;
 
 // A thread requests at once as many slots as its cache limit divided by this.
@@ -85,6 +85,26 @@ pub fn class_in(version: u32, raw: u32) -> Option<Class>
         class_of(raw)
     } else {
         class_of_2(raw)
+    }
+}
+
+/// The number of the first class of a version.
+#[inline(always)]
+pub fn first_class(version: u32) -> u32
+    ensures { result ≡ first_class version }
+{
+    if version <= 1 { 0 } else { SPARSE_CLASSES }
+}
+
+/// The number after that of the last class of a version.
+#[inline(always)]
+pub fn past_class(version: u32) -> u32
+    ensures { result ≡ past_class version }
+{
+    if version <= 1 {
+        SPARSE_CLASSES
+    } else {
+        CLASSES
     }
 }
 

@@ -10,7 +10,8 @@ mod spans;
 mod table;
 
 pub use classes::{
-    Class, cache_limit, class_in, class_of, class_of_2, fill_count, raw_of, slot_size, span_of,
+    Class, cache_limit, class_in, class_of, class_of_2, fill_count, first_class, past_class,
+    raw_of, slot_size, span_of,
 };
 pub use laws::{classes_are_dense, rows_follow_the_rule, rows_have_bounds, rule_gives_one_span};
 pub use spans::{SpanShape, State};

@@ -34,7 +34,9 @@ each_set {A} P xs c k y d within here there = subst P (sym (set_at xs c k y d wi
     go false = there
 
 -- what holds of the members of two lists at each place holds after the members at one place are set
-pub both_set : {A B : Type 0} (P : A → B → Type 0) (xs : List A) (ys : List B) (c k : ℕ) (x d : A) (y e : B) → c < length xs → c < length ys → P x y → P (slice_index_or xs k d) (slice_index_or ys k e) → P (slice_index_or (slice_set xs c x) k d) (slice_index_or (slice_set ys c y) k e)
+pub both_set : {A B : Type 0} (P : A → B → Type 0) (xs : List A) (ys : List B) (c k : ℕ) (x d : A) (y e : B) → c < length xs
+    → c < length ys → P x y → P (slice_index_or xs k d) (slice_index_or ys k e)
+    → P (slice_index_or (slice_set xs c x) k d) (slice_index_or (slice_set ys c y) k e)
 both_set {A} {B} P xs ys c k x d y e within inside here there =
     subst (λ (a : A). P a (slice_index_or (slice_set ys c y) k e)) (sym (set_at xs c k x d within))
     (subst (λ (b : B). P (if c == k then x else slice_index_or xs k d) b) (sym (set_at ys c k y e inside)) (go (c == k)))
@@ -54,7 +56,9 @@ entries_more k c e xs =
     go false = append-nil (entries_with k xs)
 
 -- the list and the histories, with one exchange more
-pub exchanged_more : (list : List Made) (hs : List (List CellEntry)) (xs : List Exchange) (c : ℕ) (e : CellEntry) (m : Made) → c < length hs → m.numbers ≡ exchange_numbers (record { cell = c; entry = e }) → AreExchanges list hs xs → AreExchanges (list ++ m ∷ []) (slice_set hs c (cell_history hs c ++ e ∷ [])) (xs ++ record { cell = c; entry = e } ∷ [])
+pub exchanged_more : (list : List Made) (hs : List (List CellEntry)) (xs : List Exchange) (c : ℕ) (e : CellEntry) (m : Made)
+    → c < length hs → m.numbers ≡ exchange_numbers (record { cell = c; entry = e }) → AreExchanges list hs xs
+    → AreExchanges (list ++ m ∷ []) (slice_set hs c (cell_history hs c ++ e ∷ [])) (xs ++ record { cell = c; entry = e } ∷ [])
 exchanged_more list hs xs c e m within says h = record {
   numbers = map-append (λ (n : Made). n.numbers) list (m ∷ [])
       ∙ ((let n = h.numbers in cc) ∙ sym (map-append exchange_numbers xs (record { cell = c; entry = e } ∷ [])));
@@ -84,14 +88,19 @@ same_count k (m ∷ list) (x ∷ xs) e =
     let later : map (λ (n : Made). n.numbers) list ≡ map exchange_numbers xs = cc in
     go (slice_index m.numbers 1 == k) (x.cell == k) (ap (λ (ns : List ℕ). slice_index ns 1 == k) here) (same_count k list xs later)
   where
-    go : (b d : Bool) → b ≡ d → length (made_with_cell k list) ≡ length (entries_with k xs) → length (if b then m ∷ made_with_cell k list else made_with_cell k list) ≡ length (map (λ (y : Exchange). y.entry) (if d then x ∷ filter (is_with_cell k) xs else filter (is_with_cell k) xs))
+    go : (b d : Bool) → b ≡ d → length (made_with_cell k list) ≡ length (entries_with k xs)
+        → length (if b then m ∷ made_with_cell k list else made_with_cell k list) ≡ length
+        (map (λ (y : Exchange). y.entry) (if d then x ∷ filter (is_with_cell k) xs else filter (is_with_cell k) xs))
     go true true is same = ap suc same
     go false false is same = same
     go true false is same = cc
     go false true is same = cc
 
 -- An exchange that is in the list is in its cell's history, after as many as are before it in the list.
-pub stands_at : ((a b : CellEntry) → cell_numbers a ≡ cell_numbers b → a ≡ b) → (before rest : List Made) (m : Made) (x : Exchange) (xs : List Exchange) → map (λ (n : Made). n.numbers) (before ++ m ∷ rest) ≡ map exchange_numbers xs → m.numbers ≡ exchange_numbers x → slice_get (entries_with x.cell xs) (length (made_with_cell x.cell before)) ≡ Some x.entry
+pub stands_at : ((a b : CellEntry) → cell_numbers a ≡ cell_numbers b → a ≡ b)
+    → (before rest : List Made) (m : Made) (x : Exchange) (xs : List Exchange)
+    → map (λ (n : Made). n.numbers) (before ++ m ∷ rest) ≡ map exchange_numbers xs → m.numbers ≡ exchange_numbers x
+    → slice_get (entries_with x.cell xs) (length (made_with_cell x.cell before)) ≡ Some x.entry
 stands_at one [] rest m x [] e says = cc
 stands_at one [] rest m x (y ∷ xs) e says =
     let both : exchange_numbers y ≡ exchange_numbers x = cc in
@@ -108,14 +117,22 @@ stands_at one (n ∷ before) rest m x (y ∷ xs) e says =
     let later : map (λ (l : Made). l.numbers) (before ++ m ∷ rest) ≡ map exchange_numbers xs = cc in
     go (slice_index n.numbers 1 == x.cell) (y.cell == x.cell) (ap (λ (ns : List ℕ). slice_index ns 1 == x.cell) here) (stands_at one before rest m x xs later says)
   where
-    go : (b d : Bool) → b ≡ d → slice_get (entries_with x.cell xs) (length (made_with_cell x.cell before)) ≡ Some x.entry → slice_get (map (λ (z : Exchange). z.entry) (if d then y ∷ filter (is_with_cell x.cell) xs else filter (is_with_cell x.cell) xs)) (length (if b then n ∷ made_with_cell x.cell before else made_with_cell x.cell before)) ≡ Some x.entry
+    go : (b d : Bool) → b ≡ d → slice_get (entries_with x.cell xs) (length (made_with_cell x.cell before)) ≡ Some x.entry
+        → slice_get (map (λ (z : Exchange). z.entry) (if d then y ∷ filter (is_with_cell x.cell) xs else filter (is_with_cell x.cell) xs))
+        (length (if b then n ∷ made_with_cell x.cell before else made_with_cell x.cell before)) ≡ Some x.entry
     go true true is same = same
     go false false is same = same
     go true false is same = cc
     go false true is same = cc
 
 -- the cells after an exchange
-pub cells_more : (old : CellsHeld) (w : View) (hs : List (List CellEntry)) (ps : List (Option ParkedHandle)) (line c : ℕ) (given : Option ParkedHandle) (gave found : Held) (m : Made) → c < 64 → IsCells old → length (cell_history old.histories c) < 2147483647 → HostsKeeper 5 w → list_of 5 w ≡ list_of 5 old.view ++ m ∷ [] → m.numbers ≡ exchange_numbers (record { cell = c; entry = record { line = line; gave = gave; found = found } }) → gave ≡ held_as given → found ≡ held_as (cell_holds old.parked c) → hs ≡ slice_set old.histories c (cell_history old.histories c ++ record { line = line; gave = gave; found = found } ∷ []) → ps ≡ slice_set old.parked c given → IsCells (record { view = w; histories = hs; parked = ps })
+pub cells_more : (old : CellsHeld) (w : View) (hs : List (List CellEntry)) (ps : List (Option ParkedHandle)) (line c : ℕ)
+    (given : Option ParkedHandle) (gave found : Held) (m : Made) → c < 64 → IsCells old
+    → length (cell_history old.histories c) < 2147483647 → HostsKeeper 5 w → list_of 5 w ≡ list_of 5 old.view ++ m ∷ []
+    → m.numbers ≡ exchange_numbers (record { cell = c; entry = record { line = line; gave = gave; found = found } })
+    → gave ≡ held_as given → found ≡ held_as (cell_holds old.parked c)
+    → hs ≡ slice_set old.histories c (cell_history old.histories c ++ record { line = line; gave = gave; found = found } ∷ [])
+    → ps ≡ slice_set old.parked c given → IsCells (record { view = w; histories = hs; parked = ps })
 cells_more old w hs ps line c given gave found m small h room hosts list says is_gave is_found histories parked =
     let e : CellEntry = record { line = line; gave = gave; found = found } in
     let h' = cell_history old.histories c ++ e ∷ [] in

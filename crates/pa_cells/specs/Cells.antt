@@ -74,7 +74,7 @@ pub record AreExchanges (list : List Made) (histories : List (List CellEntry)) (
 --   exchanged: the keeper's list is that of all exchanges, and each history is that of its cell
 --   chain: each exchange found what the one before it gave, the first one nothing
 --   holds: a cell holds what its last exchange gave
---   few: the greatest room of a history
+--   few: each history has at most 2^31 - 1 exchanges
 pub record IsCells (c : CellsHeld) : Type 0 where
   pub cells : length c.histories ≡ cell_count
   pub held : length c.parked ≡ cell_count

@@ -6,7 +6,7 @@ use Rattle.pa_machine.specs.declared.event.Item.{Item}
 use Rattle.pa_machine.specs.declared.event.Item.TheVariants as item
 use Rattle.pa_slot.specs.Titles.{same_title}
 use Rattle.pa_slot.specs.Holdings.{one}
-use Rattle.pa_buckets.specs.Limits.{sparse_count}
+use Rattle.pa_buckets.specs.Limits.{class_count}
 use Rattle.pa_buckets.specs.Table.{slot_of}
 use Rattle.pa_record.specs.declared.numbered.Numbered.{Numbered}
 use Rattle.pa_record.specs.declared.root.RootEntry.{RootEntry}
@@ -36,12 +36,12 @@ pub record ParkedHandle : Type 0 where
   pub own : Bool
   pub note : Share
 
--- The act gave the slot of this title out. With a class of version 1, it is one slot of a fill of that class, which has the title's length as slot
+-- The act gave the slot of this title out. With a class, it is one slot of a fill of that class, which has the title's length as slot
 -- size. Without one, it is a direct map of that length.
 abbrev pub HandsOut : Option ℕ → Title → RootAct → Type 0
 HandsOut (Some class) t act =
     (pool : Option ℕ) × (slots : List Numbered) × (act ≡ Fill class pool slots) × Contains (names slots) (name_of t)
-    × (t.len ≡ slot_of class) × (class < sparse_count)
+    × (t.len ≡ slot_of class) × (class < class_count)
 HandsOut None t act = (pool : ℕ) × (act ≡ Map pool (name_of t) t.len)
 
 -- A view has seen how the handle's slot was made: the list of its partition's keeper has the entry that gave it out.

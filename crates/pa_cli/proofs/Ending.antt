@@ -4,6 +4,7 @@ use Rattle.pa_io.specs.Moves.{IsAllOf}
 use Rattle.pa_trace.specs.declared.fault.TraceFault.{TraceFault}
 use Rattle.pa_trace.specs.declared.fault.TraceFault.TheVariants as faults
 use Rattle.pa_trace.specs.Limits.{IsInput}
+use Rattle.pa_trace.specs.Grammar.{last_version}
 use Rattle.pa_trace.proofs.Firsts.{one_fault, no_fault_of_input}
 use Rattle.pa_script.specs.Limits.{IsScriptInput}
 use Rattle.pa_rules.specs.declared.verdict.Clause.{Clause}
@@ -40,14 +41,14 @@ read_these (Some left) bytes read e h = let same : left ≡ bytes = cc in sym h 
 -- an input has no fault
 clean : (reads : Reading) (bytes : List ℕ) (fault : TraceFault) → IsInputFor reads bytes → IsFaulty reads fault bytes → ⊥
 clean ReadsNothing bytes fault input h = input
-clean ReadsTrace bytes fault input h = no_fault_of_input input.0 bytes fault input.1 h
+clean ReadsTrace bytes fault input h = no_fault_of_input last_version input.0 bytes fault input.1.limits.version.1 input.1 h
 clean ReadsScript bytes fault input h = no_script_fault input.0 bytes fault input.1 h
 clean ReadsRun bytes fault input h = no_audit_fault input.0 input.1 input.2 bytes fault input.3 h
 
 -- bytes have one fault
 one_of : (reads : Reading) (bytes : List ℕ) (fault other : TraceFault) → IsFaulty reads fault bytes → IsFaulty reads other bytes → fault ≡ other
 one_of ReadsNothing bytes fault other h k = absurd h
-one_of ReadsTrace bytes fault other h k = one_fault fault other bytes h k
+one_of ReadsTrace bytes fault other h k = one_fault last_version fault other bytes h k
 one_of ReadsScript bytes fault other h k = one_script_fault fault other bytes h k
 one_of ReadsRun bytes fault other h k = one_audit_fault fault other bytes h k
 

@@ -2,6 +2,7 @@
 use Rattle.std.proofs.Common.{rules, arith, ◌≡◌, ◌+◌, ◌≤◌, ℕ, List, ◌++◌, Option, Some, None, IfSome, inl, inr, length, refl, sym, subst, Bool, true, false}
 use Rattle.std.specs.Io.KnownBytes.{Consumes}
 use Rattle.pa_io.specs.Moves.{IsAllOf}
+use Rattle.pa_trace.specs.Grammar.{last_version}
 use Rattle.pa_trace.specs.declared.script.Trace.{Trace}
 use Rattle.pa_trace.specs.declared.fault.TraceFault.{TraceFault}
 use Rattle.pa_trace.specs.declared.fault.TraceFault.TheVariants.{BadLine, Limit, OutOfMemory}
@@ -67,11 +68,11 @@ trace_stopped t before after h = read_stopped most_bytes h.bytes before after (i
 
 -- the fault of what was read is why a command that reads a trace has no output
 pub trace_refused : (threads : Bool) (fault : TraceFault) (bytes : List ℕ) (before after : Stream) → IsRead most_bytes before after bytes
-    → IsFault fault bytes → IsRefusal (status_of_trace fault) (needing ReadsTrace threads true) before after
+    → IsFault last_version fault bytes → IsRefusal (status_of_trace fault) (needing ReadsTrace threads true) before after
 trace_refused threads (BadLine n) bytes before after read first =
-    (tt, has_fault ReadsTrace (BadLine n) bytes before after read first (λ past more. fault_early (BadLine n) bytes more past first))
+    (tt, has_fault ReadsTrace (BadLine n) bytes before after read first (λ past more. fault_early last_version (BadLine n) bytes more past first))
 trace_refused threads (Limit n) bytes before after read first =
-    (tt, has_fault ReadsTrace (Limit n) bytes before after read first (λ past more. fault_early (Limit n) bytes more past first))
+    (tt, has_fault ReadsTrace (Limit n) bytes before after read first (λ past more. fault_early last_version (Limit n) bytes more past first))
 trace_refused threads OutOfMemory bytes before after read first = (refl, read_stopped most_bytes bytes before after read)
 
 -- a call that stops after it read a script whole had no fault of the source

@@ -3,6 +3,7 @@ use Rattle.std.specs.Prelude.{◌≡◌, ◌↔◌, ℕ, ◌⊎◌, true, List, 
 use Rattle.std.specs.Io.KnownBytes.{Appends}
 use Rattle.pa_io.specs.Moves.{HasRisen, HasWrittenPart}
 use Rattle.pa_trace.specs.declared.script.Trace.{Trace}
+use Rattle.pa_trace.specs.Grammar.{last_version}
 use Rattle.pa_trace.specs.Limits.{IsInput}
 use Rattle.pa_trace.specs.Faults.{IsFirstFault}
 use Rattle.pa_trace.specs.declared.fault.TraceFault.{TraceFault}
@@ -27,7 +28,7 @@ use Rattle.pa_cli.specs.StatusText.{status_of_trace, status_of_verdict}
 -- the bytes have this fault as such an input: it is that of the first faulty line
 abbrev pub IsFaulty : Reading → TraceFault → List ℕ → Type 0
 IsFaulty ReadsNothing fault bytes = ⊥
-IsFaulty ReadsTrace fault bytes = IsFirstFault fault bytes
+IsFaulty ReadsTrace fault bytes = IsFirstFault last_version fault bytes
 IsFaulty ReadsScript fault bytes = IsFirstScriptFault fault bytes
 IsFaulty ReadsRun fault bytes = IsFirstAuditFault fault bytes
 

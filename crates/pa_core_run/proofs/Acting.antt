@@ -28,7 +28,8 @@ beside_both actor [] fs h k = k
 beside_both actor (e ∷ es) fs h k = (h.0, beside_both actor es fs h.1 k)
 
 -- a record that reports no slot
-pub play_none : (Made : Title → Type 0) (x : Played) (s next : State) (first : List Event) → mark_of x ≡ None → IsGoodState s → IsRunTo s first next → AreBeside (x.thread + 1) first → Plays Made x s next
+pub play_none : (Made : Title → Type 0) (x : Played) (s next : State) (first : List Event) → mark_of x ≡ None → IsGoodState s
+    → IsRunTo s first next → AreBeside (x.thread + 1) first → Plays Made x s next
 play_none Made x s next first none good run beside =
     let good2 = run_good s next first good run in
     let told : told_events x no_title ≡ [] = ap (λ o. mark_events (x.thread + 1) no_title o (read_by x.op x.answer)) none in

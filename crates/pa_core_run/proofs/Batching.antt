@@ -29,7 +29,8 @@ kept_with K ts u = K u ⊎ Contains ts u
 
 module _ (names : Titles) (actors bytes k : ℕ) (some : 0 < k) (below : k < actors) (unique : HaveNames names.Made) where
   -- no title goes: a ledger that asks no more is shown
-  pub asks_less : (b : Ledger) (free : ℕ → SlotName → ℕ) (K L : Title → Type 0) (s : State) → IsShown (keeping names K) actors bytes b s → ((j : ℕ) (x : SlotName) → free j x ≤ b.free j x) → ((u : Title) → L u → K u) →
+  pub asks_less : (b : Ledger) (free : ℕ → SlotName → ℕ) (K L : Title → Type 0) (s : State) → IsShown (keeping names K) actors bytes b s
+      → ((j : ℕ) (x : SlotName) → free j x ≤ b.free j x) → ((u : Title) → L u → K u) →
       IsShown (keeping names L) actors bytes (asking b free) s
   asks_less b free K L s h less fewer = record {
     good = h.good;
@@ -59,7 +60,8 @@ module _ (names : Titles) (actors bytes k : ℕ) (some : 0 < k) (below : k < act
               let a = less (name_of u) in
               let l = of_actor_here k (FreePiece t ∷ []) (FreeTitle u) in
               let p = free_piece names.Made t u unique made m in
-              subst (λ i. free i (name_of u) + held_in (of_actor k (FreePiece t ∷ []) i) (FreeTitle u) ≤ b.free i (name_of u) + held_in (of_actor 0 (FreePiece t ∷ []) i) (FreeTitle u)) (sym e) (omega arith)
+              subst (λ i. free i (name_of u) + held_in (of_actor k (FreePiece t ∷ []) i) (FreeTitle u) ≤ b.free i (name_of u) + held_in
+              (of_actor 0 (FreePiece t ∷ []) i) (FreeTitle u)) (sym e) (omega arith)
           | inr ne ↦ let a = other j (name_of u) ne in let l = of_actor_apart k j (FreePiece t ∷ []) (FreeTitle u) ne in omega arith
         ];
         word_left = refl;
@@ -85,7 +87,8 @@ module _ (names : Titles) (actors bytes k : ℕ) (some : 0 < k) (below : k < act
       ]
 
   -- a batch goes, title by title
-  pub batch_goes : (ts : List Title) (b : Ledger) (rest : ℕ → SlotName → ℕ) (K : Title → Type 0) (s : State) → IsShown (keeping names K) actors bytes b s → ((t : Title) → Contains ts t → names.Made t) →
+  pub batch_goes : (ts : List Title) (b : Ledger) (rest : ℕ → SlotName → ℕ) (K : Title → Type 0) (s : State)
+      → IsShown (keeping names K) actors bytes b s → ((t : Title) → Contains ts t → names.Made t) →
       ((x : SlotName) → rest k x + named_in x ts ≤ b.free k x) → ((j : ℕ) (x : SlotName) → (j ≡ k → ⊥) → rest j x ≤ b.free j x) →
       (after : State) × IsReached (keeping names (kept_with K ts)) actors bytes (asking b rest) s k after
   batch_goes [] b rest K s h made mine other = (
@@ -109,7 +112,9 @@ module _ (names : Titles) (actors bytes k : ℕ) (some : 0 < k) (below : k < act
       let all = h.free k t some below it in
       let need = mine (name_of t) in
       let first = one_goes b free K s t h it (omega arith) (λ x. let e = here x in let a = mine x in omega arith) (λ j x ne. let e = there j x ne in let a = other j x ne in omega arith) in
-      let more = batch_goes ts (asking b free) rest (kept_with K (t ∷ [])) first.0 first.1.shown (λ u member. made u (later_in t u ts member)) (λ x. let e = here x in omega arith) (λ j x ne. let e = there j x ne in omega arith) in (
+      let more = batch_goes ts (asking b free) rest (kept_with K (t ∷ [])) first.0 first.1.shown
+      (λ u member. made u (later_in t u ts member)) (λ x. let e = here x in omega arith)
+      (λ j x ne. let e = there j x ne in omega arith) in (
         more.0,
         record {
           events = Hand k 0 (FreeItem t) ∷ more.1.events;

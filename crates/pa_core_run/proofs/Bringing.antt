@@ -35,7 +35,9 @@ named_times y [] = refl
 named_times y (t ∷ ts) = let a = times_cons y (name_of t) (map name_of ts) in let b = named_times y ts in omega arith
 
 -- a ledger of other lists
-asking_lists : (names : Titles) (actors bytes partitions : ℕ) (st next : Standing) (s : State) → ((g : Reg → ℕ) (k : ℕ) → in_registers g next k ≡ in_registers g st k) → ((y : SlotName) → next.word y ≡ st.word y) → ((y : SlotName) → next.content y ≡ st.content y) →
+asking_lists : (names : Titles) (actors bytes partitions : ℕ) (st next : Standing) (s : State)
+    → ((g : Reg → ℕ) (k : ℕ) → in_registers g next k ≡ in_registers g st k) → ((y : SlotName) → next.word y ≡ st.word y)
+    → ((y : SlotName) → next.content y ≡ st.content y) →
     IsShown names actors bytes (asking (ledger_of partitions st) (λ k y. in_lists partitions next y k)) s → IsShown names actors bytes (ledger_of partitions next) s
 asking_lists names actors bytes partitions st next s registers words contents h = record {
   good = h.good;
@@ -82,7 +84,8 @@ module _ (a : Parts) (before rest : List Played) (x : Played) (h : IsFiled a) (p
       let after = listing a before rest x h parts st f s shown list in
       let Cut : Title → Type 0 = kept_with (KeptIn (root_at a x.line)) new in
       let (cut, c) = cuts_go new names_old actors bytes (ledger_of a.partitions st) s k shown (omega arith) b.can b.apart in
-      let (mid, m) = batch_comes (with_titles names_old new) actors bytes k (omega arith) down (made_unique a h) taken (ledger_of a.partitions st) (λ j y. in_lists a.partitions after y j) Cut cut c.shown
+      let (mid, m) = batch_comes (with_titles names_old new) actors bytes k (omega arith) down (made_unique a h) taken
+      (ledger_of a.partitions st) (λ j y. in_lists a.partitions after y j) Cut cut c.shown
       b.kept b.alone b.lists (λ j y ne. lists_same list j y ne) in (
         mid,
         record {
@@ -97,16 +100,20 @@ module _ (a : Parts) (before rest : List Played) (x : Played) (h : IsFiled a) (p
 
   -- Titles of which the thread's lists had more before than after go to actor 0, if registers, words and contents stay.
   pub titles_go : (from last : Standing) (ts : List Title) (mid : State) → IsShown (titles_in a (root_at a x.line)) (a.threads + 1) (2097152 * a.supers) (ledger_of a.partitions from) mid →
-      ((g : Reg → ℕ) (k : ℕ) → in_registers g last k ≡ in_registers g from k) → ((y : SlotName) → last.word y ≡ from.word y) → ((y : SlotName) → last.content y ≡ from.content y) → ((t : Title) → Contains ts t → MadeIn a t) →
+      ((g : Reg → ℕ) (k : ℕ) → in_registers g last k ≡ in_registers g from k) → ((y : SlotName) → last.word y ≡ from.word y)
+      → ((y : SlotName) → last.content y ≡ from.content y) → ((t : Title) → Contains ts t → MadeIn a t) →
       ((y : SlotName) → in_lists a.partitions last y (suc x.thread) + named_in y ts ≤ in_lists a.partitions from y (suc x.thread)) →
       ((j : ℕ) (y : SlotName) → (j ≡ suc x.thread → ⊥) → in_lists a.partitions last y j ≤ in_lists a.partitions from y j) →
-      (after : State) × IsReached (keeping (titles_in a (root_at a x.line)) (kept_with (KeptIn (root_at a x.line)) ts)) (a.threads + 1) (2097152 * a.supers) (ledger_of a.partitions last) mid (suc x.thread) after
+      (after : State) × IsReached (keeping (titles_in a (root_at a x.line)) (kept_with (KeptIn (root_at a x.line)) ts)) (a.threads + 1)
+      (2097152 * a.supers) (ledger_of a.partitions last) mid (suc x.thread) after
   titles_go from last ts mid now registers words contents made less others =
       let names_old = titles_in a (root_at a x.line) in
       let actors = a.threads + 1 in
       let bytes = 2097152 * a.supers in
       let down = below a before rest x h parts st f s shown in
-      let (after, r) = batch_goes names_old actors bytes (suc x.thread) (omega arith) down (made_unique a h) ts (ledger_of a.partitions from) (λ j y. in_lists a.partitions last y j) (KeptIn (root_at a x.line)) mid now made less others in (
+      let (after, r) = batch_goes names_old actors bytes (suc x.thread) (omega arith) down (made_unique a h) ts
+      (ledger_of a.partitions from) (λ j y. in_lists a.partitions last y j) (KeptIn (root_at a x.line)) mid now made less others
+      in (
         after,
         record {
           events = r.events;

@@ -14,7 +14,8 @@ use Rattle.pa_core_run.proofs.Taking.{kept_without, batch_comes}
 use Rattle.pa_core_run.proofs.Making.{with_titles, renamed, cuts_go}
 
 -- what is reached is shown of other titles, if more are there and fewer asked of actor 0
-reached_as : (names next : Titles) (actors bytes : ℕ) (b : Ledger) (s : State) (k : ℕ) → ((u : Title) → next.Made u → names.Made u) → ((u : Title) → names.There u → next.There u) → ((u : Title) → next.Kept u → names.Kept u) →
+reached_as : (names next : Titles) (actors bytes : ℕ) (b : Ledger) (s : State) (k : ℕ) → ((u : Title) → next.Made u → names.Made u)
+    → ((u : Title) → names.There u → next.There u) → ((u : Title) → next.Kept u → names.Kept u) →
     (after : State) × IsReached names actors bytes b s k after → (after : State) × IsReached next actors bytes b s k after
 reached_as names next actors bytes b s k made there kept (after, r) = (
   after,

@@ -39,7 +39,8 @@ step_once a q y m n p r h there there' is is' step step' slot number =
 
 module _ (a : Parts) (h : IsFiled a) where
   -- the record that made or wrote a slot at a number is the one that stepped there
-  made_here : (x : Played) (m : Mark) (p : Step) → Contains a.ps x → mark_of x ≡ Some m → m.step ≡ Some p → IsMadeAt a.ps m.slot (number_of m.found) → (seen : Seen) × (usable : ℕ) × (x.answer ≡ Made seen usable)
+  made_here : (x : Played) (m : Mark) (p : Step) → Contains a.ps x → mark_of x ≡ Some m → m.step ≡ Some p
+      → IsMadeAt a.ps m.slot (number_of m.found) → (seen : Seen) × (usable : ℕ) × (x.answer ≡ Made seen usable)
   made_here x m p there is step (q, seen, usable, among, answer, slot, number) =
       let same = step_once a q x (mark_at q.line seen (Some steps.Issue)) m steps.Issue p h among there (made_mark q seen usable answer) is refl step slot number in
       (seen, usable, ap (λ (z : Played). z.answer) (sym same) ∙ answer)
@@ -92,7 +93,8 @@ module _ (a : Parts) (h : IsFiled a) where
           | inl less ↦ none k (x, seen, usable, there, answer, refl, refl) less (omega arith)
           | inr more ↦
               let e : n ≡ k = omega arith in
-              let (found, reg, op, done) = written_here x (mark_at x.line seen (Some steps.Issue)) steps.Issue other there (made_mark x seen usable answer) refl (subst (λ z. IsWrittenAt a.ps seen.slot z other) e written) in
+              let (found, reg, op, done) = written_here x (mark_at x.line seen (Some steps.Issue)) steps.Issue other there
+              (made_mark x seen usable answer) refl (subst (λ z. IsWrittenAt a.ps seen.slot z other) e written) in
               let both : Made seen usable ≡ Done found = sym answer ∙ done in
               absurd cc
         ],

@@ -56,7 +56,9 @@ all_raw names actors bytes b s t h some can byte low high =
     elim (h.good.divided.bytes byte (omega arith)) [
       | inl raw ↦ elim (cases_lt 0 (held_by s 0 (RawByte byte))) [
         | inl has ↦ has
-        | inr none ↦ absurd (let z = nobody_raw s.holdings (λ k below. let many = h.many in elim (cases_lt 0 k) [ inl up ↦ h.raw k byte up (omega arith) | inr zero_k ↦ let e : k ≡ 0 = omega arith in rw e (omega arith) ]) in let r = raw.0 in omega arith)
+        | inr none ↦ absurd (let z = nobody_raw s.holdings (λ k below. let many = h.many in elim (cases_lt 0 k)
+            [ inl up ↦ h.raw k byte up (omega arith) | inr zero_k ↦ let e : k ≡ 0 = omega arith in rw e (omega arith) ]) in let r = raw.0
+            in omega arith)
       ]
       | inr held ↦
           let u = held.1.0 in
@@ -103,14 +105,18 @@ cut_shown names K actors bytes b s t h some can word_zero keeps =
     let long2 = m.1.holdings.0 in
     let has2 : HasActor mid 0 = omega arith in
     let place : at_byte / 8 ≡ count_place t = omega arith in
-    let zeroed : count_word mid.words t ≡ 0 = ap (λ ws. count_word ws t) m.1.words ∙ (ap (λ p. get_or (set s.words p 0) (count_place t) 0) place ∙ get_or-set_same s.words (count_place t) 0 0 (omega arith)) in
+    let zeroed : count_word mid.words t ≡ 0 = ap (λ ws. count_word ws t) m.1.words
+    ∙ (ap (λ p. get_or (set s.words p 0) (count_place t) 0) place ∙ get_or-set_same s.words (count_place t) 0 0 (omega arith)) in
     let cut : IsEnabled (Cut 0 t) mid = (has2, raw2, a1, a2, a3, zeroed) in
     let q = after_of mid 0 (RawPiece t.start t.len ∷ []) (FreePiece t ∷ []) mid.words has2 (lose_raw mid 0 t.start t.len mid_good raw2) in
     let after = q.0 in
     let cut_run = run_one mid after (Cut 0 t) mid_good cut q.1 in
     let run = run_join s mid after (Store 0 at_byte 0 ∷ []) (Cut 0 t ∷ []) h.good store_run cut_run in
-    let ex = exchanges_then s.holdings mid.holdings after.holdings (of_actor 0 []) (of_actor 0 []) (of_actor 0 (RawPiece t.start t.len ∷ [])) (of_actor 0 (FreePiece t ∷ [])) (of_actor 0 (RawPiece t.start t.len ∷ [])) (of_actor 0 (FreePiece t ∷ [])) m.1.holdings q.1.holdings (λ k x. omega arith) in
-    let totals : (x : Thing) → total_of after x + held_in (RawPiece t.start t.len ∷ []) x ≡ total_of s x + held_in (FreePiece t ∷ []) x = λ x. total_exchanged s.holdings after.holdings 0 0 (RawPiece t.start t.len ∷ []) (FreePiece t ∷ []) ex has has x in
+    let ex = exchanges_then s.holdings mid.holdings after.holdings (of_actor 0 []) (of_actor 0 [])
+    (of_actor 0 (RawPiece t.start t.len ∷ [])) (of_actor 0 (FreePiece t ∷ [])) (of_actor 0 (RawPiece t.start t.len ∷ []))
+    (of_actor 0 (FreePiece t ∷ [])) m.1.holdings q.1.holdings (λ k x. omega arith) in
+    let totals : (x : Thing) → total_of after x + held_in (RawPiece t.start t.len ∷ []) x ≡ total_of s x + held_in (FreePiece t ∷ []) x =
+    λ x. total_exchanged s.holdings after.holdings 0 0 (RawPiece t.start t.len ∷ []) (FreePiece t ∷ []) ex has has x in
     let all_words : after.words ≡ set s.words (count_place t) 0 = q.1.words ∙ (m.1.words ∙ ap (λ p. set s.words p 0) place) in
     let unheld : IsTitleHeld (total_of s) t → ⊥ = λ held. (elim (can.apart t (h.there t held)) [ inl before ↦ omega arith | inr behind ↦ omega arith ]) in
     let off : (u : Title) (p : ℕ) → IsTitleHeld (total_of s) u → IsWordOf u p → p ≡ count_place t → ⊥ = λ u p held within same.
@@ -135,7 +141,9 @@ cut_shown names K actors bytes b s t h some can word_zero keeps =
             ref = omega arith;
             state = λ a. let na = n.state a in let ta = totals (OwnAs u a) in omega arith;
             word = ap (λ ws. count_word ws u) all_words ∙ get_or-set_other s.words (count_place t) (count_place u) 0 0 (λ e. off u (count_place u) before (omega arith, omega arith) e);
-            content = λ i below. ap (λ ws. content_at ws u i) all_words ∙ get_or-set_other s.words (count_place t) (content_place u i) 0 0 (λ e. off u (content_place u i) before (omega arith, omega arith) e);
+            content = λ i below. ap (λ ws. content_at ws u i) all_words
+                ∙ get_or-set_other s.words (count_place t) (content_place u i) 0 0
+                (λ e. off u (content_place u i) before (omega arith, omega arith) e);
           };
     } in
     let no_own : (a : OwnState) → total_of after (OwnAs t a) ≡ 0 = λ a. (let e = totals (OwnAs t a) in elim (cases_lt 0 (total_of s (OwnAs t a))) [
@@ -144,7 +152,8 @@ cut_shown names K actors bytes b s t h some can word_zero keeps =
     ]) in (
       after,
       run,
-      shown_after names (with_title names t K) actors bytes b b s after t (of_actor 0 (RawPiece t.start t.len ∷ [])) (of_actor 0 (FreePiece t ∷ [])) (b.word (name_of t)) h (λ u m. m) (inr free_now) change ex
+      shown_after names (with_title names t K) actors bytes b b s after t (of_actor 0 (RawPiece t.start t.len ∷ []))
+          (of_actor 0 (FreePiece t ∷ [])) (b.word (name_of t)) h (λ u m. m) (inr free_now) change ex
           (nothing_paid names.Made b t (RawPiece t.start t.len ∷ []) (FreePiece t ∷ []) (λ u. refl) (λ u. refl))
           (λ u k.
           let e = ex.1 0 (FreeTitle u) has in
@@ -175,7 +184,8 @@ uncut_shown names K actors bytes b s t h some holds keeps =
     let can : IsEnabled (Uncut 0 t) s = (has, holds) in
     let run = run_one s after (Uncut 0 t) h.good can q.1 in
     let ex = q.1.holdings in
-    let totals : (x : Thing) → total_of after x + held_in (FreePiece t ∷ []) x ≡ total_of s x + held_in (RawPiece t.start t.len ∷ []) x = λ x. total_exchanged s.holdings after.holdings 0 0 (FreePiece t ∷ []) (RawPiece t.start t.len ∷ []) ex has has x in
+    let totals : (x : Thing) → total_of after x + held_in (FreePiece t ∷ []) x ≡ total_of s x + held_in (RawPiece t.start t.len ∷ []) x =
+    λ x. total_exchanged s.holdings after.holdings 0 0 (FreePiece t ∷ []) (RawPiece t.start t.len ∷ []) ex has has x in
     let one = free_self t in
     let gone : IsTitleHeld (total_of after) t → ⊥ = λ other.
     (let counted = h.good.counted t held in
@@ -206,7 +216,8 @@ uncut_shown names K actors bytes b s t h some holds keeps =
     } in (
       after,
       run,
-      shown_after names (without_title names t K) actors bytes b b s after t (of_actor 0 (FreePiece t ∷ [])) (of_actor 0 (RawPiece t.start t.len ∷ [])) (b.word (name_of t)) h (λ u m. m) (inl held) change ex
+      shown_after names (without_title names t K) actors bytes b b s after t (of_actor 0 (FreePiece t ∷ []))
+          (of_actor 0 (RawPiece t.start t.len ∷ [])) (b.word (name_of t)) h (λ u m. m) (inl held) change ex
           (nothing_paid names.Made b t (FreePiece t ∷ []) (RawPiece t.start t.len ∷ []) (λ u. refl) (λ u. refl))
           (λ u k.
           let (old, ne) = keeps u k in

@@ -69,7 +69,9 @@ module _ (a : Parts) (before rest : List Played) (x : Played) (h : IsFiled a) (p
   held_slot (held.Ref z) y (inl e) = absurd cc
   held_slot (held.Ref z) y (inr e) = ap {B = Option SlotName} Some cc
 
-  pub swap_plays : (cell reg : ℕ) → x.op ≡ ops.Swap cell reg → cell < 64 → reg < 64 → mark_of x ≡ None → SameLists (cache_left a before rest x h parts st f) (st.caches x.thread) → NoActs a.roots x.line → Outcome a before rest x h parts st f s shown
+  pub swap_plays : (cell reg : ℕ) → x.op ≡ ops.Swap cell reg → cell < 64 → reg < 64 → mark_of x ≡ None
+      → SameLists (cache_left a before rest x h parts st f) (st.caches x.thread) → NoActs a.roots x.line
+      → Outcome a before rest x h parts st f s shown
   swap_plays cell reg op cell_few reg_few unmarked lists none =
       let here = among a before rest x h parts st f in
       let (e, has) = exchange_here a x cell reg h here op in

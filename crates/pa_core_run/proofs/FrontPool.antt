@@ -30,7 +30,8 @@ use Rattle.pa_heap_effects.proofs.Runs.{fits_before}
 
 -- ---- the first entries of the pool
 
-pool_front : (supers : ℕ) (pools before es rest : List PoolEntry) → pools ≡ before ++ (es ++ rest) → IsPool supers before → PoolReplays pools (es ++ rest) (pool_of supers before) → IsPool supers (before ++ es)
+pool_front : (supers : ℕ) (pools before es rest : List PoolEntry) → pools ≡ before ++ (es ++ rest) → IsPool supers before
+    → PoolReplays pools (es ++ rest) (pool_of supers before) → IsPool supers (before ++ es)
 pool_front supers pools before [] rest parts h fits = subst (λ z. IsPool supers z) (sym (append-nil before)) h
 pool_front supers pools before (e ∷ es) rest parts h fits =
     let act = fits_before supers before (e ∷ (es ++ rest)) e.partition e.act h (subst (λ z. PoolActFits z e.partition e.act (pool_of supers before)) parts fits.0) in

@@ -56,11 +56,13 @@ module _ (a : Parts) (before rest : List Played) (x : Played) (h : IsFiled a) (p
       in_lists a.partitions (next_st a before rest x h parts st f s shown content) y (suc x.thread) ≡ over a.partitions (λ p. listed_times y (cache_left a before rest x h parts st f p) 0 170)
   lists_here content y =
       let same : with_cache st.caches x.thread (cache_left a before rest x h parts st f) x.thread ≡ cache_left a before rest x h parts st f = rw (eq-eqb x.thread x.thread refl) refl in
-      over_same a.partitions (λ p. listed_times y (cache_left a before rest x h parts st f p) 0 170) (λ p. listed_times y (with_cache st.caches x.thread (cache_left a before rest x h parts st f) x.thread p) 0 170)
+      over_same a.partitions (λ p. listed_times y (cache_left a before rest x h parts st f p) 0 170)
+      (λ p. listed_times y (with_cache st.caches x.thread (cache_left a before rest x h parts st f) x.thread p) 0 170)
       (λ p. ap (λ (c : Cache). listed_times y (c p) 0 170) same)
 
   -- what a step that returns a slot leaves is its free title
-  pub left_free : (m : Mark) (p : Step) (t u : Title) → mark_of x ≡ Some m → m.step ≡ Some p → IsReturning p m.found → MadeIn a t → name_of t ≡ m.slot → count_word s.words t ≡ st.word (name_of t) → MadeIn a u →
+  pub left_free : (m : Mark) (p : Step) (t u : Title) → mark_of x ≡ Some m → m.step ≡ Some p → IsReturning p m.found → MadeIn a t
+      → name_of t ≡ m.slot → count_word s.words t ≡ st.word (name_of t) → MadeIn a u →
       held_in (left_by p s t) (FreeTitle u) ≡ once (name_of u) m.slot
   left_free m p t u is step returning made name word other =
       let found = found_word a before rest x h parts st f m is in
@@ -85,7 +87,8 @@ module _ (a : Parts) (before rest : List Played) (x : Played) (h : IsFiled a) (p
 
   -- an allocation from the front of a list
   pub made_plays : (reg part size usable : ℕ) (seen : Seen) → x.op ≡ ops.Alloc reg part size → x.answer ≡ answers.Made seen usable → reg < 64 → part < a.partitions → HoldsNone (st.regs x.thread reg) →
-      Becomes (regs_left a before rest x h parts st f) (with (st.regs x.thread) reg (Own seen.slot)) → MadeRow a.roots x seen (st.caches x.thread) (cache_left a before rest x h parts st f) → NoActs a.roots x.line →
+      Becomes (regs_left a before rest x h parts st f) (with (st.regs x.thread) reg (Own seen.slot))
+      → MadeRow a.roots x seen (st.caches x.thread) (cache_left a before rest x h parts st f) → NoActs a.roots x.line →
       Outcome a before rest x h parts st f s shown
   made_plays reg part size usable seen op answer reg_few part_few none becomes row no_acts =
       let m : Mark = mark_at x.line seen (Some Issue) in
@@ -100,8 +103,13 @@ module _ (a : Parts) (before rest : List Played) (x : Played) (h : IsFiled a) (p
       let content = with_slot st.content seen.slot 0 in
       let kept : (y : SlotName) → (y ≡ m.slot → ⊥) → content y ≡ st.content y = λ y ne. at_other_slot st.content seen.slot 0 y ne in
       let fall = lists_fall a.partitions a.roots x seen (st.caches x.thread) (cache_left a before rest x h parts st f)
-      (λ p class (r, n, asks, class_of). (let both : ops.Alloc reg part size ≡ ops.Alloc r p n = sym op ∙ asks in let e : part ≡ p = cc in (subst (λ z. z < a.partitions) e part_few, real_in x.rules.version class (class_of.from, class_of.real)))) no_acts row in
-      let set = set_named a before rest x h parts st f s shown t m Issue reg Own content name (set_by a before rest x h parts st f m Issue reg (Own m.slot) content is refl reg_few other becomes kept) in
+      (λ p class (r, n, asks, class_of). (let both : ops.Alloc reg part size ≡ ops.Alloc r p n = sym op
+      ∙ asks in let e : part ≡ p = cc in (
+        subst (λ z. z < a.partitions) e part_few,
+        real_in x.rules.version class (class_of.from, class_of.real),
+      ))) no_acts row in
+      let set = set_named a before rest x h parts st f s shown t m Issue reg Own content name
+      (set_by a before rest x h parts st f m Issue reg (Own m.slot) content is refl reg_few other becomes kept) in
       let can = subst (λ y. CanStep Issue (st.word y)) (sym name) (can_step a before rest x h parts st f m Issue is refl) in
       let now : content seen.slot ≡ 0 = at_slot st.content seen.slot 0 in
       let down = below a before rest x h parts st f s shown in
@@ -110,7 +118,9 @@ module _ (a : Parts) (before rest : List Played) (x : Played) (h : IsFiled a) (p
       let one : once (name_of t) seen.slot ≡ 1 = rw (same_slot_yes (name_of t) seen.slot name) refl in
       let free : Holds s (suc x.thread) (FreeTitle t) = omega arith in
       let names = names_here a before rest x h parts st f s shown in
-      let turned = issue_stands names a.partitions (a.threads + 1) (bytes_here a before rest x h parts st f s shown) st s shown (made_unique a h) (next_st a before rest x h parts st f s shown content) x.thread reg t down made none can set (ap content name ∙ now) free
+      let turned = issue_stands names a.partitions (a.threads + 1) (bytes_here a before rest x h parts st f s shown) st s shown
+      (made_unique a h) (next_st a before rest x h parts st f s shown content) x.thread reg t down made none can set
+      (ap content name ∙ now) free
       (λ u m2.
       let less = fall (name_of u) in
       let after = lists_here content (name_of u) in
@@ -120,7 +130,9 @@ module _ (a : Parts) (before rest : List Played) (x : Played) (h : IsFiled a) (p
       let found = found_word a before rest x h parts st f m is in
       let P : ℕ → Type 0 = λ w. IsContent a.ps seen.slot (number_of w + 1) (content seen.slot) in
       let Q : ℕ → Type 0 = λ v. IsContent a.ps seen.slot (number_of seen.found.0 + 1) v in
-      turned_plays a before rest x h parts st f s shown m Issue t (FreePiece t ∷ []) (OwnPiece t Clean ∷ []) (λ k. stores (content_count t) 0 k t 0) content is refl (rw op refl) made name (shown.words t held) (λ k. stores_beside (content_count t) 0 k t 0) no_acts
+      turned_plays a before rest x h parts st f s shown m Issue t (FreePiece t ∷ []) (OwnPiece t Clean ∷ [])
+      (λ k. stores (content_count t) 0 k t 0) content is refl (rw op refl) made name (shown.words t held)
+      (λ k. stores_beside (content_count t) 0 k t 0) no_acts
       (right_after a before rest x h parts st f m Issue content is refl kept
       (λ held2. subst P found (subst Q (sym now) (content_made a h x seen usable here answer))))
       turned

@@ -153,7 +153,8 @@ module _ (a : Parts) (before rest : List Played) (x : Played) (h : IsFiled a) (p
   pub there_given : (u : Title) → ThereIn (root_at a x.line) u → ThereIn (root_at a (x.line + 1)) u
   there_given u (p, there) = (p, there_stays (acts_of a.roots x.line p) (root_at a x.line p) (root_at a (x.line + 1) p) (line_gives_back p) u there)
 
-  pub kept_given : (u : Title) → KeptIn (root_at a (x.line + 1)) u → KeptIn (root_at a x.line) u ⊎ ((p : ℕ) × IsMade (root_at a (x.line + 1) p) u × (0 < back_in (name_of u) (acts_of a.roots x.line p)))
+  pub kept_given : (u : Title) → KeptIn (root_at a (x.line + 1)) u → KeptIn (root_at a x.line) u
+      ⊎ ((p : ℕ) × IsMade (root_at a (x.line + 1) p) u × (0 < back_in (name_of u) (acts_of a.roots x.line p)))
   kept_given u (p, made, away) = elim (was_kept (acts_of a.roots x.line p) (root_at a x.line p) (root_at a (x.line + 1) p) (line_gives_back p) u made away) [
     | inl old ↦ inl (p, old.0, old.1)
     | inr back ↦ inr (p, made, back)

@@ -25,7 +25,8 @@ use Rattle.pa_heap_effects.proofs.Unmapping.{least_rises}
 
 -- ---- entries after entries
 
-made_stays : (pools : List PoolEntry) (es : List RootEntry) (n : ℕ) (r : Root) (t : Title) → IsGood n r → RootReplays pools es r → RiseFrom n (all_asked es) → IsMade r t → IsMade (root_replayed pools es r) t
+made_stays : (pools : List PoolEntry) (es : List RootEntry) (n : ℕ) (r : Root) (t : Title) → IsGood n r → RootReplays pools es r
+    → RiseFrom n (all_asked es) → IsMade r t → IsMade (root_replayed pools es r) t
 made_stays pools [] n r t good fits rise made = made
 made_stays pools (e ∷ es) n r t good fits rise made =
     let (asks, rest) = rise_parts n (asked_by e.act) (all_asked es) rise in
@@ -45,7 +46,8 @@ least_up : (b n : ℕ) (o : Option ℕ) → AsksFrom n o → b < n → b < least
 least_up b n None asks less = less
 least_up b n (Some j) asks less = omega arith
 
-no_super_stays : (pools : List PoolEntry) (es : List RootEntry) (b n : ℕ) (r : Root) → IsGood n r → RootReplays pools es r → RiseFrom n (all_asked es) → HasNoSuper b n r → (at : SuperPage) → Contains (root_replayed pools es r).supers at → at.born ≡ b → ⊥
+no_super_stays : (pools : List PoolEntry) (es : List RootEntry) (b n : ℕ) (r : Root) → IsGood n r → RootReplays pools es r
+    → RiseFrom n (all_asked es) → HasNoSuper b n r → (at : SuperPage) → Contains (root_replayed pools es r).supers at → at.born ≡ b → ⊥
 no_super_stays pools [] b n r good fits rise none at member same = none.1 at member same
 no_super_stays pools (e ∷ es) b n r good fits rise none at member same =
     let (asks, rest) = rise_parts n (asked_by e.act) (all_asked es) rise in
@@ -63,7 +65,8 @@ module _ (pools : List PoolEntry) (front more : List RootEntry) (h : IsJournal p
       subst (λ (r : Root). IsMade r t) (sym (root_parts pools front more new_root))
       (made_stays pools more (least_after_all 0 front) (root_replayed pools front new_root) t good_front (replays_rest pools front more new_root h.replays) (rise_rest 0 front more h.rise) made)
 
-  no_super_grown : (b : ℕ) → HasNoSuper b (least_after_all 0 front) (root_replayed pools front new_root) → (at : SuperPage) → Contains (root_replayed pools (front ++ more) new_root).supers at → at.born ≡ b → ⊥
+  no_super_grown : (b : ℕ) → HasNoSuper b (least_after_all 0 front) (root_replayed pools front new_root) → (at : SuperPage)
+      → Contains (root_replayed pools (front ++ more) new_root).supers at → at.born ≡ b → ⊥
   no_super_grown b none at member same =
       no_super_stays pools more b (least_after_all 0 front) (root_replayed pools front new_root) good_front (replays_rest pools front more new_root h.replays) (rise_rest 0 front more h.rise) none at
       (subst (λ (r : Root). Contains r.supers at) (root_parts pools front more new_root) member) same

@@ -74,7 +74,8 @@ module _ (a : Parts) (before rest : List Played) (x : Played) (h : IsFiled a) (p
     pub beside : AreBeside (suc x.thread) events
     pub now : IsShown names_next (a.threads + 1) (2097152 * a.supers) (ledger_of a.partitions (listing list)) mid
 
-  pub issue_plays : (reg part size usable : ℕ) (seen : Seen) (list : Cache) (mid : State) → x.op ≡ ops.Alloc reg part size → x.answer ≡ answers.Made seen usable → reg < 64 → HoldsNone (st.regs x.thread reg) →
+  pub issue_plays : (reg part size usable : ℕ) (seen : Seen) (list : Cache) (mid : State) → x.op ≡ ops.Alloc reg part size
+      → x.answer ≡ answers.Made seen usable → reg < 64 → HoldsNone (st.regs x.thread reg) →
       Becomes (regs_left a before rest x h parts st f) (with (st.regs x.thread) reg (Own seen.slot)) →
       ((y : SlotName) → over a.partitions (λ p. listed_times y (cache_left a before rest x h parts st f p) 0 170) + once y seen.slot ≤ over a.partitions (λ p. listed_times y (list p) 0 170)) →
       IsBrought list mid → Outcome a before rest x h parts st f s shown
@@ -91,7 +92,8 @@ module _ (a : Parts) (before rest : List Played) (x : Played) (h : IsFiled a) (p
       let content = with_slot st.content seen.slot 0 in
       let kept : (y : SlotName) → (y ≡ m.slot → ⊥) → content y ≡ st.content y = λ y ne. at_other_slot st.content seen.slot 0 y ne in
       let st2 = next_st a before rest x h parts st f s shown content in
-      let first = set_named a before rest x h parts st f s shown t m Issue reg Own content name (set_by a before rest x h parts st f m Issue reg (Own m.slot) content is refl reg_few other becomes kept) in
+      let first = set_named a before rest x h parts st f s shown t m Issue reg Own content name
+      (set_by a before rest x h parts st f m Issue reg (Own m.slot) content is refl reg_few other becomes kept) in
       let set : IsSet a.partitions (listing list) st2 x.thread reg (Own (name_of t)) (name_of t) (stepped Issue (st.word (name_of t))) = record {
         few = first.few;
         here = first.here;
@@ -110,7 +112,8 @@ module _ (a : Parts) (before rest : List Played) (x : Played) (h : IsFiled a) (p
       let lists = lists_mine list (name_of t) in
       let one : once (name_of t) seen.slot ≡ 1 = rw (same_slot_yes (name_of t) seen.slot name) refl in
       let free : Holds mid (suc x.thread) (FreeTitle t) = omega arith in
-      let turned = issue_stands names_next a.partitions (a.threads + 1) (2097152 * a.supers) (listing list) mid brought.now (made_unique a h) st2 x.thread reg t down made none can set (ap content name ∙ now) free
+      let turned = issue_stands names_next a.partitions (a.threads + 1) (2097152 * a.supers) (listing list) mid brought.now
+      (made_unique a h) st2 x.thread reg t down made none can set (ap content name ∙ now) free
       (λ u m2.
       let less = fall (name_of u) in
       let after = lists_here a before rest x h parts st f s shown content (name_of u) in
@@ -128,7 +131,9 @@ module _ (a : Parts) (before rest : List Played) (x : Played) (h : IsFiled a) (p
       × IsShown names_next (a.threads + 1) (2097152 * a.supers) (ledger_of a.partitions st2) after) in
       let (after, done, last) = subst T e turned in (
         after,
-        play_step (MadeIn a) x s mid after after m t Issue (FreePiece t ∷ []) (OwnPiece t Clean ∷ []) brought.events (stores (content_count t) 0 (x.thread + 1) t 0) [] is refl (rw op refl) shown.good made name
-            (brought.now.words t held ∙ (ap st.word name ∙ sym found)) brought.run done (run_start after last.good) (subst (λ k. AreBeside k brought.events) e brought.beside) (stores_beside (content_count t) 0 (x.thread + 1) t 0) tt,
+        play_step (MadeIn a) x s mid after after m t Issue (FreePiece t ∷ []) (OwnPiece t Clean ∷ []) brought.events
+            (stores (content_count t) 0 (x.thread + 1) t 0) [] is refl (rw op refl) shown.good made name
+            (brought.now.words t held ∙ (ap st.word name ∙ sym found)) brought.run done (run_start after last.good)
+            (subst (λ k. AreBeside k brought.events) e brought.beside) (stores_beside (content_count t) 0 (x.thread + 1) t 0) tt,
         record { st = st2; front = front_next a before rest x h parts st f content right; shown = last },
       )

@@ -71,7 +71,8 @@ less_lists partitions p class y cache after xs less real inside becomes falls =
     omega arith
 
 -- what a slot that came back makes of the lists
-pub lists_grow : (partitions : ℕ) (roots : Journals) (x : Played) (slot : Numbered) (cache after : Cache) (y : SlotName) → ((p class : ℕ) → IsOfClass roots slot.slot p class → class < 170) → NoActs roots x.line → ReturnRow roots x slot cache after →
+pub lists_grow : (partitions : ℕ) (roots : Journals) (x : Played) (slot : Numbered) (cache after : Cache) (y : SlotName)
+    → ((p class : ℕ) → IsOfClass roots slot.slot p class → class < 170) → NoActs roots x.line → ReturnRow roots x slot cache after →
     over partitions (λ q. listed_times y (after q) 0 170) ≤ over partitions (λ q. listed_times y (cache q) 0 170) + once y slot.slot
 lists_grow partitions roots x slot cache after y real none (inl (p, class, of, only, becomes)) =
     let list = slot ∷ cache p class in
@@ -83,7 +84,8 @@ lists_grow partitions roots x slot cache after y real none (inl (p, class, of, o
 lists_grow partitions roots x slot cache after y real none (inr (p, asked, number, direct, only, becomes)) = absurd (no_only roots x.line p _ [] none only)
 
 -- if a slot was made from the front of a list, the thread's lists have it once less, and no other slot more often
-pub lists_fall : (partitions : ℕ) (roots : Journals) (x : Played) (seen : Seen) (cache after : Cache) → ((p class : ℕ) → AsksForClass x p class → (p < partitions) × (class < 170)) → NoActs roots x.line → MadeRow roots x seen cache after →
+pub lists_fall : (partitions : ℕ) (roots : Journals) (x : Played) (seen : Seen) (cache after : Cache)
+    → ((p class : ℕ) → AsksForClass x p class → (p < partitions) × (class < 170)) → NoActs roots x.line → MadeRow roots x seen cache after →
     (y : SlotName) → over partitions (λ q. listed_times y (after q) 0 170) + once y seen.slot ≤ over partitions (λ q. listed_times y (cache q) 0 170)
 lists_fall partitions roots x seen cache after real none (inl (p, class, xs, rest, asks, filled, front, becomes)) y =
     let (inside, class_few) = real p class asks in

@@ -19,7 +19,8 @@ abbrev pub with_titles : Titles → List Title → Titles
 with_titles names ts = record { Made = names.Made; There = λ u. names.There u ⊎ Contains ts u; Kept = kept_with names.Kept ts }
 
 -- more titles may be there, and fewer asked of actor 0
-pub renamed : (names next : Titles) (actors bytes : ℕ) (b : Ledger) (s : State) → ((u : Title) → next.Made u → names.Made u) → ((u : Title) → names.There u → next.There u) → ((u : Title) → next.Kept u → names.Kept u) →
+pub renamed : (names next : Titles) (actors bytes : ℕ) (b : Ledger) (s : State) → ((u : Title) → next.Made u → names.Made u)
+    → ((u : Title) → names.There u → next.There u) → ((u : Title) → next.Kept u → names.Kept u) →
     IsShown names actors bytes b s → IsShown next actors bytes b s
 renamed names next actors bytes b s made there kept h = record {
   good = h.good;

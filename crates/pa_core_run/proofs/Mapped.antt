@@ -121,7 +121,9 @@ module _ (a : Parts) (before rest : List Played) (x : Played) (h : IsFiled a) (p
 
   there_at : (q : ℕ) (u : Title) → IsThere (root_at a x.line q) u → IsThere (root_at a (x.line + 1) q) u
   there_at q u there = elim (cases_eq q p) [
-    | inl e ↦ subst (λ z. IsThere (root_at a (x.line + 1) z) u) (sym e) (subst (λ (r : Root). IsThere r u) (sym next_is) (there_stays old_root map_now u (subst (λ z. IsThere (root_at a x.line z) u) e there)))
+    | inl e ↦ subst (λ z. IsThere (root_at a (x.line + 1) z) u) (sym e)
+        (subst (λ (r : Root). IsThere r u) (sym next_is) (there_stays old_root map_now u
+        (subst (λ z. IsThere (root_at a x.line z) u) e there)))
     | inr ne ↦ subst (λ (r : Root). IsThere r u) (sym (root_other a before rest x h parts st f p act only q ne)) there
   ]
 
@@ -168,11 +170,13 @@ module _ (a : Parts) (before rest : List Played) (x : Played) (h : IsFiled a) (p
   abbrev pub list_mapped : Cache
   list_mapped = with_list (st.caches x.thread) p 0 (record { slot = slot; number = 0 } ∷ st.caches x.thread p 0)
 
-  lists_mapped : (y : SlotName) → in_lists a.partitions (listing a before rest x h parts st f s shown list_mapped) y (suc x.thread) ≤ in_lists a.partitions st y (suc x.thread) + named_in y (map_now ∷ [])
+  lists_mapped : (y : SlotName) → in_lists a.partitions (listing a before rest x h parts st f s shown list_mapped) y (suc x.thread) ≤
+      in_lists a.partitions st y (suc x.thread) + named_in y (map_now ∷ [])
   lists_mapped y =
       let mine = lists_mine a before rest x h parts st f s shown list_mapped y in
       let one = times_cons y slot (names (st.caches x.thread p 0)) in
-      let grown = over_lists a.partitions p 0 y (st.caches x.thread) list_mapped (record { slot = slot; number = 0 } ∷ st.caches x.thread p 0) (once y slot) (omega arith) (λ q c. refl) (omega arith) in
+      let grown = over_lists a.partitions p 0 y (st.caches x.thread) list_mapped
+      (record { slot = slot; number = 0 } ∷ st.caches x.thread p 0) (once y slot) (omega arith) (λ q c. refl) (omega arith) in
       let named : named_in y (map_now ∷ []) ≡ once y slot + 0 = refl in
       omega arith
 

@@ -42,7 +42,8 @@ maps_of_next pools (Give slots) n r t good asks fits among = inl (subst (λ ts. 
 maps_of_next pools (Unmap asked slot) n r t good asks fits among = inl (without_map_in slot.slot r.maps t among)
 maps_of_next pools Purge n r t good asks fits among = inl (subst (λ ts. Contains ts t) (times_is (empties r) r good.sound).kept.maps among)
 
-maps_of_all : (pools : List PoolEntry) (es : List RootEntry) (n : ℕ) (r : Root) (t : Title) → IsGood n r → RootReplays pools es r → RiseFrom n (all_asked es) → Contains (root_replayed pools es r).maps t →
+maps_of_all : (pools : List PoolEntry) (es : List RootEntry) (n : ℕ) (r : Root) (t : Title) → IsGood n r → RootReplays pools es r
+    → RiseFrom n (all_asked es) → Contains (root_replayed pools es r).maps t →
     Contains r.maps t ⊎ IsMapBy es t
 maps_of_all pools [] n r t good fits rise among = inl among
 maps_of_all pools (e ∷ es) n r t good fits rise among =

@@ -104,7 +104,9 @@ module _ (a : Parts) (before rest : List Played) (x : Played) (h : IsFiled a) (p
   roots_left none = λ i p. each p i
     where
       no_entry : (p : ℕ) (e : RootEntry) → Contains (a.roots p) e → e.line ≡ x.line → ⊥
-      no_entry p e member same = not_in_none (e.act) (subst (λ acts. Contains acts e.act) (none p) (map_in (λ (z : RootEntry). z.act) (filter (λ (z : RootEntry). z.line == x.line) (a.roots p)) e (on_in entry_line x.line (a.roots p) e member same)))
+      no_entry p e member same = not_in_none (e.act) (subst (λ acts. Contains acts e.act) (none p)
+          (map_in (λ (z : RootEntry). z.act) (filter (λ (z : RootEntry). z.line == x.line) (a.roots p)) e
+          (on_in entry_line x.line (a.roots p) e member same)))
 
       around : (l : ℕ) → (l ≡ x.line → ⊥) → (l < x.line) ⊎ (x.line + 1 ≤ l)
       around l apart = elim (cases_lt l x.line) [ inl less ↦ inl less | inr more ↦ inr (omega arith) ]
@@ -131,7 +133,8 @@ module _ (a : Parts) (before rest : List Played) (x : Played) (h : IsFiled a) (p
       ]
 
   -- the lists of the other threads, whatever the thread's own are
-  pub lists_beside : (list : Cache) (j : ℕ) (y : SlotName) → (j ≡ x.thread → ⊥) → over a.partitions (λ p. listed_times y (with_cache st.caches x.thread list j p) 0 170) ≡ in_lists a.partitions st y (suc j)
+  pub lists_beside : (list : Cache) (j : ℕ) (y : SlotName) → (j ≡ x.thread → ⊥)
+      → over a.partitions (λ p. listed_times y (with_cache st.caches x.thread list j p) 0 170) ≡ in_lists a.partitions st y (suc j)
   lists_beside list j y ne =
       let same : with_cache st.caches x.thread list j ≡ st.caches j = rw (ne_eqb j x.thread ne) refl in
       over_same a.partitions (λ p. listed_times y (st.caches j p) 0 170) (λ p. listed_times y (with_cache st.caches x.thread list j p) 0 170)
@@ -185,7 +188,9 @@ module _ (a : Parts) (before rest : List Played) (x : Played) (h : IsFiled a) (p
     | inl e ↦
         let there : with_cache st.caches x.thread cache_left j ≡ cache_left = rw (eq-eqb j x.thread e) refl in
         over_same a.partitions (λ p. listed_times y (st.caches j p) 0 170) (λ p. listed_times y (with_cache st.caches x.thread cache_left j p) 0 170)
-        (λ p. ap (λ (c : Cache). listed_times y (c p) 0 170) there ∙ (listed_agree y (cache_left p) (st.caches x.thread p) 0 170 (λ c low. same p c) ∙ ap (λ i. listed_times y (st.caches i p) 0 170) (sym e)))
+        (λ p. ap (λ (c : Cache). listed_times y (c p) 0 170) there
+        ∙ (listed_agree y (cache_left p) (st.caches x.thread p) 0 170 (λ c low. same p c)
+        ∙ ap (λ i. listed_times y (st.caches i p) 0 170) (sym e)))
     | inr ne ↦ lists_left content j y ne
   ]
 

@@ -81,7 +81,8 @@ set_paid Made partitions st next k reg new t word lost gained s own point free =
         let p = own u m in
         let l = of_actor_here (suc k) lost (OwnOf u) in
         let g = of_actor_here (suc k) gained (OwnOf u) in
-        subst (λ i. in_registers (owns (name_of u)) next i + held_in (of_actor (suc k) lost i) (OwnOf u) ≤ in_registers (owns (name_of u)) st i + held_in (of_actor (suc k) gained i) (OwnOf u)) (sym e) (omega arith)
+        subst (λ i. in_registers (owns (name_of u)) next i + held_in (of_actor (suc k) lost i) (OwnOf u) ≤ in_registers (owns (name_of u))
+        st i + held_in (of_actor (suc k) gained i) (OwnOf u)) (sym e) (omega arith)
     | inr ne ↦
         let a = registers_apart partitions st next k reg new (name_of t) word (owns (name_of u)) s j ne in
         let l = of_actor_apart (suc k) j lost (OwnOf u) ne in
@@ -93,7 +94,8 @@ set_paid Made partitions st next k reg new t word lost gained s own point free =
         let p = point u m in
         let l = of_actor_here (suc k) lost (RefOf u) in
         let g = of_actor_here (suc k) gained (RefOf u) in
-        subst (λ i. in_registers (points (name_of u)) next i + held_in (of_actor (suc k) lost i) (RefOf u) ≤ in_registers (points (name_of u)) st i + held_in (of_actor (suc k) gained i) (RefOf u)) (sym e) (omega arith)
+        subst (λ i. in_registers (points (name_of u)) next i + held_in (of_actor (suc k) lost i) (RefOf u) ≤ in_registers
+        (points (name_of u)) st i + held_in (of_actor (suc k) gained i) (RefOf u)) (sym e) (omega arith)
     | inr ne ↦
         let a = registers_apart partitions st next k reg new (name_of t) word (points (name_of u)) s j ne in
         let l = of_actor_apart (suc k) j lost (RefOf u) ne in
@@ -104,7 +106,8 @@ set_paid Made partitions st next k reg new t word lost gained s own point free =
         let p = free u m in
         let l = of_actor_here (suc k) lost (FreeTitle u) in
         let g = of_actor_here (suc k) gained (FreeTitle u) in
-        subst (λ i. in_lists partitions next (name_of u) i + held_in (of_actor (suc k) lost i) (FreeTitle u) ≤ in_lists partitions st (name_of u) i + held_in (of_actor (suc k) gained i) (FreeTitle u)) (sym e) (omega arith)
+        subst (λ i. in_lists partitions next (name_of u) i + held_in (of_actor (suc k) lost i) (FreeTitle u) ≤ in_lists partitions st
+        (name_of u) i + held_in (of_actor (suc k) gained i) (FreeTitle u)) (sym e) (omega arith)
     | inr ne ↦
         let a = lists_apart j u ne in
         let l = of_actor_apart (suc k) j lost (FreeTitle u) ne in

@@ -36,7 +36,8 @@ use Rattle.pa_core_run.proofs.Given.{there_given}
 use Rattle.pa_core_run.proofs.Purging.{purged_row, purge_in, giving, purged_titled, purged_titles, kept_next, lists_fall}
 use Rattle.pa_slot_effects.proofs.Handles.{over_same}
 
-module _ (a : Parts) (before rest : List Played) (x : Played) (h : IsFiled a) (some : 1 ≤ a.partitions) (parts : a.ps ≡ before ++ x ∷ rest) (st : Standing) (f : IsFrontOf a x.line before (x ∷ rest) st) (s : State)
+module _ (a : Parts) (before rest : List Played) (x : Played) (h : IsFiled a) (some : 1 ≤ a.partitions)
+    (parts : a.ps ≡ before ++ x ∷ rest) (st : Standing) (f : IsFrontOf a x.line before (x ∷ rest) st) (s : State)
     (shown : IsShown (titles_in a (root_at a x.line)) (a.threads + 1) (2097152 * a.supers) (ledger_of a.partitions st) s) (slots : ℕ) (answer : x.answer ≡ answers.Purged slots) where
   -- the op purges, since its line has an entry that does
   purges : x.op ≡ ops.Purge
@@ -80,12 +81,14 @@ module _ (a : Parts) (before rest : List Played) (x : Played) (h : IsFiled a) (s
         record {
           st = next;
           front = front_next a before rest x h parts st f st.content (right_same a before rest x h parts st f words);
-          shown = renamed (keeping (titles_in a (root_at a x.line)) (kept_with Kept ts)) (names_next a before rest x h parts st f s shown) (a.threads + 1) (2097152 * a.supers) (ledger_of a.partitions next) after (λ u made. made)
+          shown = renamed (keeping (titles_in a (root_at a x.line)) (kept_with Kept ts)) (names_next a before rest x h parts st f s shown)
+              (a.threads + 1) (2097152 * a.supers) (ledger_of a.partitions next) after (λ u made. made)
               (there_given a before rest x h parts st f (giving a before rest x h parts st f s shown slots answer)) (kept_next a before rest x h parts st f s shown slots answer) r.shown;
         },
       )
 
-pub purged_record_plays : (a : Parts) (before rest : List Played) (x : Played) (slots : ℕ) → IsFiled a → 1 ≤ a.partitions → a.ps ≡ before ++ x ∷ rest → x.answer ≡ answers.Purged slots → CanBePlayed a before x rest
+pub purged_record_plays : (a : Parts) (before rest : List Played) (x : Played) (slots : ℕ) → IsFiled a → 1 ≤ a.partitions
+    → a.ps ≡ before ++ x ∷ rest → x.answer ≡ answers.Purged slots → CanBePlayed a before x rest
 purged_record_plays a before rest x slots h some parts answer s shows = purge_plays a before rest x h some parts shows.st shows.front s shows.shown slots answer
 
 pub purged_records_play : PurgedRecordsArePlayed

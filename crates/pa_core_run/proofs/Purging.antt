@@ -128,7 +128,8 @@ module _ (a : Parts) (before rest : List Played) (x : Played) (h : IsFiled a) (p
   ]
 
   -- the thread's lists have lost these slots
-  pub lists_fall : (y : SlotName) → in_lists a.partitions (next_st a before rest x h parts st f s shown st.content) y (suc x.thread) + named_in y purged_titles ≤ in_lists a.partitions st y (suc x.thread)
+  pub lists_fall : (y : SlotName) → in_lists a.partitions (next_st a before rest x h parts st f s shown st.content) y (suc x.thread) +
+      named_in y purged_titles ≤ in_lists a.partitions st y (suc x.thread)
   lists_fall y =
       let left = lists_here a before rest x h parts st f s shown st.content y in
       let none = none_over y (cache_left a before rest x h parts st f) a.partitions purged_row.2 in

@@ -84,39 +84,48 @@ module _ (a : Parts) (before rest : List Played) (x : Played) (h : IsFiled a) (s
   cache_as answer is = subst (λ z. CacheRow a.partitions a.roots x z old_cache new_cache) is (cache_row a before rest x h parts st f)
 
   -- an answer that reports no slot
-  quiet : (answer : Answer) → x.answer ≡ answer → mark_of_answer x.line x.op answer ≡ None → SameLists new_cache old_cache → ((k r : ℕ) → x.op ≡ ops.Swap k r → ⊥) → Becomes new_regs (st.regs x.thread) → Plays_it
+  quiet : (answer : Answer) → x.answer ≡ answer → mark_of_answer x.line x.op answer ≡ None → SameLists new_cache old_cache
+      → ((k r : ℕ) → x.op ≡ ops.Swap k r → ⊥) → Becomes new_regs (st.regs x.thread) → Plays_it
   quiet answer is unmarked lists other becomes =
       none_plays a before rest x h parts st f s shown (ap (λ z. mark_of_answer x.line x.op z) is ∙ unmarked) becomes lists other (roots_left a before rest x h parts st f none)
 
   -- an answer that looked at the slot of a register
   looks : (answer : Answer) (seen : Seen) (reg : ℕ) → x.answer ≡ answer → mark_of_answer x.line x.op answer ≡ Some (mark_at x.line seen None) → reg < 64 →
-      (st.regs x.thread reg ≡ Own seen.slot) ⊎ (st.regs x.thread reg ≡ Ref seen.slot) → ((t : Title) → MadeIn a t → name_of t ≡ seen.slot → HasHandle s (x.thread + 1) t → HasRead s.words t (read_by x.op x.answer)) →
+      (st.regs x.thread reg ≡ Own seen.slot) ⊎ (st.regs x.thread reg ≡ Ref seen.slot)
+      → ((t : Title) → MadeIn a t → name_of t ≡ seen.slot → HasHandle s (x.thread + 1) t → HasRead s.words t (read_by x.op x.answer)) →
       SameLists new_cache old_cache → ((k r : ℕ) → x.op ≡ ops.Swap k r → ⊥) → Becomes new_regs (st.regs x.thread) → Plays_it
   looks answer seen reg is marked few names reads lists other becomes =
-      look_plays a before rest x h parts st f s shown (mark_at x.line seen None) reg (ap (λ z. mark_of_answer x.line x.op z) is ∙ marked) refl few names reads becomes lists other (roots_left a before rest x h parts st f none)
+      look_plays a before rest x h parts st f s shown (mark_at x.line seen None) reg (ap (λ z. mark_of_answer x.line x.op z) is ∙ marked)
+      refl few names reads becomes lists other (roots_left a before rest x h parts st f none)
 
   -- what an op other than a read reads
-  unread : (op : Op) → x.op ≡ op → ((answer : Answer) → read_by op answer ≡ None) → (t : Title) → MadeIn a t → (y : SlotName) → name_of t ≡ y → HasHandle s (x.thread + 1) t → HasRead s.words t (read_by x.op x.answer)
+  unread : (op : Op) → x.op ≡ op → ((answer : Answer) → read_by op answer ≡ None) → (t : Title) → MadeIn a t → (y : SlotName)
+      → name_of t ≡ y → HasHandle s (x.thread + 1) t → HasRead s.words t (read_by x.op x.answer)
   unread op is no_read t made y name handle = subst (λ o. HasRead s.words t o) (sym (ap (λ o. read_by o x.answer) is ∙ no_read x.answer)) tt
 
   -- ---- an allocation
 
-  request : (reg part size : ℕ) → x.op ≡ ops.Alloc reg part size → IsOpWithin a.partitions (ops.Alloc reg part size) → HoldsNone (st.regs x.thread reg) → RequestRow (facts_of a) (st.regs x.thread) reg size x.answer new_regs → Plays_it
+  request : (reg part size : ℕ) → x.op ≡ ops.Alloc reg part size → IsOpWithin a.partitions (ops.Alloc reg part size)
+      → HoldsNone (st.regs x.thread reg) → RequestRow (facts_of a) (st.regs x.thread) reg size x.answer new_regs → Plays_it
   request reg part size op within free (inl (large, is, becomes)) =
       quiet answers.TooLarge is refl (cache_as answers.TooLarge is).1 (λ k r e. (let both : ops.Alloc reg part size ≡ ops.Swap k r = sym op ∙ e in absurd cc)) becomes
   request reg part size op within free (inr (inl (fits, seen, is, becomes))) =
-      made_plays a before rest x h parts st f s shown reg part size (usable_of a.rules.version size) seen op is within.0 within.1 free becomes (cache_as (answers.Made seen (usable_of a.rules.version size)) is) none
+      made_plays a before rest x h parts st f s shown reg part size (usable_of a.rules.version size) seen op is within.0 within.1 free
+      becomes (cache_as (answers.Made seen (usable_of a.rules.version size)) is) none
   request reg part size op within free (inr (inr (fits, entry, is, becomes))) = absurd (elim (cache_as (answers.Full entry) is) [
     | inl (p, class, asked, asks, empty, only, same) ↦ none_some a.roots x.line p _ [] none only.0
     | inr (p, n, asked, asks, only, same) ↦ none_some a.roots x.line p _ [] none only.0
   ])
 
-  allocs : (r : Reg) (reg part size : ℕ) → x.op ≡ ops.Alloc reg part size → IsOpWithin a.partitions (ops.Alloc reg part size) → st.regs x.thread reg ≡ r → AllocRow r (facts_of a) (st.regs x.thread) reg size x.answer new_regs → Plays_it
+  allocs : (r : Reg) (reg part size : ℕ) → x.op ≡ ops.Alloc reg part size → IsOpWithin a.partitions (ops.Alloc reg part size)
+      → st.regs x.thread reg ≡ r → AllocRow r (facts_of a) (st.regs x.thread) reg size x.answer new_regs → Plays_it
   allocs Empty reg part size op within is row = request reg part size op within (subst HoldsNone (sym is) tt) row
   allocs Freed reg part size op within is row = request reg part size op within (subst HoldsNone (sym is) tt) row
   allocs Cleared reg part size op within is row = request reg part size op within (subst HoldsNone (sym is) tt) row
-  allocs (Own y) reg part size op within is (answer, becomes) = quiet answers.Filled answer refl (cache_as answers.Filled answer).1 (λ k r e. (let both : ops.Alloc reg part size ≡ ops.Swap k r = sym op ∙ e in absurd cc)) becomes
-  allocs (Ref y) reg part size op within is (answer, becomes) = quiet answers.Filled answer refl (cache_as answers.Filled answer).1 (λ k r e. (let both : ops.Alloc reg part size ≡ ops.Swap k r = sym op ∙ e in absurd cc)) becomes
+  allocs (Own y) reg part size op within is (answer, becomes) = quiet answers.Filled answer refl (cache_as answers.Filled answer).1
+      (λ k r e. (let both : ops.Alloc reg part size ≡ ops.Swap k r = sym op ∙ e in absurd cc)) becomes
+  allocs (Ref y) reg part size op within is (answer, becomes) = quiet answers.Filled answer refl (cache_as answers.Filled answer).1
+      (λ k r e. (let both : ops.Alloc reg part size ≡ ops.Swap k r = sym op ∙ e in absurd cc)) becomes
 
   -- ---- a copy
 
@@ -174,9 +183,13 @@ module _ (a : Parts) (before rest : List Played) (x : Played) (h : IsFiled a) (s
   frees Freed reg op few is (answer, becomes) = quiet (answers.SecondFree None) answer refl (cache_as (answers.SecondFree None) answer).1 (not_swap _ op (λ k r e. absurd cc)) becomes
   frees Cleared reg op few is (answer, becomes) = quiet (answers.StaleUse None) answer refl (cache_as (answers.StaleUse None) answer).1 (not_swap _ op (λ k r e. absurd cc)) becomes
   frees (Ref y) reg op few is (seen, slot, becomes, inl (bit, answer)) =
-      looks (answers.NotOwner seen) seen reg answer refl few (inr (is ∙ ap Ref (sym slot))) (λ t made name handle. unread _ op (λ z. refl) t made seen.slot name handle) (cache_as (answers.NotOwner seen) answer).1 (not_swap _ op (λ k r e. absurd cc)) becomes
+      looks (answers.NotOwner seen) seen reg answer refl few (inr (is ∙ ap Ref (sym slot)))
+      (λ t made name handle. unread _ op (λ z. refl) t made seen.slot name handle) (cache_as (answers.NotOwner seen) answer).1
+      (not_swap _ op (λ k r e. absurd cc)) becomes
   frees (Ref y) reg op few is (seen, slot, becomes, inr (bit, answer)) =
-      looks (answers.SecondFree (Some seen)) seen reg answer refl few (inr (is ∙ ap Ref (sym slot))) (λ t made name handle. unread _ op (λ z. refl) t made seen.slot name handle) (cache_as (answers.SecondFree (Some seen)) answer).1 (not_swap _ op (λ k r e. absurd cc)) becomes
+      looks (answers.SecondFree (Some seen)) seen reg answer refl few (inr (is ∙ ap Ref (sym slot)))
+      (λ t made name handle. unread _ op (λ z. refl) t made seen.slot name handle)
+      (cache_as (answers.SecondFree (Some seen)) answer).1 (not_swap _ op (λ k r e. absurd cc)) becomes
   frees (Own y) reg op few is (seen, slot, answer, becomes) =
       let row : DoneRow a.roots x (Some Free) seen old_cache new_cache = subst (λ o. DoneRow a.roots x o seen old_cache new_cache) (ap step_of op) (cache_as (answers.Done seen) answer) in
       let m : Mark = mark_at x.line seen (Some Free) in
@@ -194,11 +207,17 @@ module _ (a : Parts) (before rest : List Played) (x : Played) (h : IsFiled a) (s
   writes Freed reg value op few is (answer, becomes) = quiet (answers.StaleUse None) answer refl (cache_as (answers.StaleUse None) answer).1 (not_swap _ op (λ k r e. absurd cc)) becomes
   writes Cleared reg value op few is (answer, becomes) = quiet (answers.StaleUse None) answer refl (cache_as (answers.StaleUse None) answer).1 (not_swap _ op (λ k r e. absurd cc)) becomes
   writes (Ref y) reg value op few is (seen, slot, becomes, inl (bit, answer)) =
-      looks (answers.NotOwner seen) seen reg answer refl few (inr (is ∙ ap Ref (sym slot))) (λ t made name handle. unread _ op (λ z. refl) t made seen.slot name handle) (cache_as (answers.NotOwner seen) answer).1 (not_swap _ op (λ k r e. absurd cc)) becomes
+      looks (answers.NotOwner seen) seen reg answer refl few (inr (is ∙ ap Ref (sym slot)))
+      (λ t made name handle. unread _ op (λ z. refl) t made seen.slot name handle) (cache_as (answers.NotOwner seen) answer).1
+      (not_swap _ op (λ k r e. absurd cc)) becomes
   writes (Ref y) reg value op few is (seen, slot, becomes, inr (bit, answer)) =
-      looks (answers.StaleUse (Some seen)) seen reg answer refl few (inr (is ∙ ap Ref (sym slot))) (λ t made name handle. unread _ op (λ z. refl) t made seen.slot name handle) (cache_as (answers.StaleUse (Some seen)) answer).1 (not_swap _ op (λ k r e. absurd cc)) becomes
+      looks (answers.StaleUse (Some seen)) seen reg answer refl few (inr (is ∙ ap Ref (sym slot)))
+      (λ t made name handle. unread _ op (λ z. refl) t made seen.slot name handle) (cache_as (answers.StaleUse (Some seen)) answer).1
+      (not_swap _ op (λ k r e. absurd cc)) becomes
   writes (Own y) reg value op few is (seen, slot, becomes, inl (shared, answer)) =
-      looks (answers.Shared seen) seen reg answer refl few (inl (is ∙ ap Own (sym slot))) (λ t made name handle. unread _ op (λ z. refl) t made seen.slot name handle) (cache_as (answers.Shared seen) answer).1 (not_swap _ op (λ k r e. absurd cc)) becomes
+      looks (answers.Shared seen) seen reg answer refl few (inl (is ∙ ap Own (sym slot)))
+      (λ t made name handle. unread _ op (λ z. refl) t made seen.slot name handle) (cache_as (answers.Shared seen) answer).1
+      (not_swap _ op (λ k r e. absurd cc)) becomes
   writes (Own y) reg value op few is (seen, slot, becomes, inr (alone, answer)) =
       let row : DoneRow a.roots x (Some Write) seen old_cache new_cache = subst (λ o. DoneRow a.roots x o seen old_cache new_cache) (ap step_of op) (cache_as (answers.Done seen) answer) in
       elim row [
@@ -209,7 +228,8 @@ module _ (a : Parts) (before rest : List Played) (x : Played) (h : IsFiled a) (s
   -- ---- a read
 
   -- a place inside the usable bytes is a content word
-  inside_of : (y : SlotName) (place : ℕ) (reg : ℕ) (t : Title) → slot_in (st.regs x.thread reg) ≡ Some y → MadeIn a t → name_of t ≡ y → HasHandle s (x.thread + 1) t → 8 * place < usable_in a.ps y → place < content_count t
+  inside_of : (y : SlotName) (place : ℕ) (reg : ℕ) (t : Title) → slot_in (st.regs x.thread reg) ≡ Some y → MadeIn a t → name_of t ≡ y
+      → HasHandle s (x.thread + 1) t → 8 * place < usable_in a.ps y → place < content_count t
   inside_of y place reg t names made name handle inside =
       let (q, seen, usable, among_it, is, slot) = (holds_made a before (x ∷ rest) st.regs h parts f.registers).registers x.thread reg y names in
       let (r, found, member, made_it, at) = usable_made a.ps y (q, seen, usable, in_front before (x ∷ rest) a.ps q parts among_it, is, slot) in
@@ -223,14 +243,16 @@ module _ (a : Parts) (before rest : List Played) (x : Played) (h : IsFiled a) (s
   word_there seen t marked name handle =
       shown.words t (handle_held s (x.thread + 1) t handle) ∙ (ap st.word name ∙ sym (found_word a before rest x h parts st f (mark_at x.line seen None) marked))
 
-  value_read : (reg place value : ℕ) (seen : Seen) (y : SlotName) → x.op ≡ ops.Read reg place → x.answer ≡ answers.Value seen value → seen.slot ≡ y → slot_in (st.regs x.thread reg) ≡ Some y → 8 * place < usable_in a.ps y → held_of seen.found.0 ≡ 1 →
+  value_read : (reg place value : ℕ) (seen : Seen) (y : SlotName) → x.op ≡ ops.Read reg place → x.answer ≡ answers.Value seen value
+      → seen.slot ≡ y → slot_in (st.regs x.thread reg) ≡ Some y → 8 * place < usable_in a.ps y → held_of seen.found.0 ≡ 1 →
       (t : Title) → MadeIn a t → name_of t ≡ seen.slot → HasHandle s (x.thread + 1) t → HasRead s.words t (read_by x.op x.answer)
   value_read reg place value seen y op answer slot names inside bit t made name handle =
       let marked : mark_of x ≡ Some (mark_at x.line seen None) = ap (λ z. mark_of_answer x.line x.op z) answer in
       let word = word_there seen t marked name handle in
       let is : read_by x.op x.answer ≡ Some (place, value) = ap (λ o. read_by o x.answer) op ∙ ap (λ z. read_by (ops.Read reg place) z) answer in
       let few = inside_of y place reg t names made (name ∙ slot) handle inside in
-      let content = held_content (titles_in a (root_at a x.line)) (a.threads + 1) (2097152 * a.supers) (ledger_of a.partitions st) s shown t place (handle_held s (x.thread + 1) t handle) (ap held_of word ∙ bit) few in
+      let content = held_content (titles_in a (root_at a x.line)) (a.threads + 1) (2097152 * a.supers) (ledger_of a.partitions st) s shown
+      t place (handle_held s (x.thread + 1) t handle) (ap held_of word ∙ bit) few in
       let found = found_word a before rest x h parts st f (mark_at x.line seen None) marked in
       let exact : IsContent a.ps seen.slot (number_of seen.found.0) value = subst (λ z. IsReadExact a.ps z) answer (h.order.contents x (among a before rest x h parts st f)) in
       let P : ℕ → Type 0 = λ w. IsContent a.ps seen.slot (number_of w) (st.content seen.slot) in
@@ -238,7 +260,8 @@ module _ (a : Parts) (before rest : List Played) (x : Played) (h : IsFiled a) (s
       let same = content_one a h seen.slot (number_of seen.found.0) (st.content seen.slot) value had exact in
       subst (λ o. HasRead s.words t o) (sym is) (few, content ∙ (ap st.content name ∙ same))
 
-  dangling_read : (reg place value : ℕ) (seen : Seen) (y : SlotName) → x.op ≡ ops.Read reg place → x.answer ≡ answers.Dangling seen value → seen.slot ≡ y → slot_in (st.regs x.thread reg) ≡ Some y → 8 * place < usable_in a.ps y → held_of seen.found.0 ≡ 0 →
+  dangling_read : (reg place value : ℕ) (seen : Seen) (y : SlotName) → x.op ≡ ops.Read reg place → x.answer ≡ answers.Dangling seen value
+      → seen.slot ≡ y → slot_in (st.regs x.thread reg) ≡ Some y → 8 * place < usable_in a.ps y → held_of seen.found.0 ≡ 0 →
       (t : Title) → MadeIn a t → name_of t ≡ seen.slot → HasHandle s (x.thread + 1) t → HasRead s.words t (read_by x.op x.answer)
   dangling_read reg place value seen y op answer slot names inside bit t made name handle =
       let marked : mark_of x ≡ Some (mark_at x.line seen None) = ap (λ z. mark_of_answer x.line x.op z) answer in
@@ -254,10 +277,14 @@ module _ (a : Parts) (before rest : List Played) (x : Played) (h : IsFiled a) (s
   read_from reg place y op few names slot_is (becomes, inl (past, answer)) = quiet answers.OutOfRange answer refl (cache_as answers.OutOfRange answer).1 (not_swap _ op (λ k r e. absurd cc)) becomes
   read_from reg place y op few names slot_is (becomes, inr (inside, seen, value, slot, inl (bit, answer))) =
       let P : SlotName → Type 0 = λ z. (st.regs x.thread reg ≡ Own z) ⊎ (st.regs x.thread reg ≡ Ref z) in
-      looks (answers.Value seen value) seen reg answer refl few (subst P (sym slot) names) (value_read reg place value seen y op answer slot slot_is inside bit) (cache_as (answers.Value seen value) answer).1 (not_swap _ op (λ k r e. absurd cc)) becomes
+      looks (answers.Value seen value) seen reg answer refl few (subst P (sym slot) names)
+      (value_read reg place value seen y op answer slot slot_is inside bit) (cache_as (answers.Value seen value) answer).1
+      (not_swap _ op (λ k r e. absurd cc)) becomes
   read_from reg place y op few names slot_is (becomes, inr (inside, seen, value, slot, inr (bit, answer))) =
       let P : SlotName → Type 0 = λ z. (st.regs x.thread reg ≡ Own z) ⊎ (st.regs x.thread reg ≡ Ref z) in
-      looks (answers.Dangling seen value) seen reg answer refl few (subst P (sym slot) names) (dangling_read reg place value seen y op answer slot slot_is inside bit) (cache_as (answers.Dangling seen value) answer).1 (not_swap _ op (λ k r e. absurd cc)) becomes
+      looks (answers.Dangling seen value) seen reg answer refl few (subst P (sym slot) names)
+      (dangling_read reg place value seen y op answer slot slot_is inside bit) (cache_as (answers.Dangling seen value) answer).1
+      (not_swap _ op (λ k r e. absurd cc)) becomes
 
   reads : (r : Reg) (reg place : ℕ) → x.op ≡ ops.Read reg place → reg < 64 → st.regs x.thread reg ≡ r → ReadRow r (facts_of a) (st.regs x.thread) place x.answer new_regs → Plays_it
   reads Empty reg place op few is (answer, becomes) = quiet answers.Nothing answer refl (cache_as answers.Nothing answer).1 (not_swap _ op (λ k r e. absurd cc)) becomes

@@ -33,7 +33,8 @@ use Rattle.pa_core_run.proofs.NextFronts.{after_record, among, regs_left, cache_
 use Rattle.pa_slot_effects.proofs.Handles.{over_same}
 
 -- a ledger with the same numbers, words and contents is shown too
-shown_alike : (names : Titles) (actors bytes : ℕ) (b next : Ledger) (s : State) → IsShown names actors bytes b s → ((k : ℕ) (x : SlotName) → next.own k x ≡ b.own k x) → ((k : ℕ) (x : SlotName) → next.ref k x ≡ b.ref k x) →
+shown_alike : (names : Titles) (actors bytes : ℕ) (b next : Ledger) (s : State) → IsShown names actors bytes b s
+    → ((k : ℕ) (x : SlotName) → next.own k x ≡ b.own k x) → ((k : ℕ) (x : SlotName) → next.ref k x ≡ b.ref k x) →
     ((k : ℕ) (x : SlotName) → next.free k x ≡ b.free k x) → ((x : SlotName) → next.word x ≡ b.word x) → ((x : SlotName) → next.content x ≡ b.content x) → IsShown names actors bytes next s
 shown_alike names actors bytes b next s h own ref free word content = record {
   good = h.good;
@@ -62,7 +63,9 @@ module _ (a : Parts) (before rest : List Played) (x : Played) (h : IsFiled a) (p
   -- if the roots stay
   pub shows_next : (content : SlotName → ℕ) (next : State) → root_at a (x.line + 1) ≡ root_at a x.line →
       ((y : SlotName) → held_of (word_after (before ++ x ∷ []) y) ≡ 1 → IsContent a.ps y (number_of (word_after (before ++ x ∷ []) y)) (content y)) →
-      IsShown (titles_in a (root_at a x.line)) (a.threads + 1) (2097152 * a.supers) (ledger_of a.partitions (after_record a before x st (regs_left a before rest x h parts st f) (cache_left a before rest x h parts st f) content)) next →
+      IsShown (titles_in a (root_at a x.line)) (a.threads + 1) (2097152 * a.supers)
+      (ledger_of a.partitions (after_record a before x st (regs_left a before rest x h parts st f)
+      (cache_left a before rest x h parts st f) content)) next →
       ShowsFront a (x.line + 1) (before ++ x ∷ []) rest next
   shows_next content next same right now =
       let st2 = after_record a before x st (regs_left a before rest x h parts st f) (cache_left a before rest x h parts st f) content in
@@ -74,14 +77,18 @@ module _ (a : Parts) (before rest : List Played) (x : Played) (h : IsFiled a) (p
 
   -- what a record without a step leaves shown
   still_shown : (mark_of x ≡ None) ⊎ ((m : Mark) × (mark_of x ≡ Some m) × (m.step ≡ None)) → Becomes (regs_left a before rest x h parts st f) (st.regs x.thread) →
-      SameLists (cache_left a before rest x h parts st f) (st.caches x.thread) → ((k r : ℕ) → x.op ≡ ops.Swap k r → ⊥) → root_at a (x.line + 1) ≡ root_at a x.line → ShowsFront a (x.line + 1) (before ++ x ∷ []) rest s
+      SameLists (cache_left a before rest x h parts st f) (st.caches x.thread) → ((k r : ℕ) → x.op ≡ ops.Swap k r → ⊥)
+      → root_at a (x.line + 1) ≡ root_at a x.line → ShowsFront a (x.line + 1) (before ++ x ∷ []) rest s
   still_shown unmarked regs lists other none =
       let words = words_same a before rest x h parts st f unmarked in
       shows_next st.content s none (right_same a before rest x h parts st f words)
-      (shown_alike (titles_in a (root_at a x.line)) (a.threads + 1) (2097152 * a.supers) (ledger_of a.partitions st) (ledger_of a.partitions (after_record a before x st (regs_left a before rest x h parts st f) (cache_left a before rest x h parts st f) st.content)) s shown
+      (shown_alike (titles_in a (root_at a x.line)) (a.threads + 1) (2097152 * a.supers) (ledger_of a.partitions st)
+      (ledger_of a.partitions (after_record a before x st (regs_left a before rest x h parts st f)
+      (cache_left a before rest x h parts st f) st.content)) s shown
       (λ k y. registers (owns y) k) (λ k y. registers (points y) k) (λ k y. lists_same a before rest x h parts st f st.content lists k y) words (λ y. refl))
     where
-      registers : (g : Reg → ℕ) (k : ℕ) → in_registers g (after_record a before x st (regs_left a before rest x h parts st f) (cache_left a before rest x h parts st f) st.content) k ≡ in_registers g st k
+      registers : (g : Reg → ℕ) (k : ℕ) → in_registers g (after_record a before x st (regs_left a before rest x h parts st f)
+          (cache_left a before rest x h parts st f) st.content) k ≡ in_registers g st k
       registers g zero = over_same 64 _ _ (λ c. ap (λ v. g (reg_of v)) (cells_left a before rest x h parts st f other c))
       registers g (suc j) = over_same 64 _ _ (λ r. ap g (regs_same a before rest x h parts st f regs j r))
 
@@ -105,7 +112,8 @@ module _ (a : Parts) (before rest : List Played) (x : Played) (h : IsFiled a) (p
       let P : SlotName → Type 0 = λ y. (st.regs x.thread reg ≡ Own y) ⊎ (st.regs x.thread reg ≡ Ref y) in
       let e : suc x.thread ≡ x.thread + 1 = omega arith in
       let top = few in
-      let handle = has_handle (titles_in a (root_at a x.line)) a.partitions (a.threads + 1) (2097152 * a.supers) st s shown (made_unique a h) x.thread reg t (omega arith) below made (subst P (sym name) names) in
+      let handle = has_handle (titles_in a (root_at a x.line)) a.partitions (a.threads + 1) (2097152 * a.supers) st s shown
+      (made_unique a h) x.thread reg t (omega arith) below made (subst P (sym name) names) in
       let here = subst (λ k. HasHandle s k t) e handle in
       let many = shown.many in (
         s,

@@ -47,7 +47,8 @@ request_made facts regs after reg size usable seen (inr (inl (fits, other, is, b
     let e : other ≡ seen = cc in subst (λ (z : Seen). Becomes after (with regs reg (Own z.slot))) e becomes
 request_made facts regs after reg size usable seen (inr (inr (fits, entry, is, becomes))) = absurd cc
 
-pub alloc_made : (r : Reg) (facts : Facts) (regs after : Regs) (reg size usable : ℕ) (seen : Seen) → AllocRow r facts regs reg size (answers.Made seen usable) after → HoldsNone r × Becomes after (with regs reg (Own seen.slot))
+pub alloc_made : (r : Reg) (facts : Facts) (regs after : Regs) (reg size usable : ℕ) (seen : Seen)
+    → AllocRow r facts regs reg size (answers.Made seen usable) after → HoldsNone r × Becomes after (with regs reg (Own seen.slot))
 alloc_made Empty facts regs after reg size usable seen row = (tt, request_made facts regs after reg size usable seen row)
 alloc_made Freed facts regs after reg size usable seen row = (tt, request_made facts regs after reg size usable seen row)
 alloc_made Cleared facts regs after reg size usable seen row = (tt, request_made facts regs after reg size usable seen row)
@@ -75,7 +76,8 @@ module _ (a : Parts) (before rest : List Played) (x : Played) (h : IsFiled a) (p
   pub op_within : (reg p size : ℕ) → x.op ≡ ops.Alloc reg p size → IsOpWithin a.partitions (ops.Alloc reg p size)
   op_within reg p size op = subst (λ o. IsOpWithin a.partitions o) op (All-contains (λ (y : Played). IsOpWithin a.partitions y.op) a.ps x h.within (among a before rest x h parts st f))
 
-  fill_plays : (p class usable : ℕ) (seen : Seen) (asked : Option ℕ) (xs ys : List Numbered) → AsksForClass x p class → x.answer ≡ answers.Made seen usable → st.caches x.thread p class ≡ [] → OnlyActs a.roots x.line p (Fill class asked xs ∷ []) →
+  fill_plays : (p class usable : ℕ) (seen : Seen) (asked : Option ℕ) (xs ys : List Numbered) → AsksForClass x p class
+      → x.answer ≡ answers.Made seen usable → st.caches x.thread p class ≡ [] → OnlyActs a.roots x.line p (Fill class asked xs ∷ []) →
       FrontIs seen xs ys → SameLists left (with_list (st.caches x.thread) p class ys) → Outcome a before rest x h parts st f s shown
   fill_plays p class usable seen asked xs ys (reg, size, op, class_of) answer empty only front becomes =
       let within = op_within reg p size op in
@@ -90,7 +92,8 @@ module _ (a : Parts) (before rest : List Played) (x : Played) (h : IsFiled a) (p
       issue_plays a before rest x h parts st f s shown reg p size usable seen list mid op answer within.0 none sets fall brought
 
   -- by the thread's list
-  by_list : (p class usable : ℕ) (seen : Seen) (list xs ys : List Numbered) → 1 ≤ a.partitions → AsksForClass x p class → x.answer ≡ answers.Made seen usable → st.caches x.thread p class ≡ list → FilledFirst a.roots x.line p class list xs →
+  by_list : (p class usable : ℕ) (seen : Seen) (list xs ys : List Numbered) → 1 ≤ a.partitions → AsksForClass x p class
+      → x.answer ≡ answers.Made seen usable → st.caches x.thread p class ≡ list → FilledFirst a.roots x.line p class list xs →
       FrontIs seen xs ys → SameLists left (with_list (st.caches x.thread) p class ys) → Outcome a before rest x h parts st f s shown
   by_list p class usable seen [] xs ys some asks answer is (asked, only) front becomes = fill_plays p class usable seen asked xs ys asks answer is only front becomes
   by_list p class usable seen (z ∷ zs) xs ys some asks answer is (same, no_acts) front becomes = quiet_plays a before rest x h some parts no_acts s (record { st = st; front = f; shown = shown })
@@ -116,13 +119,16 @@ module _ (a : Parts) (before rest : List Played) (x : Played) (h : IsFiled a) (p
       let xs : List Numbered = record { slot = seen.slot; number = 0 } ∷ cache p 0 in
       let list = with_list cache p 0 xs in
       let (mid, brought) = map_brings a before rest x h parts st f s shown p asked len seen.slot only in
-      let fall : (y : SlotName) → over a.partitions (λ q. listed_times y (left a before rest x h parts st f s shown q) 0 170) + once y seen.slot ≤ over a.partitions (λ q. listed_times y (list q) 0 170) = λ y.
+      let fall : (y : SlotName) → over a.partitions (λ q. listed_times y (left a before rest x h parts st f s shown q) 0 170) + once y
+      seen.slot ≤ over a.partitions (λ q. listed_times y (list q) 0 170) = λ y.
       (let one = times_cons y seen.slot (names (cache p 0)) in
       let all = ap (stands y) (list_changed cache p 0 xs) in
-      less_lists a.partitions p 0 y list (left a before rest x h parts st f s shown) (cache p 0) (once y seen.slot) (omega arith) within.1 (λ q c. same q c ∙ list_back cache p 0 xs q c) (omega arith)) in
+      less_lists a.partitions p 0 y list (left a before rest x h parts st f s shown) (cache p 0) (once y seen.slot) (omega arith) within.1
+      (λ q c. same q c ∙ list_back cache p 0 xs q c) (omega arith)) in
       issue_plays a before rest x h parts st f s shown reg p size usable seen list mid op answer within.0 none sets fall brought
 
-pub made_record_plays : (a : Parts) (before rest : List Played) (x : Played) (seen : Seen) (usable : ℕ) → IsFiled a → 1 ≤ a.partitions → a.ps ≡ before ++ x ∷ rest → x.answer ≡ answers.Made seen usable → CanBePlayed a before x rest
+pub made_record_plays : (a : Parts) (before rest : List Played) (x : Played) (seen : Seen) (usable : ℕ) → IsFiled a → 1 ≤ a.partitions
+    → a.ps ≡ before ++ x ∷ rest → x.answer ≡ answers.Made seen usable → CanBePlayed a before x rest
 made_record_plays a before rest x seen usable h some parts answer s shows =
     let st = shows.st in
     let f = shows.front in

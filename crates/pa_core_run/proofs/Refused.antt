@@ -43,14 +43,25 @@ pub refused_plays : (a : Parts) (before rest : List Played) (x : Played) (entry 
 refused_plays a before rest x entry h parts answer s shows =
     let st = shows.st in
     let f = shows.front in
-    let full : FullRow a.roots x (st.caches x.thread) (cache_left a before rest x h parts st f) = subst (λ z. CacheRow a.partitions a.roots x z (st.caches x.thread) (cache_left a before rest x h parts st f)) answer (cache_row a before rest x h parts st f) in
+    let full : FullRow a.roots x (st.caches x.thread) (cache_left a before rest x h parts st f) = subst
+    (λ z. CacheRow a.partitions a.roots x z (st.caches x.thread) (cache_left a before rest x h parts st f)) answer
+    (cache_row a before rest x h parts st f) in
     let told : IsRefused a x (st.caches x.thread) (cache_left a before rest x h parts st f) = elim full [
-      | inl (p, class, asked, (reg, size, op, class_of), empty, only, same) ↦ record { reg = reg; part = p; size = size; op = op; lists = same; roots = roots_refused a before rest x h parts st f p (Some class) asked only }
+      | inl (p, class, asked, (reg, size, op, class_of), empty, only, same) ↦ record {
+        reg = reg;
+        part = p;
+        size = size;
+        op = op;
+        lists = same;
+        roots = roots_refused a before rest x h parts st f p (Some class) asked only;
+      }
       | inr (p, size, asked, (reg, op, direct), only, same) ↦ record { reg = reg; part = p; size = size; op = op; lists = same; roots = roots_refused a before rest x h parts st f p None asked only }
     ] in
     let row = subst (λ o. Row (facts_of a) o (st.regs x.thread) x.answer (regs_left a before rest x h parts st f)) told.op (row_here a before rest x h parts st f) in
     let row2 = subst (λ z. AllocRow (st.regs x.thread told.reg) (facts_of a) (st.regs x.thread) told.reg told.size z (regs_left a before rest x h parts st f)) answer row in
-    none_plays a before rest x h parts st f s shows.shown (ap (λ z. mark_of_answer x.line x.op z) answer) (refused_left (st.regs x.thread told.reg) (facts_of a) (st.regs x.thread) (regs_left a before rest x h parts st f) told.reg told.size entry row2)
+    none_plays a before rest x h parts st f s shows.shown (ap (λ z. mark_of_answer x.line x.op z) answer)
+    (refused_left (st.regs x.thread told.reg) (facts_of a) (st.regs x.thread) (regs_left a before rest x h parts st f) told.reg
+    told.size entry row2)
     told.lists (λ k r e. (let both : ops.Alloc told.reg told.part told.size ≡ ops.Swap k r = sym told.op ∙ e in absurd cc)) told.roots
 
 pub refused_records_play : RefusedRecordsArePlayed

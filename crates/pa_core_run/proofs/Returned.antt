@@ -67,7 +67,8 @@ module _ (a : Parts) (before rest : List Played) (x : Played) (h : IsFiled a) (p
 
   -- ---- by the op
 
-  resets : (r : Reg) (reg : ℕ) (seen : Seen) (list : Cache) → x.op ≡ ops.Reset reg → x.answer ≡ answers.Done seen → reg < 64 → st.regs x.thread reg ≡ r → ResetRow r (st.regs x.thread) reg (answers.Done seen) (regs_left a before rest x h parts st f) →
+  resets : (r : Reg) (reg : ℕ) (seen : Seen) (list : Cache) → x.op ≡ ops.Reset reg → x.answer ≡ answers.Done seen → reg < 64
+      → st.regs x.thread reg ≡ r → ResetRow r (st.regs x.thread) reg (answers.Done seen) (regs_left a before rest x h parts st f) →
       IsReturning Reset seen.found.0 → Grows list seen.slot → (mid : State) × IsGivenBack a before rest x h parts st f s shown list mid
   resets Empty reg seen list op answer few is row returning grows = absurd (let e = row.0 in cc)
   resets (Own y) reg seen list op answer few is row returning grows = absurd (let e = row.0 in cc)
@@ -76,9 +77,12 @@ module _ (a : Parts) (before rest : List Played) (x : Played) (h : IsFiled a) (p
   resets (Ref y) reg seen list op answer few is (other, slot, same, becomes) returning grows =
       let one : other ≡ seen = cc in
       let m : Mark = mark_at x.line seen (Some Reset) in
-      reset_given a before rest x h parts st f s shown reg seen list op answer few (is ∙ ap Ref (sym slot ∙ ap (λ (z : Seen). z.slot) one)) becomes (gives_slot m Reset list (rw (answer, op) refl) refl returning grows)
+      reset_given a before rest x h parts st f s shown reg seen list op answer few
+      (is ∙ ap Ref (sym slot ∙ ap (λ (z : Seen). z.slot) one)) becomes
+      (gives_slot m Reset list (rw (answer, op) refl) refl returning grows)
 
-  frees : (r : Reg) (reg : ℕ) (seen : Seen) (list : Cache) → x.op ≡ ops.Free reg → x.answer ≡ answers.Done seen → reg < 64 → st.regs x.thread reg ≡ r → FreeRow r (st.regs x.thread) reg (answers.Done seen) (regs_left a before rest x h parts st f) →
+  frees : (r : Reg) (reg : ℕ) (seen : Seen) (list : Cache) → x.op ≡ ops.Free reg → x.answer ≡ answers.Done seen → reg < 64
+      → st.regs x.thread reg ≡ r → FreeRow r (st.regs x.thread) reg (answers.Done seen) (regs_left a before rest x h parts st f) →
       IsReturning Free seen.found.0 → Grows list seen.slot → (mid : State) × IsGivenBack a before rest x h parts st f s shown list mid
   frees Empty reg seen list op answer few is row returning grows = absurd (let e = row.0 in cc)
   frees Freed reg seen list op answer few is row returning grows = absurd (let e = row.0 in cc)
@@ -88,13 +92,16 @@ module _ (a : Parts) (before rest : List Played) (x : Played) (h : IsFiled a) (p
   frees (Own y) reg seen list op answer few is (other, slot, same, becomes) returning grows =
       let one : other ≡ seen = cc in
       let m : Mark = mark_at x.line seen (Some Free) in
-      free_given a before rest x h parts st f s shown reg seen list op answer few (is ∙ ap Own (sym slot ∙ ap (λ (z : Seen). z.slot) one)) becomes (gives_slot m Free list (rw (answer, op) refl) refl returning grows)
+      free_given a before rest x h parts st f s shown reg seen list op answer few (is ∙ ap Own (sym slot ∙ ap (λ (z : Seen). z.slot) one))
+      becomes (gives_slot m Free list (rw (answer, op) refl) refl returning grows)
 
   -- the op whose step returned a slot is a reset or a free
-  by_op : (op : Op) (step : Step) (seen : Seen) (list : Cache) → x.op ≡ op → step_of op ≡ Some step → x.answer ≡ answers.Done seen → IsOpWithin a.partitions op → Row (facts_of a) op (st.regs x.thread) (answers.Done seen) (regs_left a before rest x h parts st f) →
+  by_op : (op : Op) (step : Step) (seen : Seen) (list : Cache) → x.op ≡ op → step_of op ≡ Some step → x.answer ≡ answers.Done seen
+      → IsOpWithin a.partitions op → Row (facts_of a) op (st.regs x.thread) (answers.Done seen) (regs_left a before rest x h parts st f) →
       IsReturning step seen.found.0 → Grows list seen.slot → (mid : State) × IsGivenBack a before rest x h parts st f s shown list mid
   by_op (ops.Alloc reg part size) step seen list op makes answer within row returning grows = absurd cc
-  by_op (ops.Copy from to) step seen list op makes answer within row returning grows = absurd (let P : Step → Type 0 = λ p. IsReturning p seen.found.0 in let e : step ≡ Copy = cc in subst P e returning)
+  by_op (ops.Copy from to) step seen list op makes answer within row returning grows = absurd
+      (let P : Step → Type 0 = λ p. IsReturning p seen.found.0 in let e : step ≡ Copy = cc in subst P e returning)
   by_op (ops.Reset reg) step seen list op makes answer within row returning grows =
       let P : Step → Type 0 = λ p. IsReturning p seen.found.0 in
       let e : step ≡ Reset = cc in
@@ -103,12 +110,14 @@ module _ (a : Parts) (before rest : List Played) (x : Played) (h : IsFiled a) (p
       let P : Step → Type 0 = λ p. IsReturning p seen.found.0 in
       let e : step ≡ Free = cc in
       frees (st.regs x.thread reg) reg seen list op answer within refl row (subst P e returning) grows
-  by_op (ops.Write reg value) step seen list op makes answer within row returning grows = absurd (let P : Step → Type 0 = λ p. IsReturning p seen.found.0 in let e : step ≡ Write = cc in subst P e returning)
+  by_op (ops.Write reg value) step seen list op makes answer within row returning grows = absurd
+      (let P : Step → Type 0 = λ p. IsReturning p seen.found.0 in let e : step ≡ Write = cc in subst P e returning)
   by_op (ops.Read reg place) step seen list op makes answer within row returning grows = absurd cc
   by_op (ops.Swap cell reg) step seen list op makes answer within row returning grows = absurd cc
   by_op ops.Purge step seen list op makes answer within row returning grows = absurd cc
 
-  pub return_plays : (step : Step) (seen : Seen) (list : Cache) → step_of x.op ≡ Some step → x.answer ≡ answers.Done seen → IsReturning step seen.found.0 → Grows list seen.slot → (mid : State) × IsGivenBack a before rest x h parts st f s shown list mid
+  pub return_plays : (step : Step) (seen : Seen) (list : Cache) → step_of x.op ≡ Some step → x.answer ≡ answers.Done seen
+      → IsReturning step seen.found.0 → Grows list seen.slot → (mid : State) × IsGivenBack a before rest x h parts st f s shown list mid
   return_plays step seen list makes answer returning grows =
       let within = All-contains (λ (y : Played). IsOpWithin a.partitions y.op) a.ps x h.within (among a before rest x h parts st f) in
       let row = subst (λ z. Row (facts_of a) x.op (st.regs x.thread) z (regs_left a before rest x h parts st f)) answer (row_here a before rest x h parts st f) in
@@ -117,31 +126,47 @@ module _ (a : Parts) (before rest : List Played) (x : Played) (h : IsFiled a) (p
   -- ---- what follows
 
   -- titles of which the thread's lists had more before than after the record go to the roots
-  pub titles_back : (ts : List Title) (list : Cache) (mid : State) → IsShown (titles_in a (root_at a x.line)) (a.threads + 1) (2097152 * a.supers) (ledger_of a.partitions (given_st a before rest x h parts st f s shown list)) mid →
+  pub titles_back : (ts : List Title) (list : Cache) (mid : State)
+      → IsShown (titles_in a (root_at a x.line)) (a.threads + 1) (2097152 * a.supers)
+      (ledger_of a.partitions (given_st a before rest x h parts st f s shown list)) mid →
       ((t : Title) → Contains ts t → MadeIn a t) →
-      ((y : SlotName) → in_lists a.partitions (given_st a before rest x h parts st f s shown (cache_left a before rest x h parts st f)) y (suc x.thread) + named_in y ts ≤ in_lists a.partitions (given_st a before rest x h parts st f s shown list) y (suc x.thread)) →
-      (after : State) × IsReached (keeping (titles_in a (root_at a x.line)) (kept_with (KeptIn (root_at a x.line)) ts)) (a.threads + 1) (2097152 * a.supers) (ledger_of a.partitions (given_st a before rest x h parts st f s shown (cache_left a before rest x h parts st f))) mid (suc x.thread) after
+      ((y : SlotName) → in_lists a.partitions (given_st a before rest x h parts st f s shown (cache_left a before rest x h parts st f)) y
+      (suc x.thread) + named_in y ts ≤ in_lists a.partitions (given_st a before rest x h parts st f s shown list) y (suc x.thread)) →
+      (after : State) × IsReached (keeping (titles_in a (root_at a x.line)) (kept_with (KeptIn (root_at a x.line)) ts)) (a.threads + 1)
+      (2097152 * a.supers) (ledger_of a.partitions (given_st a before rest x h parts st f s shown
+      (cache_left a before rest x h parts st f))) mid (suc x.thread) after
   titles_back ts list mid now made less =
-      titles_go a before rest x h parts st f s shown (given_st a before rest x h parts st f s shown list) (given_st a before rest x h parts st f s shown (cache_left a before rest x h parts st f)) ts mid now registers (λ y. refl) (λ y. refl) made less others
+      titles_go a before rest x h parts st f s shown (given_st a before rest x h parts st f s shown list)
+      (given_st a before rest x h parts st f s shown (cache_left a before rest x h parts st f)) ts mid now registers (λ y. refl)
+      (λ y. refl) made less others
     where
-      others : (j : ℕ) (y : SlotName) → (j ≡ suc x.thread → ⊥) → in_lists a.partitions (given_st a before rest x h parts st f s shown (cache_left a before rest x h parts st f)) y j ≤ in_lists a.partitions (given_st a before rest x h parts st f s shown list) y j
+      others : (j : ℕ) (y : SlotName) → (j ≡ suc x.thread → ⊥)
+          → in_lists a.partitions (given_st a before rest x h parts st f s shown (cache_left a before rest x h parts st f)) y j ≤ in_lists
+          a.partitions (given_st a before rest x h parts st f s shown list) y j
       others zero y ne = omega arith
       others (suc j) y ne =
           let here = lists_left a before rest x h parts st f st.content j y (λ e. ne (ap suc e)) in
           let there = lists_others a before rest x h parts st f s shown list j y (λ e. ne (ap suc e)) in
           omega arith
 
-      registers : (g : Reg → ℕ) (k : ℕ) → in_registers g (given_st a before rest x h parts st f s shown (cache_left a before rest x h parts st f)) k ≡ in_registers g (given_st a before rest x h parts st f s shown list) k
+      registers : (g : Reg → ℕ) (k : ℕ) → in_registers g (given_st a before rest x h parts st f s shown
+          (cache_left a before rest x h parts st f)) k ≡ in_registers g (given_st a before rest x h parts st f s shown list) k
       registers g zero = refl
       registers g (suc k) = refl
 
   -- if the core comes to show the next roots and the record's lists, the record is played
   pub given_plays : (list : Cache) (mid after : State) → IsGivenBack a before rest x h parts st f s shown list mid →
-      IsReached (names_next a before rest x h parts st f s shown) (a.threads + 1) (2097152 * a.supers) (ledger_of a.partitions (given_st a before rest x h parts st f s shown (cache_left a before rest x h parts st f))) mid (suc x.thread) after →
+      IsReached (names_next a before rest x h parts st f s shown) (a.threads + 1) (2097152 * a.supers)
+      (ledger_of a.partitions (given_st a before rest x h parts st f s shown (cache_left a before rest x h parts st f))) mid
+      (suc x.thread) after →
       Outcome a before rest x h parts st f s shown
   given_plays list mid after given reached =
       let e : suc x.thread ≡ x.thread + 1 = omega arith in (
         after,
         given.plays reached.events after reached.run (subst (λ k. AreBeside k reached.events) e reached.beside),
-        record { st = given_st a before rest x h parts st f s shown (cache_left a before rest x h parts st f); front = front_next a before rest x h parts st f st.content given.right; shown = reached.shown },
+        record {
+          st = given_st a before rest x h parts st f s shown (cache_left a before rest x h parts st f);
+          front = front_next a before rest x h parts st f st.content given.right;
+          shown = reached.shown;
+        },
       )

@@ -66,7 +66,8 @@ pub record IsChangeOf (s : State) (t : Title) (after : State) : Type 0 where
   pub others : (u : Title) → (t ≡ u → ⊥) → IsTitleHeld (total_of after) u → IsUntouched s.words (total_of s) after.words (total_of after) u
 
 -- the ledger of another title that is held
-other_name : (s after : State) (t u : Title) → IsGoodState s → IsTitleHeld (total_of s) t ⊎ IsTitleHeld (total_of after) t → IsChangeOf s t after → (t ≡ u → ⊥) → IsTitleHeld (total_of after) u → name_of u ≡ name_of t → ⊥
+other_name : (s after : State) (t u : Title) → IsGoodState s → IsTitleHeld (total_of s) t ⊎ IsTitleHeld (total_of after) t
+    → IsChangeOf s t after → (t ≡ u → ⊥) → IsTitleHeld (total_of after) u → name_of u ≡ name_of t → ⊥
 other_name s after t u good (inl held) c ne other same =
     let before = untouched_held s.words (total_of s) after.words (total_of after) u (c.others u ne other) other in
     ne (one_named s t u good held before (sym same))

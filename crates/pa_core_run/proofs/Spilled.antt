@@ -42,7 +42,9 @@ module _ (a : Parts) (before rest : List Played) (x : Played) (h : IsFiled a) (p
   listed p class seen = returned_slot seen ∷ st.caches x.thread p class
 
   pub class_returns : (p class : ℕ) (step : Step) (seen : Seen) → step_of x.op ≡ Some step → x.answer ≡ answers.Done seen → IsReturning step seen.found.0 → IsOfClass a.roots seen.slot p class →
-      OnlyActs a.roots x.line p (gives (spilled class (listed p class seen))) → SameLists (cache_left a before rest x h parts st f) (with_list (st.caches x.thread) p class (kept class (listed p class seen))) →
+      OnlyActs a.roots x.line p (gives (spilled class (listed p class seen)))
+      → SameLists (cache_left a before rest x h parts st f)
+      (with_list (st.caches x.thread) p class (kept class (listed p class seen))) →
       Outcome a before rest x h parts st f s shown
   class_returns p class step seen makes answer returning of only becomes =
       let slot = returned_slot seen in
@@ -65,7 +67,9 @@ module _ (a : Parts) (before rest : List Played) (x : Played) (seen : Seen) (q :
     | inr ne ↦ absurd (no_give (only.1 q ne))
   ]
 
-  by_step : (o : Option Step) → step_of x.op ≡ o → x.answer ≡ answers.Done seen → DoneRow a.roots x o seen (st.caches x.thread) (cache_left a before rest x h parts st f) → Outcome a before rest x h parts st f s shown
+  by_step : (o : Option Step) → step_of x.op ≡ o → x.answer ≡ answers.Done seen
+      → DoneRow a.roots x o seen (st.caches x.thread) (cache_left a before rest x h parts st f)
+      → Outcome a before rest x h parts st f s shown
   by_step None makes answer (none, same) = absurd (no_give (none q))
   by_step (Some step) makes answer (inr (other, none, same)) = absurd (no_give (none q))
   by_step (Some step) makes answer (inl (returning, inl (p, class, of, only, becomes))) = class_returns a before rest x h parts st f s shown p class step seen makes answer returning of only becomes

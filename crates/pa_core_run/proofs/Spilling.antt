@@ -100,17 +100,20 @@ module _ (a : Parts) (before rest : List Played) (x : Played) (h : IsFiled a) (p
 
   -- from a core that shows the list with the slot, the thread's events give back what doesn't stay and lead to the next roots
   pub slots_go : (mid : State) → IsShown (titles_in a (root_at a x.line)) (a.threads + 1) (2097152 * a.supers) (ledger_of a.partitions (given_st a before rest x h parts st f s shown list_full)) mid →
-      (last : State) × IsReached (names_next a before rest x h parts st f s shown) (a.threads + 1) (2097152 * a.supers) (ledger_of a.partitions (given_st a before rest x h parts st f s shown left)) mid (suc x.thread) last
+      (last : State) × IsReached (names_next a before rest x h parts st f s shown) (a.threads + 1) (2097152 * a.supers)
+      (ledger_of a.partitions (given_st a before rest x h parts st f s shown left)) mid (suc x.thread) last
   slots_go mid now =
       let st2 = given_st a before rest x h parts st f s shown left in
       let (last, r) = titles_back a before rest x h parts st f s shown ts list_full mid now titled.1.made
-      (λ y. let fall = lists_fall y in let mine = lists_mine a before rest x h parts st f s shown list_full y in let here = lists_here a before rest x h parts st f s shown st.content y in omega arith) in (
+      (λ y. let fall = lists_fall y in let mine = lists_mine a before rest x h parts st f s shown list_full y in let here = lists_here a
+      before rest x h parts st f s shown st.content y in omega arith) in (
         last,
         record {
           events = r.events;
           run = r.run;
           beside = r.beside;
-          shown = renamed (keeping (titles_in a (root_at a x.line)) (kept_with (KeptIn (root_at a x.line)) ts)) (names_next a before rest x h parts st f s shown) (a.threads + 1) (2097152 * a.supers) (ledger_of a.partitions st2) last
+          shown = renamed (keeping (titles_in a (root_at a x.line)) (kept_with (KeptIn (root_at a x.line)) ts))
+              (names_next a before rest x h parts st f s shown) (a.threads + 1) (2097152 * a.supers) (ledger_of a.partitions st2) last
               (λ u made. made) (there_given a before rest x h parts st f giving) kept_next r.shown;
         },
       )

@@ -67,7 +67,8 @@ module _ (a : Parts) (before rest : List Played) (x : Played) (h : IsFiled a) (p
   next_st content = after_record a before x st (regs_left a before rest x h parts st f) (cache_left a before rest x h parts st f) content
 
   -- the content of a slot that is stepped on, but not made or written
-  content_goes : (m : Mark) (p : Step) → mark_of x ≡ Some m → m.step ≡ Some p → (p ≡ Issue → ⊥) → ((seen : Seen) (usable : ℕ) → x.answer ≡ answers.Made seen usable → ⊥) → ((reg other : ℕ) → x.op ≡ ops.Write reg other → ⊥) →
+  content_goes : (m : Mark) (p : Step) → mark_of x ≡ Some m → m.step ≡ Some p → (p ≡ Issue → ⊥)
+      → ((seen : Seen) (usable : ℕ) → x.answer ≡ answers.Made seen usable → ⊥) → ((reg other : ℕ) → x.op ≡ ops.Write reg other → ⊥) →
       held_of (stepped p (st.word m.slot)) ≡ 1 → IsContent a.ps m.slot (number_of (st.word m.slot) + 1) (st.content m.slot)
   content_goes m p is step other not_made not_written held =
       let can = can_step a before rest x h parts st f m p is step in
@@ -83,7 +84,8 @@ module _ (a : Parts) (before rest : List Played) (x : Played) (h : IsFiled a) (p
       (after : State) × IsDone s k t p lost gained first after × IsShown names_here (a.threads + 1) bytes_here (ledger_of a.partitions (next_st content)) after
 
   -- is the record's, if it has no entry
-  pub turned_plays : (m : Mark) (p : Step) (t : Title) (lost gained : List Piece) (first : ℕ → List Event) (content : SlotName → ℕ) → mark_of x ≡ Some m → m.step ≡ Some p → read_by x.op x.answer ≡ None →
+  pub turned_plays : (m : Mark) (p : Step) (t : Title) (lost gained : List Piece) (first : ℕ → List Event) (content : SlotName → ℕ)
+      → mark_of x ≡ Some m → m.step ≡ Some p → read_by x.op x.answer ≡ None →
       MadeIn a t → name_of t ≡ m.slot → count_word s.words t ≡ st.word (name_of t) → ((k : ℕ) → AreBeside k (first k)) → NoActs a.roots x.line →
       ((y : SlotName) → held_of (word_after (before ++ x ∷ []) y) ≡ 1 → IsContent a.ps y (number_of (word_after (before ++ x ∷ []) y)) (content y)) →
       Turned t p lost gained (first (suc x.thread)) content (suc x.thread) → Outcome a before rest x h parts st f s shown
@@ -98,18 +100,22 @@ module _ (a : Parts) (before rest : List Played) (x : Played) (h : IsFiled a) (p
       )
 
   -- what a record sets, by the title's name
-  pub set_named : (t : Title) (m : Mark) (p : Step) (reg : ℕ) (new : SlotName → Reg) (content : SlotName → ℕ) → name_of t ≡ m.slot → IsSet a.partitions st (next_st content) x.thread reg (new m.slot) m.slot (stepped p (st.word m.slot)) →
+  pub set_named : (t : Title) (m : Mark) (p : Step) (reg : ℕ) (new : SlotName → Reg) (content : SlotName → ℕ) → name_of t ≡ m.slot
+      → IsSet a.partitions st (next_st content) x.thread reg (new m.slot) m.slot (stepped p (st.word m.slot)) →
       IsSet a.partitions st (next_st content) x.thread reg (new (name_of t)) (name_of t) (stepped p (st.word (name_of t)))
   set_named t m p reg new content name set = subst (λ y. IsSet a.partitions st (next_st content) x.thread reg (new y) y (stepped p (st.word y))) (sym name) set
 
   pub below : suc x.thread < a.threads + 1
   below = let low = few a before rest x h parts st f s shown in omega arith
 
-  same_lists : (content : SlotName → ℕ) → SameLists (cache_left a before rest x h parts st f) (st.caches x.thread) → (y : SlotName) → in_lists a.partitions (next_st content) y (suc x.thread) ≡ in_lists a.partitions st y (suc x.thread)
+  same_lists : (content : SlotName → ℕ) → SameLists (cache_left a before rest x h parts st f) (st.caches x.thread) → (y : SlotName)
+      → in_lists a.partitions (next_st content) y (suc x.thread) ≡ in_lists a.partitions st y (suc x.thread)
   same_lists content same y = lists_same a before rest x h parts st f content same (suc x.thread) y
 
-  pub copy_plays : (from to : ℕ) (seen : Seen) → x.op ≡ ops.Copy from to → x.answer ≡ answers.Done seen → from < 64 → to < 64 → (st.regs x.thread from ≡ Own seen.slot) ⊎ (st.regs x.thread from ≡ Ref seen.slot) →
-      HoldsNone (st.regs x.thread to) → Becomes (regs_left a before rest x h parts st f) (with (st.regs x.thread) to (Ref seen.slot)) → SameLists (cache_left a before rest x h parts st f) (st.caches x.thread) → NoActs a.roots x.line →
+  pub copy_plays : (from to : ℕ) (seen : Seen) → x.op ≡ ops.Copy from to → x.answer ≡ answers.Done seen → from < 64 → to < 64
+      → (st.regs x.thread from ≡ Own seen.slot) ⊎ (st.regs x.thread from ≡ Ref seen.slot) →
+      HoldsNone (st.regs x.thread to) → Becomes (regs_left a before rest x h parts st f) (with (st.regs x.thread) to (Ref seen.slot))
+      → SameLists (cache_left a before rest x h parts st f) (st.caches x.thread) → NoActs a.roots x.line →
       Outcome a before rest x h parts st f s shown
   copy_plays from to seen op answer from_few to_few names none becomes lists no_acts =
       let m : Mark = mark_at x.line seen (Some Copy) in
@@ -120,11 +126,14 @@ module _ (a : Parts) (before rest : List Played) (x : Played) (h : IsFiled a) (p
       let P : SlotName → Type 0 = λ y. (st.regs x.thread from ≡ Own y) ⊎ (st.regs x.thread from ≡ Ref y) in
       let can = subst (λ y. CanStep Copy (st.word y)) (sym name) (can_step a before rest x h parts st f m Copy is refl) in
       let names_it : P (name_of t) = subst P (sym name) names in
-      let turned = copy_stands names_here a.partitions (a.threads + 1) bytes_here st s shown (made_unique a h) (next_st st.content) x.thread from to t below from_few made names_it none can set refl (same_lists st.content lists) in
+      let turned = copy_stands names_here a.partitions (a.threads + 1) bytes_here st s shown (made_unique a h) (next_st st.content)
+      x.thread from to t below from_few made names_it none can set refl (same_lists st.content lists) in
       let held = handle_held s (suc x.thread) t (has_handle names_here a.partitions (a.threads + 1) bytes_here st s shown (made_unique a h) x.thread from t below from_few made names_it) in
       turned_plays m Copy t [] (RefPiece t ∷ []) (λ k. []) st.content is refl (rw op refl) made name (shown.words t held) (λ k. tt) no_acts
       (right_after a before rest x h parts st f m Copy st.content is refl (λ y ne. refl)
-      (content_goes m Copy is refl (λ e. absurd cc) (λ seen2 usable e. (let both : answers.Done seen ≡ answers.Made seen2 usable = sym answer ∙ e in absurd cc)) (λ reg v e. (let both : ops.Copy from to ≡ ops.Write reg v = sym op ∙ e in absurd cc))))
+      (content_goes m Copy is refl (λ e. absurd cc) (λ seen2 usable e.
+      (let both : answers.Done seen ≡ answers.Made seen2 usable = sym answer ∙ e in absurd cc))
+      (λ reg v e. (let both : ops.Copy from to ≡ ops.Write reg v = sym op ∙ e in absurd cc))))
       turned
 
   -- ---- a reset and a free
@@ -145,7 +154,8 @@ module _ (a : Parts) (before rest : List Played) (x : Played) (h : IsFiled a) (p
     pub right : (y : SlotName) → held_of (word_after (before ++ x ∷ []) y) ≡ 1 → IsContent a.ps y (number_of (word_after (before ++ x ∷ []) y)) (st.content y)
     pub plays : (last : List Event) (next : State) → IsRunTo mid last next → AreBeside (x.thread + 1) last → Plays (MadeIn a) x s next
 
-  set_given : (t : Title) (m : Mark) (p : Step) (reg : ℕ) (new : Reg) (list : Cache) → name_of t ≡ m.slot → IsSet a.partitions st (next_st st.content) x.thread reg new m.slot (stepped p (st.word m.slot)) →
+  set_given : (t : Title) (m : Mark) (p : Step) (reg : ℕ) (new : Reg) (list : Cache) → name_of t ≡ m.slot
+      → IsSet a.partitions st (next_st st.content) x.thread reg new m.slot (stepped p (st.word m.slot)) →
       IsSet a.partitions st (given_st list) x.thread reg new (name_of t) (stepped p (st.word (name_of t)))
   set_given t m p reg new list name set =
       let first = set_named t m p reg (λ y. new) st.content name set in
@@ -192,10 +202,13 @@ module _ (a : Parts) (before rest : List Played) (x : Played) (h : IsFiled a) (p
       let can = subst (λ y. CanStep Reset (st.word y)) (sym name) (can_step a before rest x h parts st f m Reset is refl) in
       let names_it = names ∙ ap Ref (sym name) in
       let held = ref_title s (suc x.thread) t (has_ref names_here a.partitions (a.threads + 1) bytes_here st s shown (made_unique a h) x.thread reg t below reg_few made names_it) in
-      let turned = reset_stands names_here a.partitions (a.threads + 1) bytes_here st s shown (made_unique a h) (given_st list) x.thread reg t below made names_it can set refl (lists t made name (shown.words t held)) in
+      let turned = reset_stands names_here a.partitions (a.threads + 1) bytes_here st s shown (made_unique a h) (given_st list) x.thread
+      reg t below made names_it can set refl (lists t made name (shown.words t held)) in
       turned_given m Reset t (RefPiece t ∷ []) (λ k. []) list is refl (rw op refl) made name (shown.words t held) (λ k. tt)
       (right_after a before rest x h parts st f m Reset st.content is refl (λ y ne. refl)
-      (content_goes m Reset is refl (λ e. absurd cc) (λ seen2 usable e. (let both : answers.Done seen ≡ answers.Made seen2 usable = sym answer ∙ e in absurd cc)) (λ r v e. (let both : ops.Reset reg ≡ ops.Write r v = sym op ∙ e in absurd cc))))
+      (content_goes m Reset is refl (λ e. absurd cc) (λ seen2 usable e.
+      (let both : answers.Done seen ≡ answers.Made seen2 usable = sym answer ∙ e in absurd cc))
+      (λ r v e. (let both : ops.Reset reg ≡ ops.Write r v = sym op ∙ e in absurd cc))))
       turned
 
   pub free_given : (reg : ℕ) (seen : Seen) (list : Cache) → x.op ≡ ops.Free reg → x.answer ≡ answers.Done seen → reg < 64 → st.regs x.thread reg ≡ Own seen.slot →
@@ -209,10 +222,13 @@ module _ (a : Parts) (before rest : List Played) (x : Played) (h : IsFiled a) (p
       let can = subst (λ y. CanStep Free (st.word y)) (sym name) (can_step a before rest x h parts st f m Free is refl) in
       let names_it = names ∙ ap Own (sym name) in
       let held = own_title s (suc x.thread) t Clean (has_own names_here a.partitions (a.threads + 1) bytes_here st s shown (made_unique a h) x.thread reg t below reg_few made names_it) in
-      let turned = free_stands names_here a.partitions (a.threads + 1) bytes_here st s shown (made_unique a h) (given_st list) x.thread reg t below made names_it can set (lists t made name (shown.words t held)) in
+      let turned = free_stands names_here a.partitions (a.threads + 1) bytes_here st s shown (made_unique a h) (given_st list) x.thread
+      reg t below made names_it can set (lists t made name (shown.words t held)) in
       turned_given m Free t (OwnPiece t Clean ∷ []) (λ k. poisons (content_count t) k t) list is refl (rw op refl) made name (shown.words t held) (λ k. poisons_beside (content_count t) k t)
       (right_after a before rest x h parts st f m Free st.content is refl (λ y ne. refl)
-      (content_goes m Free is refl (λ e. absurd cc) (λ seen2 usable e. (let both : answers.Done seen ≡ answers.Made seen2 usable = sym answer ∙ e in absurd cc)) (λ r v e. (let both : ops.Free reg ≡ ops.Write r v = sym op ∙ e in absurd cc))))
+      (content_goes m Free is refl (λ e. absurd cc) (λ seen2 usable e.
+      (let both : answers.Done seen ≡ answers.Made seen2 usable = sym answer ∙ e in absurd cc))
+      (λ r v e. (let both : ops.Free reg ≡ ops.Write r v = sym op ∙ e in absurd cc))))
       turned
 
   -- if the line has no entry nothing follows
@@ -221,7 +237,9 @@ module _ (a : Parts) (before rest : List Played) (x : Played) (h : IsFiled a) (p
       (mid, given.plays [] mid (run_start mid given.now.good) tt, shows_next a before rest x h parts st f s shown st.content mid (roots_left a before rest x h parts st f none) given.right given.now)
 
   pub write_plays : (reg value : ℕ) (seen : Seen) → x.op ≡ ops.Write reg value → x.answer ≡ answers.Done seen → reg < 64 → st.regs x.thread reg ≡ Own seen.slot → refs_of seen.found.0 ≡ 0 →
-      Becomes (regs_left a before rest x h parts st f) (st.regs x.thread) → SameLists (cache_left a before rest x h parts st f) (st.caches x.thread) → NoActs a.roots x.line → Outcome a before rest x h parts st f s shown
+      Becomes (regs_left a before rest x h parts st f) (st.regs x.thread)
+      → SameLists (cache_left a before rest x h parts st f) (st.caches x.thread) → NoActs a.roots x.line
+      → Outcome a before rest x h parts st f s shown
   write_plays reg value seen op answer reg_few names alone becomes lists no_acts =
       let m : Mark = mark_at x.line seen (Some Write) in
       let is : mark_of x ≡ Some m = rw (answer, op) refl in
@@ -243,7 +261,8 @@ module _ (a : Parts) (before rest : List Played) (x : Played) (h : IsFiled a) (p
       let held = own_title s (suc x.thread) t Clean (has_own names_here a.partitions (a.threads + 1) bytes_here st s shown (made_unique a h) x.thread reg t below reg_few made names_it) in
       let P : ℕ → Type 0 = λ w. IsContent a.ps seen.slot (number_of w + 1) (content seen.slot) in
       let Q : ℕ → Type 0 = λ v. IsContent a.ps seen.slot (number_of seen.found.0 + 1) v in
-      turned_plays m Write t (OwnPiece t Clean ∷ []) (OwnPiece t Clean ∷ []) (λ k. stores (content_count t) 0 k t value) content is refl (rw op refl) made name (shown.words t held) (λ k. stores_beside (content_count t) 0 k t value) no_acts
+      turned_plays m Write t (OwnPiece t Clean ∷ []) (OwnPiece t Clean ∷ []) (λ k. stores (content_count t) 0 k t value) content is refl
+      (rw op refl) made name (shown.words t held) (λ k. stores_beside (content_count t) 0 k t value) no_acts
       (right_after a before rest x h parts st f m Write content is refl kept
       (λ held2. subst P found (subst Q (sym now) (content_written a h x seen reg value (among a before rest x h parts st f) op answer))))
       turned

@@ -108,7 +108,8 @@ module _ (names : Titles) (partitions actors bytes : ℕ) (st : Standing) (s : S
   has_actor k below = let many = h.many in omega arith
 
   -- the content of an Own that was clean stays
-  own_stays : (after : State) (actor : ℕ) (t : Title) (lost gained : List Piece) (w : ℕ) (es : List Event) → HasActor s actor → IsTurn s actor t lost gained w es after → held_in gained (OwnAs t Clean) ≡ 0 →
+  own_stays : (after : State) (actor : ℕ) (t : Title) (lost gained : List Piece) (w : ℕ) (es : List Event) → HasActor s actor
+      → IsTurn s actor t lost gained w es after → held_in gained (OwnAs t Clean) ≡ 0 →
       ((value : ℕ) → HasContentFrom s.words t 0 value → HasContentFrom after.words t 0 value) → 0 < total_of after (OwnAs t Clean) → HasContentFrom after.words t 0 (st.content (name_of t))
   own_stays after actor t lost gained w es has turn none keeps some =
       let e = total_exchanged s.holdings after.holdings actor actor lost gained turn.holdings has has (OwnAs t Clean) in
@@ -132,7 +133,8 @@ module _ (names : Titles) (partitions actors bytes : ℕ) (st : Standing) (s : S
       (λ u m. let e = lists (name_of u) in let z : held_in [] (FreeTitle u) ≡ 0 = refl in omega arith) in (
         r.0,
         r.1,
-        turn_shown names actors bytes (ledger_of partitions st) (ledger_of partitions next) s r.0 (suc k) t [] (RefPiece t ∷ []) (stepped Copy (count_word s.words t)) (Count (suc k) t Copy ∷ []) h (omega arith) below held (no_pieces t) (ref_pieces t) turn
+        turn_shown names actors bytes (ledger_of partitions st) (ledger_of partitions next) s r.0 (suc k) t [] (RefPiece t ∷ [])
+            (stepped Copy (count_word s.words t)) (Count (suc k) t Copy ∷ []) h (omega arith) below held (no_pieces t) (ref_pieces t) turn
             (subst (λ w. IsPaid names.Made (ledger_of partitions st) (ledger_of partitions next) (of_actor (suc k) []) (of_actor (suc k) (RefPiece t ∷ [])) t (stepped Copy w)) (sym word) paid)
             (λ some. subst (λ v. HasContentFrom r.0.words t 0 v) (sym content) (own_stays r.0 (suc k) t [] (RefPiece t ∷ []) _ _ has turn refl r.2 some)),
       )
@@ -155,9 +157,14 @@ module _ (names : Titles) (partitions actors bytes : ℕ) (st : Standing) (s : S
       (λ u m. let e = lists u m in let z : held_in (RefPiece t ∷ []) (FreeTitle u) ≡ 0 = refl in omega arith) in (
         r.0,
         r.1,
-        turn_shown names actors bytes (ledger_of partitions st) (ledger_of partitions next) s r.0 (suc k) t (RefPiece t ∷ []) (left_by Reset s t) (stepped Reset (count_word s.words t)) (Count (suc k) t Reset ∷ []) h (omega arith) below held (ref_pieces t) (returned_pieces (stepped Reset (count_word s.words t)) t) turn
-            (subst (λ w. IsPaid names.Made (ledger_of partitions st) (ledger_of partitions next) (of_actor (suc k) (RefPiece t ∷ [])) (of_actor (suc k) (left_by Reset s t)) t (stepped Reset w)) (sym word) paid)
-            (λ some. subst (λ v. HasContentFrom r.0.words t 0 v) (sym content) (own_stays r.0 (suc k) t (RefPiece t ∷ []) (left_by Reset s t) _ _ has turn (returned_states (stepped Reset (count_word s.words t)) t Clean) r.2 some)),
+        turn_shown names actors bytes (ledger_of partitions st) (ledger_of partitions next) s r.0 (suc k) t (RefPiece t ∷ [])
+            (left_by Reset s t) (stepped Reset (count_word s.words t)) (Count (suc k) t Reset ∷ []) h (omega arith) below held
+            (ref_pieces t) (returned_pieces (stepped Reset (count_word s.words t)) t) turn
+            (subst (λ w. IsPaid names.Made (ledger_of partitions st) (ledger_of partitions next) (of_actor (suc k) (RefPiece t ∷ []))
+            (of_actor (suc k) (left_by Reset s t)) t (stepped Reset w)) (sym word) paid)
+            (λ some. subst (λ v. HasContentFrom r.0.words t 0 v) (sym content)
+            (own_stays r.0 (suc k) t (RefPiece t ∷ []) (left_by Reset s t) _ _ has turn
+            (returned_states (stepped Reset (count_word s.words t)) t Clean) r.2 some)),
       )
 
   -- a free
@@ -178,8 +185,11 @@ module _ (names : Titles) (partitions actors bytes : ℕ) (st : Standing) (s : S
       (λ u m. let e = lists u m in let z : held_in (OwnPiece t Clean ∷ []) (FreeTitle u) ≡ 0 = refl in omega arith) in (
         r.0,
         r.1,
-        turn_shown names actors bytes (ledger_of partitions st) (ledger_of partitions next) s r.0 (suc k) t (OwnPiece t Clean ∷ []) (left_by Free s t) (stepped Free (count_word s.words t)) _ h (omega arith) below held (own_pieces t) (returned_pieces (stepped Free (count_word s.words t)) t) turn
-            (subst (λ w. IsPaid names.Made (ledger_of partitions st) (ledger_of partitions next) (of_actor (suc k) (OwnPiece t Clean ∷ [])) (of_actor (suc k) (left_by Free s t)) t (stepped Free w)) (sym word) paid)
+        turn_shown names actors bytes (ledger_of partitions st) (ledger_of partitions next) s r.0 (suc k) t (OwnPiece t Clean ∷ [])
+            (left_by Free s t) (stepped Free (count_word s.words t)) _ h (omega arith) below held (own_pieces t)
+            (returned_pieces (stepped Free (count_word s.words t)) t) turn
+            (subst (λ w. IsPaid names.Made (ledger_of partitions st) (ledger_of partitions next)
+            (of_actor (suc k) (OwnPiece t Clean ∷ [])) (of_actor (suc k) (left_by Free s t)) t (stepped Free w)) (sym word) paid)
             (λ some.
             let e = total_exchanged s.holdings r.0.holdings (suc k) (suc k) (OwnPiece t Clean ∷ []) (left_by Free s t) turn.holdings has has (OwnAs t Clean) in
             let z = returned_states (stepped Free (count_word s.words t)) t Clean in
@@ -208,8 +218,10 @@ module _ (names : Titles) (partitions actors bytes : ℕ) (st : Standing) (s : S
       (λ u m. let e = lists (name_of u) in omega arith) in (
         r.0,
         r.1,
-        turn_shown names actors bytes (ledger_of partitions st) (ledger_of partitions next) s r.0 (suc k) t (OwnPiece t Clean ∷ []) (OwnPiece t Clean ∷ []) (stepped Write (count_word s.words t)) _ h (omega arith) below held (own_pieces t) (own_pieces t) turn
-            (subst (λ w. IsPaid names.Made (ledger_of partitions st) (ledger_of partitions next) (of_actor (suc k) (OwnPiece t Clean ∷ [])) (of_actor (suc k) (OwnPiece t Clean ∷ [])) t (stepped Write w)) (sym word) paid)
+        turn_shown names actors bytes (ledger_of partitions st) (ledger_of partitions next) s r.0 (suc k) t (OwnPiece t Clean ∷ [])
+            (OwnPiece t Clean ∷ []) (stepped Write (count_word s.words t)) _ h (omega arith) below held (own_pieces t) (own_pieces t) turn
+            (subst (λ w. IsPaid names.Made (ledger_of partitions st) (ledger_of partitions next)
+            (of_actor (suc k) (OwnPiece t Clean ∷ [])) (of_actor (suc k) (OwnPiece t Clean ∷ [])) t (stepped Write w)) (sym word) paid)
             (λ some. subst (λ v. HasContentFrom r.0.words t 0 v) (sym content) r.2),
       )
 
@@ -231,7 +243,9 @@ module _ (names : Titles) (partitions actors bytes : ℕ) (st : Standing) (s : S
       (λ u m. let e = lists u m in omega arith) in (
         r.0,
         r.1,
-        turn_shown names actors bytes (ledger_of partitions st) (ledger_of partitions next) s r.0 (suc k) t (FreePiece t ∷ []) (OwnPiece t Clean ∷ []) (stepped Issue (count_word s.words t)) _ h (omega arith) below held (free_pieces t) (own_pieces t) turn
-            (subst (λ w. IsPaid names.Made (ledger_of partitions st) (ledger_of partitions next) (of_actor (suc k) (FreePiece t ∷ [])) (of_actor (suc k) (OwnPiece t Clean ∷ [])) t (stepped Issue w)) (sym word) paid)
+        turn_shown names actors bytes (ledger_of partitions st) (ledger_of partitions next) s r.0 (suc k) t (FreePiece t ∷ [])
+            (OwnPiece t Clean ∷ []) (stepped Issue (count_word s.words t)) _ h (omega arith) below held (free_pieces t) (own_pieces t) turn
+            (subst (λ w. IsPaid names.Made (ledger_of partitions st) (ledger_of partitions next) (of_actor (suc k) (FreePiece t ∷ []))
+            (of_actor (suc k) (OwnPiece t Clean ∷ [])) t (stepped Issue w)) (sym word) paid)
             (λ some. subst (λ v. HasContentFrom r.0.words t 0 v) (sym content) r.2),
       )

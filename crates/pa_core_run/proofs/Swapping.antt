@@ -61,7 +61,8 @@ piece_at f k r ps thing x same j = elim (cases_eq j k) [
 
 module _ (names : Titles) (actors bytes : ℕ) (unique : HaveNames names.Made) where
   -- if nothing goes the ledger asks no more than before
-  stays : (b next : Ledger) (s : State) (r : Reg) (from to : ℕ) → IsShown names actors bytes b s → ((x : SlotName) → owns x r ≡ 0) → ((x : SlotName) → points x r ≡ 0) → IsGone b next r from to → IsShown names actors bytes next s
+  stays : (b next : Ledger) (s : State) (r : Reg) (from to : ℕ) → IsShown names actors bytes b s → ((x : SlotName) → owns x r ≡ 0)
+      → ((x : SlotName) → points x r ≡ 0) → IsGone b next r from to → IsShown names actors bytes next s
   stays b next s r from to h no_owner no_pointer g = record {
     good = h.good;
     many = h.many;
@@ -102,9 +103,12 @@ module _ (names : Titles) (actors bytes : ℕ) (unique : HaveNames names.Made) w
   pub goes : (b next : Ledger) (s : State) (r : Reg) (k from to : ℕ) → IsShown names actors bytes b s → k < actors → Between k from to →
       ((x : SlotName) → owns x r ≤ b.own from x) → ((x : SlotName) → points x r ≤ b.ref from x) → ((x : SlotName) → (r ≡ Own x) ⊎ (r ≡ Ref x) → (t : Title) × names.Made t × (name_of t ≡ x)) →
       IsGone b next r from to → Goes s next k
-  goes b next s Empty k from to h below between own ref titled g = record { events = []; after = s; run = run_start s h.good; beside = tt; shown = stays b next s Empty from to h (λ x. refl) (λ x. refl) g }
-  goes b next s Freed k from to h below between own ref titled g = record { events = []; after = s; run = run_start s h.good; beside = tt; shown = stays b next s Freed from to h (λ x. refl) (λ x. refl) g }
-  goes b next s Cleared k from to h below between own ref titled g = record { events = []; after = s; run = run_start s h.good; beside = tt; shown = stays b next s Cleared from to h (λ x. refl) (λ x. refl) g }
+  goes b next s Empty k from to h below between own ref titled g = record
+      { events = []; after = s; run = run_start s h.good; beside = tt; shown = stays b next s Empty from to h (λ x. refl) (λ x. refl) g }
+  goes b next s Freed k from to h below between own ref titled g = record
+      { events = []; after = s; run = run_start s h.good; beside = tt; shown = stays b next s Freed from to h (λ x. refl) (λ x. refl) g }
+  goes b next s Cleared k from to h below between own ref titled g = record
+      { events = []; after = s; run = run_start s h.good; beside = tt; shown = stays b next s Cleared from to h (λ x. refl) (λ x. refl) g }
   goes b next s (Own x) k from to h below between own ref titled g =
       let (t, made, name) = titled x (inl refl) in
       let from_below : from < actors = elim between [ inl e ↦ let f = e.0 in omega arith | inr e ↦ let f = e.0 in omega arith ] in
@@ -117,7 +121,8 @@ module _ (names : Titles) (actors bytes : ℕ) (unique : HaveNames names.Made) w
       let clean = h.clean t some.0 (in_total s from (OwnAs t some.0) some.1) in
       let P : OwnState → Type 0 = λ a. Holds s from (OwnAs t a) in
       let has : Holds s from (OwnAs t Clean) = subst P clean some.1 in
-      let here : (u : Title) → names.Made u → held_in (OwnPiece t Clean ∷ []) (OwnOf u) ≡ owns (name_of u) (Own x) = λ u m. owns_piece names.Made t u unique made m ∙ ap (λ y. owns (name_of u) (Own y)) name in
+      let here : (u : Title) → names.Made u → held_in (OwnPiece t Clean ∷ []) (OwnOf u) ≡ owns (name_of u) (Own x) = λ u m. owns_piece
+      names.Made t u unique made m ∙ ap (λ y. owns (name_of u) (Own y)) name in
       let paid : IsPaid names.Made b next (of_actor from (OwnPiece t Clean ∷ [])) (of_actor to (OwnPiece t Clean ∷ [])) t (b.word (name_of t)) = record {
         own = λ j u m.
             let e = g.own j (name_of u) in
@@ -158,7 +163,8 @@ module _ (names : Titles) (actors bytes : ℕ) (unique : HaveNames names.Made) w
       let all = h.ref from t from_below made in
       let same = ap (b.ref from) name in
       let has : Holds s from (RefOf t) = omega arith in
-      let here : (u : Title) → names.Made u → held_in (RefPiece t ∷ []) (RefOf u) ≡ points (name_of u) (Ref x) = λ u m. points_piece names.Made t u unique made m ∙ ap (λ y. points (name_of u) (Ref y)) name in
+      let here : (u : Title) → names.Made u → held_in (RefPiece t ∷ []) (RefOf u) ≡ points (name_of u) (Ref x) = λ u m. points_piece
+      names.Made t u unique made m ∙ ap (λ y. points (name_of u) (Ref y)) name in
       let paid : IsPaid names.Made b next (of_actor from (RefPiece t ∷ [])) (of_actor to (RefPiece t ∷ [])) t (b.word (name_of t)) = record {
         own = λ j u m.
             let e = g.own j (name_of u) in
@@ -268,7 +274,8 @@ module _ (partitions : ℕ) (st next : Standing) (k reg cell : ℕ) (e : IsExcha
         omega arith
   ]
 
-  found_share : (f : SlotName → Reg → ℕ) (x : SlotName) → IsKind (f x) → (j : ℕ) → in_registers (f x) next j + has_at f 0 (reg_of (st.held cell)) j x ≤ halfway (f x) j + has_at f (suc k) (reg_of (st.held cell)) j x
+  found_share : (f : SlotName → Reg → ℕ) (x : SlotName) → IsKind (f x) → (j : ℕ)
+      → in_registers (f x) next j + has_at f 0 (reg_of (st.held cell)) j x ≤ halfway (f x) j + has_at f (suc k) (reg_of (st.held cell)) j x
   found_share f x kind zero =
       let one = over_one 64 cell (λ c. f x (reg_of (st.held c))) (λ c. f x (reg_of (next.held c))) e.few_cells (λ c ne. ap (λ h. f x (reg_of h)) (e.held_other c ne)) in
       let g = ap (λ h. f x (reg_of h)) e.held_here ∙ kind.given (st.regs k reg) in
@@ -316,7 +323,8 @@ module _ (partitions : ℕ) (st next : Standing) (k reg cell : ℕ) (e : IsExcha
         content = λ x. refl;
       }) in
       let two = goes names actors bytes unique mid_ledger (ledger_of partitions next) one.after (reg_of (st.held cell)) (suc k) 0 (suc k) one.shown below (inr (refl, refl))
-      (λ x. let p = over_part 64 cell (λ c. owns x (reg_of (st.held c))) e.few_cells in omega arith) (λ x. let p = over_part 64 cell (λ c. points x (reg_of (st.held c))) e.few_cells in omega arith) found
+      (λ x. let p = over_part 64 cell (λ c. owns x (reg_of (st.held c))) e.few_cells in omega arith)
+      (λ x. let p = over_part 64 cell (λ c. points x (reg_of (st.held c))) e.few_cells in omega arith) found
       (record {
         own = λ j x. found_share owns x (owner_kind x) j;
         ref = λ j x. found_share points x (pointer_kind x) j;

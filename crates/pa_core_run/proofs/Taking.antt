@@ -43,7 +43,8 @@ module _ (names : Titles) (actors bytes k : ℕ) (some : 0 < k) (below : k < act
               let l = of_actor_apart 0 k (FreePiece t ∷ []) (FreeTitle u) (λ z. omega arith) in
               let g = of_actor_here k (FreePiece t ∷ []) (FreeTitle u) in
               let p = free_piece names.Made t u unique made m in
-              subst (λ i. free i (name_of u) + held_in (of_actor 0 (FreePiece t ∷ []) i) (FreeTitle u) ≤ b.free i (name_of u) + held_in (of_actor k (FreePiece t ∷ []) i) (FreeTitle u)) (sym e) (omega arith)
+              subst (λ i. free i (name_of u) + held_in (of_actor 0 (FreePiece t ∷ []) i) (FreeTitle u) ≤ b.free i (name_of u) + held_in
+              (of_actor k (FreePiece t ∷ []) i) (FreeTitle u)) (sym e) (omega arith)
           | inr ne ↦ let a = other j (name_of u) ne in let l = of_actor_apart 0 j (FreePiece t ∷ []) (FreeTitle u) (λ z. omega arith) in omega arith
         ];
         word_left = refl;
@@ -64,7 +65,8 @@ module _ (names : Titles) (actors bytes k : ℕ) (some : 0 < k) (below : k < act
       ]
 
   -- a batch comes, title by title
-  pub batch_comes : (ts : List Title) (b : Ledger) (later : ℕ → SlotName → ℕ) (K : Title → Type 0) (s : State) → IsShown (keeping names K) actors bytes b s → ((t : Title) → Contains ts t → names.Made t × K t) → StandOnce ts →
+  pub batch_comes : (ts : List Title) (b : Ledger) (later : ℕ → SlotName → ℕ) (K : Title → Type 0) (s : State)
+      → IsShown (keeping names K) actors bytes b s → ((t : Title) → Contains ts t → names.Made t × K t) → StandOnce ts →
       ((x : SlotName) → later k x ≤ b.free k x + named_in x ts) → ((j : ℕ) (x : SlotName) → (j ≡ k → ⊥) → later j x ≤ b.free j x) →
       (after : State) × IsReached (keeping names (kept_without K ts)) actors bytes (asking b later) s k after
   batch_comes [] b later K s h made alone mine other = (
@@ -86,7 +88,16 @@ module _ (names : Titles) (actors bytes k : ℕ) (some : 0 < k) (below : k < act
       let it = made t (first_in t ts) in
       let first = one_comes b free K s t h it.0 it.1 (λ x. let e = here x in omega arith) (λ j x ne. let e = there j x ne in omega arith) in
       let rest = batch_comes ts (asking b free) later (kept_without K (t ∷ [])) first.0 first.1.shown
-      (λ u member. ((made u (later_in t u ts member)).0, ((made u (later_in t u ts member)).1, λ one. elim (in_cases t u [] one) [ inl same ↦ alone.0 (subst (λ (v : Title). Contains ts v) (sym same) member) | inr gone ↦ not_in_none u gone ])))
+      (λ u member. (
+        (made u (later_in t u ts member)).0,
+        (
+          (made u (later_in t u ts member)).1,
+          λ one. elim (in_cases t u [] one) [
+            | inl same ↦ alone.0 (subst (λ (v : Title). Contains ts v) (sym same) member)
+            | inr gone ↦ not_in_none u gone
+          ],
+        ),
+      ))
       alone.1 (λ x. let e = here x in let a = mine x in omega arith) (λ j x ne. let e = there j x ne in let a = other j x ne in omega arith) in (
         rest.0,
         record {
@@ -94,6 +105,15 @@ module _ (names : Titles) (actors bytes k : ℕ) (some : 0 < k) (below : k < act
           run = run_join s first.0 rest.0 (Hand 0 k (FreeItem t) ∷ []) rest.1.events h.good first.1.run rest.1.run;
           beside = ((inl refl, inr refl), rest.1.beside);
           shown = asks_less names actors bytes k some below unique (asking b later) later (kept_without (kept_without K (t ∷ [])) ts) (kept_without K (t ∷ ts)) rest.0 rest.1.shown (λ j x. omega arith)
-              (λ u kept. ((kept.0, λ one. elim (in_cases t u [] one) [ inl same ↦ kept.1 (subst (λ (v : Title). Contains (t ∷ ts) v) same (first_in t ts)) | inr gone ↦ not_in_none u gone ]), λ member. kept.1 (later_in t u ts member)));
+              (λ u kept. (
+                (
+                  kept.0,
+                  λ one. elim (in_cases t u [] one) [
+                    | inl same ↦ kept.1 (subst (λ (v : Title). Contains (t ∷ ts) v) same (first_in t ts))
+                    | inr gone ↦ not_in_none u gone
+                  ],
+                ),
+                λ member. kept.1 (later_in t u ts member),
+              ));
         },
       )

@@ -147,7 +147,8 @@ module _ (a : Parts) (h : IsFiled a) where
       ]
 
   -- if a title's name was out at no line up to n, its slot's word is 0 after the records before line n
-  pub never_word : (before rest : List Played) (n p : ℕ) (t : Title) → IsCut a n before rest → IsMadeBy a.pools (a.roots p) t → ((m : ℕ) → m ≤ n → IsNameOut (root_at a m p) (name_of t) → ⊥) → word_after before (name_of t) ≡ 0
+  pub never_word : (before rest : List Played) (n p : ℕ) (t : Title) → IsCut a n before rest → IsMadeBy a.pools (a.roots p) t
+      → ((m : ℕ) → m ≤ n → IsNameOut (root_at a m p) (name_of t) → ⊥) → word_after before (name_of t) ≡ 0
   never_word before rest n p t cut made never = elim (word_or_made a h (name_of t) before rest cut.parts) [
     | inl zero ↦ zero
     | inr (q, seen, usable, among, answer, slot) ↦

@@ -39,7 +39,8 @@ module _ (a : Parts) (before rest : List Played) (x : Played) (h : IsFiled a) (p
       let slot : Numbered = record { slot = seen.slot; number = number } in
       let (len, first, mapped, start, gave) = one_fits a x.line p (Unmap asked slot) h only.0 in
       let list = list_back_with a before rest x h parts st f s shown p asked len slot only mapped in
-      let (mid, given) = return_plays a before rest x h parts st f s shown step seen list makes answer returning (one_more a before rest x h parts st f s shown p 0 (record { slot = seen.slot; number = 0 }) (omega arith)) in
+      let (mid, given) = return_plays a before rest x h parts st f s shown step seen list makes answer returning
+      (one_more a before rest x h parts st f s shown p 0 (record { slot = seen.slot; number = 0 }) (omega arith)) in
       let (after, reached) = map_goes a before rest x h parts st f s shown p asked len slot only mapped same mid given.now in
       given_plays a before rest x h parts st f s shown list mid after given reached
 
@@ -50,15 +51,19 @@ module _ (a : Parts) (before rest : List Played) (x : Played) (h : IsFiled a) (p
       let back = unmap_returns a.partitions a.roots a.ps x e p asked slot h.caches (entry_inside a h p e member) (among a before rest x h parts st f) member line is in
       let cache = st.caches x.thread in
       let after = cache_left a before rest x h parts st f in
-      let done : CacheRow a.partitions a.roots x (answers.Done back.seen) cache after = subst (λ z. CacheRow a.partitions a.roots x z cache after) back.answer (cache_row a before rest x h parts st f) in
+      let done : CacheRow a.partitions a.roots x (answers.Done back.seen) cache after = subst
+      (λ z. CacheRow a.partitions a.roots x z cache after) back.answer (cache_row a before rest x h parts st f) in
       let row : DoneRow a.roots x (Some back.step) back.seen cache after = subst (λ o. DoneRow a.roots x o back.seen cache after) back.steps done in
       elim row [
-        | inl (returning, inl (q, class, of, only, same)) ↦ absurd (class_or_direct a back.seen.slot q back.partition class h of (subst (λ y. IsDirect a.roots y back.partition) (sym back.slot) back.direct))
+        | inl (returning, inl (q, class, of, only, same)) ↦ absurd
+            (class_or_direct a back.seen.slot q back.partition class h of
+            (subst (λ y. IsDirect a.roots y back.partition) (sym back.slot) back.direct))
         | inl (returning, inr (q, other, number, direct, only, same)) ↦ map_returns q other number back.step back.seen back.steps back.answer returning only same
         | inr (other, none, same) ↦ absurd (other back.returning)
       ]
 
-pub unmapped_record_plays : (a : Parts) (before rest : List Played) (x : Played) (p asked : ℕ) (slot : Numbered) → IsFiled a → a.ps ≡ before ++ x ∷ rest → Contains (acts_of a.roots x.line p) (Unmap asked slot) → CanBePlayed a before x rest
+pub unmapped_record_plays : (a : Parts) (before rest : List Played) (x : Played) (p asked : ℕ) (slot : Numbered) → IsFiled a
+    → a.ps ≡ before ++ x ∷ rest → Contains (acts_of a.roots x.line p) (Unmap asked slot) → CanBePlayed a before x rest
 unmapped_record_plays a before rest x p asked slot h parts entry s shows = map_plays a before rest x h parts shows.st shows.front s shows.shown p asked slot entry
 
 pub unmapped_records_play : UnmappedRecordsArePlayed

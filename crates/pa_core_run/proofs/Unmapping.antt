@@ -114,7 +114,8 @@ module _ (a : Parts) (before rest : List Played) (x : Played) (h : IsFiled a) (p
       entry_inside a h p e member
 
   lists_fall : SameLists (cache_left a before rest x h parts st f) (st.caches x.thread) → (y : SlotName) →
-      in_lists a.partitions (given_st a before rest x h parts st f s shown (cache_left a before rest x h parts st f)) y (suc x.thread) + named_in y (gone ∷ []) ≤ in_lists a.partitions (given_st a before rest x h parts st f s shown list_back_with) y (suc x.thread)
+      in_lists a.partitions (given_st a before rest x h parts st f s shown (cache_left a before rest x h parts st f)) y (suc x.thread) +
+      named_in y (gone ∷ []) ≤ in_lists a.partitions (given_st a before rest x h parts st f s shown list_back_with) y (suc x.thread)
   lists_fall same y =
       let cache = st.caches x.thread in
       let xs : List Numbered = record { slot = slot.slot; number = 0 } ∷ cache p 0 in
@@ -123,26 +124,32 @@ module _ (a : Parts) (before rest : List Played) (x : Played) (h : IsFiled a) (p
       let here = lists_here a before rest x h parts st f s shown st.content y in
       let there = lists_mine a before rest x h parts st f s shown list_back_with y in
       let named : named_in y (gone ∷ []) ≡ once y slot.slot + 0 = refl in
-      let fall = less_lists a.partitions p 0 y list_back_with (cache_left a before rest x h parts st f) (cache p 0) (once y slot.slot) (omega arith) inside (λ q c. same q c ∙ list_back cache p 0 xs q c) (omega arith) in
+      let fall = less_lists a.partitions p 0 y list_back_with (cache_left a before rest x h parts st f) (cache p 0) (once y slot.slot)
+      (omega arith) inside (λ q c. same q c ∙ list_back cache p 0 xs q c) (omega arith) in
       omega arith
 
   -- ---- the line
 
   pub map_goes : SameLists (cache_left a before rest x h parts st f) (st.caches x.thread) → (mid : State) →
       IsShown (titles_in a (root_at a x.line)) (a.threads + 1) (2097152 * a.supers) (ledger_of a.partitions (given_st a before rest x h parts st f s shown list_back_with)) mid →
-      (after : State) × IsReached (names_next a before rest x h parts st f s shown) (a.threads + 1) (2097152 * a.supers) (ledger_of a.partitions (given_st a before rest x h parts st f s shown (cache_left a before rest x h parts st f))) mid (suc x.thread) after
+      (after : State) × IsReached (names_next a before rest x h parts st f s shown) (a.threads + 1) (2097152 * a.supers)
+      (ledger_of a.partitions (given_st a before rest x h parts st f s shown (cache_left a before rest x h parts st f))) mid
+      (suc x.thread) after
   map_goes same mid now =
       let actors = a.threads + 1 in
       let bytes = 2097152 * a.supers in
       let ledger = ledger_of a.partitions (given_st a before rest x h parts st f s shown (cache_left a before rest x h parts st f)) in
       let names_mid = keeping (titles_in a (root_at a x.line)) (kept_with (KeptIn (root_at a x.line)) (gone ∷ [])) in
-      let (back, b) = titles_back a before rest x h parts st f s shown (gone ∷ []) list_back_with mid now (λ t member. subst (λ v. MadeIn a v) (in_one gone t member) (p, gone_made)) (lists_fall same) in
+      let (back, b) = titles_back a before rest x h parts st f s shown (gone ∷ []) list_back_with mid now
+      (λ t member. subst (λ v. MadeIn a v) (in_one gone t member) (p, gone_made)) (lists_fall same) in
       let (after, run, raw) = uncut_shown names_mid (KeptIn (root_at a (x.line + 1))) actors bytes ledger back gone b.shown (omega arith) (b.shown.kept gone (inr (first_in gone []))) kept_next in (
         after,
         record {
           events = b.events ++ Uncut 0 gone ∷ [];
           run = run_join mid back after b.events (Uncut 0 gone ∷ []) now.good b.run run;
           beside = beside_both (suc x.thread) b.events (Uncut 0 gone ∷ []) b.beside (inl refl, tt);
-          shown = renamed (without_title names_mid gone (KeptIn (root_at a (x.line + 1)))) (names_next a before rest x h parts st f s shown) actors bytes ledger after (λ u made. made) (λ u there. there_next u there.0 there.1) (λ u kept. kept) raw;
+          shown = renamed (without_title names_mid gone (KeptIn (root_at a (x.line + 1))))
+              (names_next a before rest x h parts st f s shown) actors bytes ledger after (λ u made. made)
+              (λ u there. there_next u there.0 there.1) (λ u kept. kept) raw;
         },
       )

@@ -74,7 +74,8 @@ module _ (names : Titles) (actors bytes : ℕ) (b : Ledger) (s : State) (shown :
 abbrev pub HasUsable : List Played → SlotName → ℕ → Type 0
 HasUsable ps y n = (q : Played) × (seen : Seen) × Contains ps q × (q.answer ≡ answers.Made seen n) × (seen.slot ≡ y)
 
-usable_step : (answer : Answer) (y : SlotName) (n : ℕ) → ((seen : Seen) × (usable : ℕ) × (answer ≡ answers.Made seen usable) × (seen.slot ≡ y) × (usable_or (made_of answer) y n ≡ usable)) ⊎ (usable_or (made_of answer) y n ≡ n)
+usable_step : (answer : Answer) (y : SlotName) (n : ℕ) → ((seen : Seen) × (usable : ℕ) × (answer ≡ answers.Made seen usable)
+    × (seen.slot ≡ y) × (usable_or (made_of answer) y n ≡ usable)) ⊎ (usable_or (made_of answer) y n ≡ n)
 usable_step (answers.Made seen usable) y n = elim (same_slot_cases seen.slot y) [
   | inl e ↦ inl (seen, usable, refl, e, rw (same_slot_yes seen.slot y e) refl)
   | inr ne ↦ inr (rw (same_slot_no seen.slot y ne) refl)

@@ -24,19 +24,23 @@ use Rattle.pa_core_run.proofs.Unmapped.{map_returns}
 use Rattle.pa_core_run.proofs.Purged.{purged_record_plays}
 use Rattle.pa_core_run.proofs.Walking.{walks_whole}
 
-module _ (a : Parts) (before rest : List Played) (x : Played) (h : IsFiled a) (some : 1 ≤ a.partitions) (parts : a.ps ≡ before ++ x ∷ rest) (s : State) (shows : ShowsFront a x.line before (x ∷ rest) s) where
+module _ (a : Parts) (before rest : List Played) (x : Played) (h : IsFiled a) (some : 1 ≤ a.partitions)
+    (parts : a.ps ≡ before ++ x ∷ rest) (s : State) (shows : ShowsFront a x.line before (x ∷ rest) s) where
   abbrev Plays_it : Type 0
   Plays_it = Outcome a before rest x h parts shows.st shows.front s shows.shown
 
   -- the row of the lists, by the answer
   row_as : (answer : Answer) → x.answer ≡ answer → CacheRow a.partitions a.roots x answer (shows.st.caches x.thread) (cache_left a before rest x h parts shows.st shows.front)
-  row_as answer is = subst (λ z. CacheRow a.partitions a.roots x z (shows.st.caches x.thread) (cache_left a before rest x h parts shows.st shows.front)) is (cache_row a before rest x h parts shows.st shows.front)
+  row_as answer is = subst (λ z. CacheRow a.partitions a.roots x z (shows.st.caches x.thread)
+      (cache_left a before rest x h parts shows.st shows.front)) is (cache_row a before rest x h parts shows.st shows.front)
 
   -- an answer whose row has no entry
-  quiet : (answer : Answer) → x.answer ≡ answer → (CacheRow a.partitions a.roots x answer (shows.st.caches x.thread) (cache_left a before rest x h parts shows.st shows.front) → NoActs a.roots x.line) → Plays_it
+  quiet : (answer : Answer) → x.answer ≡ answer → (CacheRow a.partitions a.roots x answer (shows.st.caches x.thread)
+      (cache_left a before rest x h parts shows.st shows.front) → NoActs a.roots x.line) → Plays_it
   quiet answer is none = quiet_plays a before rest x h some parts (none (row_as answer is)) s shows
 
-  done : (o : Option Step) (seen : Seen) → step_of x.op ≡ o → x.answer ≡ answers.Done seen → DoneRow a.roots x o seen (shows.st.caches x.thread) (cache_left a before rest x h parts shows.st shows.front) → Plays_it
+  done : (o : Option Step) (seen : Seen) → step_of x.op ≡ o → x.answer ≡ answers.Done seen
+      → DoneRow a.roots x o seen (shows.st.caches x.thread) (cache_left a before rest x h parts shows.st shows.front) → Plays_it
   done None seen makes answer (none, same) = quiet_plays a before rest x h some parts none s shows
   done (Some step) seen makes answer (inr (other, none, same)) = quiet_plays a before rest x h some parts none s shows
   done (Some step) seen makes answer (inl (returning, inl (p, class, of, only, becomes))) =

@@ -31,7 +31,8 @@ one_poisoned s actor t a good has own room =
     let some : Holds r.0 actor (OwnAs t (Poisoned (progress a + 1))) = omega arith in (
       r.0,
       subst (λ (v : ℕ). IsTurn s actor t (OwnPiece t a ∷ []) (OwnPiece t (Poisoned (1 + progress a)) ∷ []) v (poisons 1 actor t) r.0) w
-          (subst (λ (k : ℕ). IsTurn s actor t (OwnPiece t a ∷ []) (OwnPiece t (Poisoned k) ∷ []) (count_word (set s.words (content_place t (progress a)) poison) t) (poisons 1 actor t) r.0) e r.1.turn),
+          (subst (λ (k : ℕ). IsTurn s actor t (OwnPiece t a ∷ []) (OwnPiece t (Poisoned k) ∷ [])
+          (count_word (set s.words (content_place t (progress a)) poison) t) (poisons 1 actor t) r.0) e r.1.turn),
       subst (λ (k : ℕ). Holds r.0 actor (OwnAs t (Poisoned k))) e some,
     )
 
@@ -48,7 +49,8 @@ poisoned (suc n) s actor t a good has own room =
     let has2 = turn_actor s mid actor t _ _ _ _ has r.1 in
     let q = poisoned n mid actor t (Poisoned (1 + progress a)) good2 has2 r.2 (omega arith) in
     let e : suc n + (1 + progress a) ≡ suc (suc n) + progress a = omega arith in
-    let turn = turn_then s mid q.0 actor t (OwnPiece t a ∷ []) (OwnPiece t (Poisoned (1 + progress a)) ∷ []) (OwnPiece t (Poisoned (suc n + (1 + progress a))) ∷ []) _ _ (poisons 1 actor t) (poisons (suc n) actor t) good r.1 q.1 in (
+    let turn = turn_then s mid q.0 actor t (OwnPiece t a ∷ []) (OwnPiece t (Poisoned (1 + progress a)) ∷ [])
+    (OwnPiece t (Poisoned (suc n + (1 + progress a))) ∷ []) _ _ (poisons 1 actor t) (poisons (suc n) actor t) good r.1 q.1 in (
       q.0,
       subst (λ (v : ℕ). IsTurn s actor t (OwnPiece t a ∷ []) (OwnPiece t (Poisoned (suc (suc n) + progress a)) ∷ []) v (poisons (suc (suc n)) actor t) q.0) r.1.word_left
           (subst (λ (k : ℕ). IsTurn s actor t (OwnPiece t a ∷ []) (OwnPiece t (Poisoned k) ∷ []) (count_word mid.words t) (poisons (suc (suc n)) actor t) q.0) e turn),
@@ -85,5 +87,6 @@ frees_can_happen s actor t good has own can =
     good2 held2 (omega arith, omega arith) has2 (lose_own mid actor t (Poisoned n) r.2) (has2, r.2, can2) (λ after h. h) in
     let left = word_written mid.words t (stepped Free (count_word mid.words t)) (good2.divided.well t held2) in
     let P : ℕ → Type 0 = λ w. IsTurn mid actor t (OwnPiece t (Poisoned n) ∷ []) (returned_at (stepped Free w) t) (stepped Free w) (Count actor t Free ∷ []) q.0 in
-    let step : P (count_word mid.words t) = subst (λ (v : ℕ). IsTurn mid actor t (OwnPiece t (Poisoned n) ∷ []) (returned_at (stepped Free (count_word mid.words t)) t) v (Count actor t Free ∷ []) q.0) left q.1.turn in
+    let step : P (count_word mid.words t) = subst (λ (v : ℕ). IsTurn mid actor t (OwnPiece t (Poisoned n) ∷ [])
+    (returned_at (stepped Free (count_word mid.words t)) t) v (Count actor t Free ∷ []) q.0) left q.1.turn in
     (q.0, record { mid = mid; between = OwnPiece t (Poisoned n) ∷ []; prepares = r.1; steps = subst P word step })

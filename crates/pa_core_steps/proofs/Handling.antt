@@ -34,7 +34,8 @@ pub resets_can_happen : ResetsCanHappen
 resets_can_happen s actor t good has ref can =
     let held = ref_title s actor t ref in
     let v = stepped Reset (count_word s.words t) in
-    let r = step_of s actor t (RefPiece t ∷ []) (returned_at v t) (count_place t) v (Count actor t Reset) good held (omega arith, omega arith) has (lose_ref s actor t ref) (has, ref, can) (λ after h. h) in
+    let r = step_of s actor t (RefPiece t ∷ []) (returned_at v t) (count_place t) v (Count actor t Reset) good held
+    (omega arith, omega arith) has (lose_ref s actor t ref) (has, ref, can) (λ after h. h) in
     let left = word_written s.words t v (good.divided.well t held) in (
       r.0,
       record {

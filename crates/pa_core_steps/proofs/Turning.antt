@@ -20,7 +20,8 @@ pub turn_then : (s mid after : State) (actor : ℕ) (t : Title) (lost gained las
     IsTurn s actor t lost gained v es mid → IsTurn mid actor t gained last w fs after → IsTurn s actor t lost last w (es ++ fs) after
 turn_then s mid after actor t lost gained last v w es fs good a b = record {
   run = run_join s mid after es fs good a.run b.run;
-  holdings = exchanges_then s.holdings mid.holdings after.holdings (of_actor actor lost) (of_actor actor gained) (of_actor actor gained) (of_actor actor last) (of_actor actor lost) (of_actor actor last) a.holdings b.holdings (λ k x. omega arith);
+  holdings = exchanges_then s.holdings mid.holdings after.holdings (of_actor actor lost) (of_actor actor gained) (of_actor actor gained)
+      (of_actor actor last) (of_actor actor lost) (of_actor actor last) a.holdings b.holdings (λ k x. omega arith);
   word_left = b.word_left;
   others = λ q out. b.others q out ∙ a.others q out;
 }

@@ -74,6 +74,10 @@ pub data HasOrigin (cells : ℕ → List CellEntry) (ps : List Played) : Played 
   ByExchange : {x : Played} {line : ℕ} (y z : Played) (reg : ℕ) → first_register x.op ≡ Some reg → IsLastPut cells ps x reg y →
       IsGivenBy cells ps y z → HasOrigin cells ps z line → HasOrigin cells ps x line
 
+-- what is known of the records of a trace of some version
+abbrev pub HaveHandlesOf : (ℕ → List CellEntry) → List Played → Type 0
+HaveHandlesOf cells ps = (version : ℕ) × HaveHandles version cells ps
+
 -- What a legal run says of origins.
 --   each: the raw_ptr through which a record used a slot in quarantine has one
 --   one: and no other

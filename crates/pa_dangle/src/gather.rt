@@ -8,11 +8,10 @@ ghost use Rattle.pa_rules.specs.Cells.{history_at};
 ghost use Rattle.pa_rules.specs.Played.{mark_of, marks_of};
 ghost use Rattle.pa_rules.specs.RecordDemands.{IsRecord};
 ghost use Rattle.pa_rules.specs.Rising.{RiseByLine};
-ghost use Rattle.pa_legal.specs.Owners.{HaveHandles};
 ghost use Rattle.pa_audit_records.specs.Rows.{IsPlayedWithin};
 ghost use Rattle.pa_dangle.specs.declared.numbers.Kind.TheVariants.{Issued, Freed};
 ghost use Rattle.pa_dangle.specs.Collected.{AreCollected, IsNoUse, IsPairFrom, rank_of};
-ghost use Rattle.pa_dangle.specs.Origins.{HasOrigin};
+ghost use Rattle.pa_dangle.specs.Origins.{HasOrigin, HaveHandlesOf};
 ghost use Rattle.pa_dangle.specs.Pairs.{AreFound, keeps_slot, use_by};
 ghost use Rattle.pa_dangle.specs.Steps.{seen_by_answer, AreStepsOf, SawUse};
 ghost use Rattle.pa_dangle.specs.Ways.{AreWays};
@@ -148,7 +147,7 @@ fn found_at(
     told: Played,
     at: u32,
 ) -> Option<Pair>
-    requires handles { HaveHandles 1 (history_at cells.now) records.now }
+    requires handles { HaveHandlesOf (history_at cells.now) records.now }
     requires issues { AreStepsOf Issued records.now (get nat_cmp issues.now) (length records.now) }
     requires frees { AreStepsOf Freed records.now (get nat_cmp frees.now) (length records.now) }
     requires ways { AreWays (history_at cells.now) records.now ways.old (length records.now) }
@@ -178,7 +177,7 @@ fn uses_none(records: &[Played]) -> bool
 fn collect(alloc: Global, records: &[Played], cells: &[History]) -> Result<Vec<Pair>, OutOfMemory>
     requires few { length records.now < 2 ^ 32 }
     requires within { All IsPlayedWithin records.now }
-    requires handles { HaveHandles 1 (history_at cells.now) records.now }
+    requires handles { HaveHandlesOf (history_at cells.now) records.now }
     ensures { IfOk result (λ pairs. AreCollected (history_at cells.now) records.now pairs.items (length records.now)) }
 {
     if uses_none(records) {
@@ -224,7 +223,7 @@ pub fn pairs_of(
 ) -> Result<Found, OutOfMemory>
     requires few { length records.now < 2 ^ 32 }
     requires within { All IsPlayedWithin records.now }
-    requires handles { HaveHandles 1 (history_at cells.now) records.now }
+    requires handles { HaveHandlesOf (history_at cells.now) records.now }
     ensures found { IfOk result (λ f. AreFound (history_at cells.now) records.now f.pairs.items f.freed) }
     ensures left { IfOk result (λ f. f.left ≡ left) }
 {

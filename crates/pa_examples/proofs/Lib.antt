@@ -1,3 +1,4 @@
 pub mod worked
 pub mod wrong
 pub mod told
+pub mod FirstVersion

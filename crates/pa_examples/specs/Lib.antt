@@ -7,4 +7,5 @@ pub mod WorkedKnown
 pub mod WorkedEarly
 pub mod WorkedPlayed
 pub mod WrongRuns
+pub mod FirstVersion
 pub mod told

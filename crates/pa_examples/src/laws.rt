@@ -1,3 +1,4 @@
+ghost use Rattle.pa_examples.specs.FirstVersion.{FirstVersionIsKept};
 ghost use Rattle.pa_examples.specs.Worked.{DirectMapIsFiled, DirectMapIsTold, TwoThreadsAreLegal, TwoThreadsAreTold};
 ghost use Rattle.pa_examples.specs.WorkedEarly.{EarlyReadIsLegal, EarlyReadIsTold};
 ghost use Rattle.pa_examples.specs.WorkedHeld.{MapIsHeld, WordsAreHeld};
@@ -158,4 +159,10 @@ pub fn purge_closes()
 /// and uncut the two that went back. So the words at the end hold the run.
 pub fn direct_map_closes()
     ensures { DirectMapIsClosed }
+{}
+
+/// Version 2 left version 1 as it was: which class a request has, how many slots of a class a thread keeps, and what sums and purges
+/// over all classes come to.
+pub fn first_version_is_kept()
+    ensures { FirstVersionIsKept }
 {}

@@ -71,7 +71,8 @@ module _ (t : Trace) (c : Course) (v : View) (limits : IsWithinLimits t) (course
     phase_none n high few none =
         let k = m.stake in
         let is = starts_of t c limits course k n high few in
-        let sees = sees_then (c.ends (suc n) k).stock.view (c.seats (suc n)) v ((course.tells (suc n) (omega arith) high).sees k few) (sees_last t c limits course v closes (suc n) (omega arith) high) in
+        let sees = sees_then (c.ends (suc n) k).stock.view (c.seats (suc n)) v ((course.tells (suc n) (omega arith) high).sees k few)
+        (sees_last t c limits course v closes (suc n) (omega arith) high) in
         plays_none (c.starts (suc n) k) (c.ends (suc n) k) (c.plays (suc n) k) (course.plays (suc n) k (omega arith) high few) is.many is.thread sees none
 
     ends_none : (n : ℕ) → suc n ≤ phases_in t.lines → m.stake < t.threads → entered_in p (log_of m.stake (c.ends (suc n) m.stake).stock.view) ≡ []

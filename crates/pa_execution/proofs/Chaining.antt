@@ -150,7 +150,8 @@ module _ (t : Trace) (c : Course) (limits : IsWithinLimits t) (course : IsCourse
 
     last_logs : (k m : ℕ) → phases_in t.lines ≡ suc m → log_of k v ≡ told_log k (told_in t c)
     last_logs k m is =
-        closes.logs k ∙ (ap (λ n. log_of k (c.seats n)) is ∙ (seat_logs m k (omega arith) ∙ (ap (λ n. told_log k (told_until n (told_in t c))) (sym is) ∙ ap (told_log k) (all_until t c limits course))))
+        closes.logs k ∙ (ap (λ n. log_of k (c.seats n)) is ∙ (seat_logs m k (omega arith)
+        ∙ (ap (λ n. told_log k (told_until n (told_in t c))) (sym is) ∙ ap (told_log k) (all_until t c limits course))))
 
     pub has_last : HasLogs v (told_in t c)
     has_last =

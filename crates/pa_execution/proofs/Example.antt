@@ -1,5 +1,5 @@
 -- The small execution meets all that is required of an execution.
-use Rattle.std.proofs.Common.{◌≡◌, ℕ, ◌<◌, ◌≤◌, List, [], ◌∷◌, ltb, eqb, map, filter, replicate, refl, sym, ◌∙◌, ap, subst, arith, inl, inr, append-nil}
+use Rattle.std.proofs.Common.{◌≡◌, ℕ, ◌<◌, ◌≤◌, List, [], ◌∷◌, eqb, map, filter, replicate, refl, sym, ◌∙◌, ap, subst, arith, inl, inr, append-nil}
 use Rattle.std.specs.Prelude.{◌+◌, Contains}
 use Rattle.std.proofs.lemmas.Bool.{cases_Bool, cases_lt, cases_eq}
 use Rattle.pa_buckets.specs.Table.{rows, row_of, slot_of}
@@ -22,6 +22,7 @@ use Rattle.pa_op_specs.specs.Counts.{CountsBy}
 use Rattle.pa_op_specs.specs.Booking.{BooksBy}
 use Rattle.pa_op_specs.specs.Stocks.{titles_in}
 use Rattle.pa_op_specs.specs.Outcomes.{Outcome, FitsRun}
+use Rattle.pa_rules.specs.Sizes.{is_class}
 use Rattle.pa_op_specs.specs.Plays.{Does, PlaysAll}
 use Rattle.pa_execution.specs.Courses.{IsCourse, Closes, HasSeenAll, HasHeardAll, Hears, BeginsNew, lines_in}
 use Rattle.pa_execution.specs.Merged.{told_in, lists_at, IsLeftBehind}
@@ -47,6 +48,7 @@ does : (n : ℕ) → Does small_stock small_stock (small_record n)
 does n = record {
   thread = refl;
   same = (refl, refl);
+  version = refl;
   stakes = λ k. refl;
   logs = λ k. elim (cases_Bool (eqb k 0)) [
     | inl y ↦ rw y (sym (append-nil (log_of k small_view)))
@@ -63,6 +65,7 @@ does n = record {
   };
   enters = record {
     lines = λ q m among. absurd (not_in_none m among);
+    fills = λ p m e low among. absurd (not_in_none m among);
     asked = (record { roots = λ p. []; pools = []; roots_are = λ p low. refl; pools_are = refl }, inl (record { pools = refl; roots = λ p. refl }));
     refused = λ j reg p size full op. absurd cc;
     uncuts = λ u among. absurd (not_in_none _ among);
@@ -117,15 +120,15 @@ two_phases P a b n low high = elim (cases_eq n 1) [
   | inr ne ↦ let e : n ≡ 2 = omega arith in subst P (sym e) b
 ]
 
-no_titles : (p class : ℕ) → titles_in [] p class ≡ []
-no_titles p class = elim (cases_Bool (ltb class 59)) [ inl y ↦ rw y refl | inr m ↦ rw m refl ]
+no_titles : (p class : ℕ) → titles_in (record { version = 1; lists = [] }) p class ≡ []
+no_titles p class = elim (cases_Bool (is_class 1 class)) [ inl y ↦ rw y refl | inr m ↦ rw m refl ]
 
-begins : BeginsNew 0 1 (small_worker [])
+begins : BeginsNew 0 1 1 (small_worker [])
 begins = record {
   lines = 2;
   view = small_view;
   new = record {
-    stock = record { thread_is = refl; partitions_are = refl; view = refl; registers = λ i. refl; lists = no_titles };
+    stock = record { thread_is = refl; partitions_are = refl; version_is = refl; view = refl; registers = λ i. refl; lists = no_titles };
     records = refl;
     room = refl;
     going = refl;
@@ -140,11 +143,18 @@ plays = two_phases (λ n. PlaysAll (small_worker (small_before n)) (small_record
     (small_worker (small_until 1), record { records = refl; does = does 1; counts = λ o fits. no_counts o 1; bytes = λ o fits. no_bytes o 1 }, refl)
     (small_worker (small_until 2), record { records = refl; does = does 2; counts = λ o fits. no_counts o 2; bytes = λ o fits. no_bytes o 2 }, refl)
 
-lines : (n k : ℕ) → 1 ≤ n → n ≤ 2 → k < 1 → record { line = small_line n; thread = 0; phase = n; rules = first_rules 1; op = (small_record n).played.op } ∷ [] ≡ lines_in (rules_of small_trace) small_trace.lines n k
+lines : (n k : ℕ) → 1 ≤ n → n ≤ 2 → k < 1 → record {
+  line = small_line n;
+  thread = 0;
+  phase = n;
+  rules = first_rules 1;
+  op = (small_record n).played.op;
+} ∷ [] ≡ lines_in (rules_of small_trace) small_trace.lines n k
 lines n k low high few =
     let first : 0 ≡ k = omega arith in
     subst (λ j. record { line = small_line n; thread = 0; phase = n; rules = first_rules 1; op = (small_record n).played.op } ∷ [] ≡ lines_in (rules_of small_trace) small_trace.lines n j) first
-    (two_phases (λ m. record { line = small_line m; thread = 0; phase = m; rules = first_rules 1; op = (small_record m).played.op } ∷ [] ≡ lines_in (rules_of small_trace) small_trace.lines m 0) refl refl n low high)
+    (two_phases (λ m. record { line = small_line m; thread = 0; phase = m; rules = first_rules 1; op = (small_record m).played.op } ∷ [] ≡
+    lines_in (rules_of small_trace) small_trace.lines m 0) refl refl n low high)
 
 tells : (n : ℕ) → HasHeardAll 1 (λ k. small_worker (small_until n)) small_seat
 tells n = record {
@@ -163,7 +173,7 @@ hears n k low high =
 
 course : IsCourse small_trace 2 small_course
 course = record {
-  begins = λ k few. let first : 0 ≡ k = omega arith in subst (λ j. BeginsNew j 1 (small_worker [])) first begins;
+  begins = λ k few. let first : 0 ≡ k = omega arith in subst (λ j. BeginsNew j 1 1 (small_worker [])) first begins;
   plays = λ n k low high few. plays n low high;
   lines = lines;
   settled = λ n k low high few. refl;
@@ -177,7 +187,7 @@ closes = record { aware = seat_aware; every = every; logs = λ k. refl; sees = s
 
 limits : IsWithinLimits small_trace
 limits = record {
-  version = refl;
+  version = (omega arith, omega arith);
   head = ((omega arith, omega arith), (omega arith, omega arith), (omega arith, omega arith));
   lines = ((omega arith, (omega arith, omega arith)), (tt, ((omega arith, (omega arith, omega arith)), tt)));
   few = omega arith;

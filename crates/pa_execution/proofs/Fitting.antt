@@ -1,8 +1,10 @@
 -- The run that an execution became fits each worker: what its seat has seen of the lists is in it, and the acts of a line are those
 -- that its record entered.
-use Rattle.std.proofs.Common.{◌≡◌, ℕ, zero, suc, ◌<◌, ◌≤◌, List, [], ◌∷◌, ◌++◌, length, map, Some, slice_get, refl, sym, ◌∙◌, ap, arith, inl, inr}
+use Rattle.std.proofs.Common.{◌≡◌, ℕ, zero, suc, ◌<◌, ◌≤◌, List, [], ◌∷◌, ◌++◌, length, map, Some, slice_get, refl, sym, ◌∙◌, ap, subst, arith, inl, inr}
 use Rattle.std.specs.Prelude.{Contains}
 use Rattle.std.proofs.lemmas.Bool.{cases_lt}
+use Rattle.pa_lists.proofs.Members.{in_cases, not_in_none, first_in, later_in}
+use Rattle.pa_lists.proofs.Joined.{map_in}
 use Rattle.std.proofs.lemmas.List.{append_assoc}
 use Rattle.pa_record.specs.declared.pool.PoolEntry.{PoolEntry}
 use Rattle.pa_record.specs.declared.root.RootEntry.{RootEntry}
@@ -11,20 +13,23 @@ use Rattle.pa_record.proofs.OneEntry.{one_root, one_pool, one_cell}
 use Rattle.pa_region.specs.declared.view.Made.{Made}
 use Rattle.pa_region.specs.declared.view.View.{View}
 use Rattle.pa_region.specs.Lists.{list_of, IsBeginning}
+use Rattle.pa_trace.specs.declared.script.Rules.{Rules}
 use Rattle.pa_trace.specs.declared.script.Trace.{Trace}
+use Rattle.pa_trace.specs.Rules.{rules_of}
 use Rattle.pa_rules.specs.Legal.{phases_in}
 use Rattle.pa_rules.specs.Roots.{Names}
 use Rattle.pa_rules.specs.Told.{Told}
-use Rattle.pa_logs.specs.Told.{ToldRecord, AreLogs}
+use Rattle.pa_rules.proofs.Ruling.{record_rules}
+use Rattle.pa_logs.specs.Told.{ToldRecord, AreLogs, played_in}
 use Rattle.pa_logs.specs.Listed.{IsListOf}
 use Rattle.pa_logs.specs.Seats.{AreOfThreads, AreOfLines}
 use Rattle.pa_logs.specs.Indices.{StandsAt, AreAsked, AreLists}
 use Rattle.pa_logs.proofs.Indexing.{entry_there, indices_follow}
-use Rattle.pa_logs.proofs.Listing.{acts_are_theirs}
+use Rattle.pa_logs.proofs.Listing.{acts_are_theirs, lines_have_theirs}
 use Rattle.pa_logs.proofs.Seating.{seats_know}
 use Rattle.pa_cells.specs.Cells.{Exchange, made_with_cell}
 use Rattle.pa_cells.proofs.Histories.{stands_at}
-use Rattle.pa_op_specs.specs.Outcomes.{IsOutcome, IsSeenOf}
+use Rattle.pa_op_specs.specs.Outcomes.{IsOutcome, IsSeenOf, FillsFrom}
 use Rattle.pa_op_specs.specs.Plays.{AnswersIn}
 use Rattle.pa_op_specs.specs.Following.{FitsAll}
 use Rattle.pa_op_specs.proofs.Following.{seen_before}
@@ -33,7 +38,7 @@ use Rattle.pa_execution.specs.Merged.{told_in, outcome_of}
 use Rattle.pa_execution.specs.Telling.{IsWholeRun}
 use Rattle.pa_execution.proofs.Bounding.{courses_leave_none_past}
 use Rattle.pa_execution.proofs.Chaining.{was_played, starts_of, sees_last, has_last}
-use Rattle.pa_execution.proofs.Grouping.{rising, within, in_group, from_group}
+use Rattle.pa_execution.proofs.Grouping.{are_lines, rising, within, in_group, from_group}
 use Rattle.pa_execution.proofs.Leading.{answer_of}
 use Rattle.pa_execution.proofs.Lengthening.{handed_out, handed_home}
 use Rattle.pa_execution.proofs.Playing.{HasPlayed, sees_then}
@@ -50,6 +55,19 @@ numbered_at numbers list older rest es m e one same at says =
 none_numbered : (es : List RootEntry) → map root_numbers es ≡ [] → es ≡ []
 none_numbered [] none = refl
 none_numbered (e ∷ es) none = absurd cc
+
+-- an entry that a list in numbers has is one of its entries
+from_numbers : (list : List Made) (es : List RootEntry) (e : RootEntry) → map (λ (n : Made). n.numbers) list ≡ map root_numbers es → Contains es e →
+    (m : Made) × Contains list m × (m.numbers ≡ root_numbers e)
+from_numbers list [] e same among = absurd (not_in_none e among)
+from_numbers [] (f ∷ es) e same among = absurd cc
+from_numbers (m ∷ ms) (f ∷ es) e same among =
+    let head : m.numbers ≡ root_numbers f = cc in
+    let tail : map (λ (n : Made). n.numbers) ms ≡ map root_numbers es = cc in
+    elim (in_cases f e es among) [
+      | inl is ↦ (m, first_in m ms, head ∙ ap root_numbers is)
+      | inr later ↦ (let (n, there, says) = from_numbers ms es e tail later in (n, later_in m n ms there, says))
+    ]
 
 -- what is in a list is in a longer one
 pub stands_longer : (list longer : List Made) (m : Made) (i : ℕ) → IsBeginning list longer → StandsAt list m i → StandsAt longer m i
@@ -146,10 +164,26 @@ module _ (t : Trace) (r : Told) (c : Course) (v : View) (xs : List Exchange) (ru
   once : (j p q i k : ℕ) (e : PoolEntry) → slice_get r.pools j ≡ Some e → Names r.roots p i j → Names r.roots q k j → (p ≡ q) × (i ≡ k)
   once j p q i k e at first second = indices_follow.once (λ n. list_of n v) r.pools r.roots ts j p q i k e are_lists asked at first second
 
+  -- all records are played by the trace's rules
+  pub by_rules : (x : ToldRecord) → Contains ts x → x.played.rules ≡ rules_of t
+  by_rules x among =
+      record_rules (rules_of t) t.lines (played_in ts) x.played (are_lines t c run.left.limits run.course) (map_in (λ (z : ToldRecord). z.played) ts x among)
+
+  -- journals fill from the classes of the trace's version alone, since each fill is of a record
+  fills : (p : ℕ) (e : RootEntry) → Contains (r.roots p) e → FillsFrom t.version e.act
+  fills p e among = elim (cases_lt p 4) [
+    | inl low ↦
+        let (m, there, says) = from_numbers (list_of p v) (r.roots p) e (run.left.lists p low) among in
+        let (x, member, of, entered) = lines_have_theirs.each p (list_of p v) ts m (list_is p) there in
+        subst (λ (k : Rules). FillsFrom k.version e.act) (by_rules x member) ((played x member).one.does.enters.fills p m e low entered says)
+    | inr far ↦ absurd (not_in_none e (subst (λ (es : List RootEntry). Contains es e) (run.left.past p far) among))
+  ]
+
   pub is_outcome : IsOutcome (outcome_of t r)
   is_outcome = record {
     few = run.left.limits.head.1.1;
     past = none_past;
+    fills = fills;
     lengths = λ p e class u among out. handed_out t.partitions r.pools r.roots run.left.journals none_past once p e class u among out;
     homes = λ p e class u among out. handed_home t.partitions r.pools r.roots run.left.journals none_past once p e class u among out;
   }
@@ -166,6 +200,7 @@ module _ (t : Trace) (r : Told) (c : Course) (v : View) (xs : List Exchange) (ru
   pub fits : (n k : ℕ) → 1 ≤ n → n ≤ phases → k < t.threads → FitsAll (outcome_of t r) (c.starts n k).stock.partitions (c.ends n k).stock.view (c.plays n k)
   fits n k low high few = record {
     many = sym (starts_many n k low high few);
+    rules = λ x among. by_rules x (from_group t c run.left.limits run.course n k x low high few among);
     run = is_outcome;
     seen = seen_before (outcome_of t r) (c.ends n k).stock.view v (end_sees n k low high few).lists seen_of_it;
     acts = λ x among p entries small same.

@@ -77,7 +77,8 @@ module _ (t : Trace) (c : Course) (limits : IsWithinLimits t) (course : IsCourse
 
   lines_there : (o : OpLine) → Contains (op_lines (rules_of t) 2 1 t.lines) o → IsThere o.phase o.thread
   lines_there o among =
-      let is = records_due t (map some_record (op_lines (rules_of t) 2 1 t.lines)) (some_record o) limits (lines_again (op_lines (rules_of t) 2 1 t.lines)) (map_in some_record (op_lines (rules_of t) 2 1 t.lines) o among) in
+      let is = records_due t (map some_record (op_lines (rules_of t) 2 1 t.lines)) (some_record o) limits
+      (lines_again (op_lines (rules_of t) 2 1 t.lines)) (map_in some_record (op_lines (rules_of t) 2 1 t.lines) o among) in
       (is.low, is.high, is.thread)
 
   pub are_lines : AreLines (rules_of t) t.lines (played_in (told_in t c))

@@ -7,7 +7,6 @@ use Rattle.pa_slot.specs.declared.title.Title.{Title}
 use Rattle.pa_trace.specs.Rules.{rules_of}
 use Rattle.pa_op_specs.specs.Following.{FitsAll}
 use Rattle.pa_op_specs.specs.Plays.{PlaysAll}
-use Rattle.pa_rules.specs.Sizes.{usable_of}
 use Rattle.pa_region.specs.declared.view.View.{View}
 use Rattle.pa_region.specs.Views.{seen_of}
 use Rattle.pa_trace.specs.declared.script.Trace.{Trace}
@@ -58,12 +57,10 @@ module _ (t : Trace) (r : Told) (c : Course) (v : View) (xs : List Exchange) (ru
 
   -- ---- rows of registers and of lists
 
-  -- the trace is of version 1, by which the ops of workers have their rows
+  -- the ops of workers have their rows by the trace's version
   rows_of_trace : (w u : WorkerValue) (ys : List ToldRecord) → PlaysAll w ys u → FitsAll (outcome_of t r) w.stock.partitions u.stock.view ys →
       RowsLead (sizes_in t r) (facts_in t r) (regs_of w.stock.registers) ys (regs_of u.stock.registers)
-  rows_of_trace w u ys plays fit =
-      subst (λ n. RowsLead (sizes_in t r) (record { usable_of = usable_of n; usable_at = λ s. sizes_in t r s - 8; cells = r.cells }) (regs_of w.stock.registers) ys (regs_of u.stock.registers))
-      (sym run.left.limits.version) (rows_lead (outcome_of t r) w u ys plays fit)
+  rows_of_trace w u ys plays fit = rows_lead (outcome_of t r) w u ys plays fit
 
   rows_until : (k n : ℕ) → suc n ≤ phases t r c v xs run → k < t.threads →
       RowsLead (sizes_in t r) (facts_in t r) (no_regs k) (so_far c.plays k (suc n)) (regs_of (c.ends (suc n) k).stock.registers)
@@ -171,7 +168,8 @@ module _ (t : Trace) (r : Told) (c : Course) (v : View) (xs : List Exchange) (ru
           let is = within t c run.left.limits run.course y second in
           let n = y.played.phase in
           let k = y.played.thread in
-          let here : Contains (c.plays n k) x = subst (λ m. Contains (c.plays m k) x) phase (subst (λ j. Contains (c.plays x.played.phase j) x) thread (in_group t c run.left.limits run.course x first)) in
+          let here : Contains (c.plays n k) x = subst (λ m. Contains (c.plays m k) x) phase
+          (subst (λ j. Contains (c.plays x.played.phase j) x) thread (in_group t c run.left.limits run.course x first)) in
           in_order (c.starts n k) (c.ends n k) (c.plays n k) x y u (run.course.plays n k is.low is.high is.thread) (group_rises t c run.left.limits run.course n k is.low is.high is.thread) here
           (in_group t c run.left.limits run.course y second) less
     ]

@@ -43,6 +43,7 @@ pub answer_of : (o : Outcome) (w v : WorkerValue) (xs : List ToldRecord) (x : To
     AnswersIn o p.before.stock p.after.stock x
 answer_of o w v xs x p fits among = p.one.does.answers o (record {
   many = fits.many ∙ sym p.many;
+  rules = fits.rules x among;
   run = fits.run;
   seen = seen_before o p.after.stock.view v.stock.view p.last.lists fits.seen;
   acts = fits.acts x among;

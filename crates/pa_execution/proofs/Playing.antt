@@ -1,5 +1,5 @@
 -- The records that a worker played, one by one: what its seat had seen, its log, and their order.
-use Rattle.std.proofs.Common.{◌≡◌, ℕ, ◌<◌, ◌≤◌, List, [], ◌∷◌, ◌++◌, flat_map, refl, sym, ◌∙◌, ap, subst, arith, inl, inr}
+use Rattle.std.proofs.Common.{◌≡◌, ℕ, ◌<◌, ◌≤◌, List, [], ◌∷◌, ◌++◌, flat_map, refl, sym, ◌∙◌, ap, ap₂, subst, arith, inl, inr}
 use Rattle.std.specs.Prelude.{Contains}
 use Rattle.std.proofs.lemmas.Bool.{eq-eqb}
 use Rattle.std.proofs.lemmas.List.{append-nil, append_assoc}
@@ -11,6 +11,7 @@ use Rattle.pa_region.specs.declared.view.View.{View}
 use Rattle.pa_region.specs.Takes.{log_of}
 use Rattle.pa_logs.specs.Told.{ToldRecord}
 use Rattle.pa_logs.specs.Listed.{AreRising}
+use Rattle.pa_op_specs.specs.Stocks.{rules_at}
 use Rattle.pa_op_specs.specs.Workers.{WorkerValue}
 use Rattle.pa_op_specs.specs.Plays.{PlaysOne, PlaysAll}
 use Rattle.pa_execution.specs.Courses.{HasSeenAll}
@@ -86,6 +87,13 @@ stays w v [] same = (ap (λ (z : WorkerValue). z.stock.thread) same, ap (λ (z :
 stays w v (x ∷ xs) (next, one, more) =
     let (thread, many) = stays next v xs more in
     (thread ∙ one.does.same.0, many ∙ one.does.same.1)
+
+-- it goes on by the same rules
+pub keeps_rules : (w v : WorkerValue) (xs : List ToldRecord) → PlaysAll w xs v → rules_at v.stock ≡ rules_at w.stock
+keeps_rules w v [] same = ap (λ (z : WorkerValue). rules_at z.stock) same
+keeps_rules w v (x ∷ xs) (next, one, more) =
+    keeps_rules next v xs more
+    ∙ ap₂ (λ version partitions. record { version = version; plain_from = partitions }) one.does.version one.does.same.1
 
 -- its log has the log segments more
 abbrev pub stretches : List ToldRecord → List Entry

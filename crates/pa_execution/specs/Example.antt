@@ -53,7 +53,7 @@ small_view = record {
 
 -- the state of thread 0: one partition, this view, no registers and no caches
 abbrev pub small_stock : StockValue
-small_stock = record { thread = 0; partitions = 1; view = small_view; registers = []; caches = [] }
+small_stock = record { thread = 0; partitions = 1; view = small_view; registers = []; caches = record { version = 1; lists = [] } }
 
 -- the worker with these records
 abbrev pub small_worker : List Entry → WorkerValue

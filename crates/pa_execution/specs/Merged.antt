@@ -49,10 +49,18 @@ swaps_of [] xs = []
 swaps_of (m ∷ ms) [] = []
 swaps_of (m ∷ ms) (x ∷ xs) = record { made = m; cell = x.cell; entry = x.entry } ∷ swaps_of ms xs
 
--- What the run became, as the ops of workers see it: each slot has the length and the partition that the journals say.
+-- What the run became, as the ops of workers see it, by the trace's rules: each slot has the length and the partition that the journals say.
 abbrev pub outcome_of : Trace → Told → Outcome
 outcome_of t r =
-    record { partitions = t.partitions; roots = r.roots; pools = r.pools; cells = r.cells; sizes = sizes_in t r; homes = homes_in t r }
+    record {
+      rules = rules_of t;
+      partitions = t.partitions;
+      roots = r.roots;
+      pools = r.pools;
+      cells = r.cells;
+      sizes = sizes_in t r;
+      homes = homes_in t r;
+    }
 
 -- The output is what the execution left. `v` is the seat that closes and `xs` are the exchanges.
 --   limits: the trace is within the limits

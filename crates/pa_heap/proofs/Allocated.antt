@@ -5,9 +5,10 @@ use Rattle.std.proofs.lemmas.List.Sums.{sum_by-append}
 use Rattle.pa_slot.specs.Holdings.{one}
 use Rattle.pa_slot.specs.declared.title.Title.{Title}
 use Rattle.pa_slot.specs.Titles.{IsWellFormed}
-use Rattle.pa_buckets.specs.Classes.{IsClassOf}
+use Rattle.pa_buckets.specs.Classes.{IsClassIn}
 use Rattle.pa_buckets.specs.Bands.{fill_of}
-use Rattle.pa_direct.specs.Shapes.{greatest_size, shape_of, IsDirectSize}
+use Rattle.pa_direct.specs.Shapes.{greatest_size, shape_of}
+use Rattle.pa_rules.specs.Sizes.{IsMapSize}
 use Rattle.pa_trace.specs.declared.script.Op.TheVariants as ops
 use Rattle.pa_record.specs.declared.entry.Answer.{Answer}
 use Rattle.pa_region.specs.declared.view.Stake.{Stake}
@@ -61,7 +62,7 @@ front_issues p c r t s mid front low came = record {
 }
 
 pub front_does : CountLeaves → (line size p c r : ℕ) (t : Title) (s mid after : StockValue) (answer : Answer) → TakesFront p c t s mid → p < s.partitions → Came s mid r →
-    size ≤ greatest_size → IsClassOf (max size 1 + 8) c → Issues (listed_slot p c t) r answer mid after → DoesOp line (ops.Alloc r p size) answer s after
+    size ≤ greatest_size → IsClassIn s.caches.version (max size 1 + 8) c → Issues (listed_slot p c t) r answer mid after → DoesOp line (ops.Alloc r p size) answer s after
 front_does counts line size p c r t s mid after answer front inner came few class issue =
     let low : p < 4 = let most = came.stock.partitions in omega arith in
     let can = front_issues p c r t s mid front low came in
@@ -85,7 +86,7 @@ fill_issues line p c r t s mid f low came =
     record {
       back = subst (λ (z : StockValue). IsBack (listed_slot p c t) z) (sym f.loaded.after_is)
           (back_relinked (listed_slot p c t) (record s { view = united f.asked f.note; caches = with_listed p c f.rest s.caches }) mid.view re
-          (fill_back line p c s f.asked f.note t f.rest f.gives came.stock awares f.long low f.small));
+          (fill_back line p c s f.asked f.note t f.rest f.gives came.stock awares f.long low f.real));
       stake = subst (λ (z : StockValue). HasItsStake z) (sym f.loaded.after_is)
           (let e = asking.keeps.stakes s.thread in let h = came.stake in let both = united_stakes f.asked f.note s.thread in
           let same : stake_of mid.view s.thread ≡ stake_of (united f.asked f.note) s.thread = ap (λ (v : View). stake_of v s.thread) re.rest in omega arith);
@@ -96,7 +97,7 @@ fill_issues line p c r t s mid f low came =
     }
 
 pub fill_does : CountLeaves → (line size p c r words : ℕ) (t : Title) (s mid after : StockValue) (answer : Answer) → FillsList line p c t s mid → p < s.partitions → Came s mid r →
-    size ≤ greatest_size → IsClassOf (max size 1 + 8) c → IsWellFormed words t → Issues (listed_slot p c t) r answer mid after → DoesOp line (ops.Alloc r p size) answer s after
+    size ≤ greatest_size → IsClassIn s.caches.version (max size 1 + 8) c → IsWellFormed words t → Issues (listed_slot p c t) r answer mid after → DoesOp line (ops.Alloc r p size) answer s after
 fill_does counts line size p c r words t s mid after answer f inner came few class well issue =
     let low : p < 4 = let most = came.stock.partitions in omega arith in
     let can = fill_issues line p c r t s mid f low came in
@@ -106,7 +107,7 @@ fill_does counts line size p c r words t s mid after answer f inner came few cla
     (subst (λ (z : StockValue). IsStock z) f.loaded.after_is came.now) in
     issued_does counts line size r (listed_slot p c t) _ _ s mid after mid.view (with_listed p c f.rest s.caches) answer
     (brings_relinked line size (listed_slot p c t) _ _ s both mid.view (with_listed p c f.rest s.caches) f.loaded.relinked
-    (fill_brings line size p c s f.asked f.note t f.rest f.gives came.stock awares f.long low f.small f.empty class sound words well))
+    (fill_brings line size p c s f.asked f.note t f.rest f.gives came.stock awares f.long low f.real f.empty class sound words well))
     f.loaded.after_is came.now can.stake can.back issue inner came.below came.bare few
 
 -- ---- a direct map
@@ -129,7 +130,7 @@ map_issues line p len r t s mid m low came =
     }
 
 pub map_does : CountLeaves → (line size p len r : ℕ) (t : Title) (s mid after : StockValue) (answer : Answer) → MapsTitle line p len t s mid → p < s.partitions → Came s mid r →
-    IsDirectSize size → len ≡ (shape_of size).slot → Issues (mapped_slot p t) r answer mid after → DoesOp line (ops.Alloc r p size) answer s after
+    IsMapSize s.caches.version size → len ≡ (shape_of size).slot → Issues (mapped_slot p t) r answer mid after → DoesOp line (ops.Alloc r p size) answer s after
 map_does counts line size p len r t s mid after answer m inner came direct shape issue =
     let low : p < 4 = let most = came.stock.partitions in omega arith in
     let can = map_issues line p len r t s mid m low came in

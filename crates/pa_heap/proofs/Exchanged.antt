@@ -28,13 +28,12 @@ use Rattle.pa_rules.specs.Caches.{NoActs, SameLists, acts_of}
 use Rattle.pa_logs.specs.Told.{ToldRecord}
 use Rattle.pa_logs.specs.Listed.{line_of, first_of}
 use Rattle.pa_logs.specs.Indices.{Enters}
-use Rattle.pa_cache.specs.Caches.{CacheList}
 use Rattle.pa_root.specs.Handing.{numbered_by}
 use Rattle.pa_cells.specs.Handles.{ParkedHandle, GiversLackHandles, held_as}
 use Rattle.pa_cells.specs.Cells.{exchange_entry}
 use Rattle.pa_rules.specs.declared.register.Register.TheVariants.{Empty, Own, Ref, Freed, Cleared}
 use Rattle.pa_step_order.proofs.Shaping.{shapes_have_signs}
-use Rattle.pa_op_specs.specs.Stocks.{StockRegister, StockValue, IsStock, HasNoHandle, register_in, as_reg, regs_of, titles_in, listed_in, rules_at}
+use Rattle.pa_op_specs.specs.Stocks.{StockRegister, StockValue, WorkerLists, IsStock, HasNoHandle, register_in, as_reg, regs_of, titles_in, listed_in, rules_at}
 use Rattle.pa_op_specs.specs.Workers.{HasItsStake}
 use Rattle.pa_op_specs.specs.Outcomes.{Outcome, IsOutcome, ActsAreOf}
 use Rattle.pa_thread_state.specs.Exchanging.{Parks, SwapsHandles, TakesIn, handle_register, register_of, found_register, handle_parcel}
@@ -138,6 +137,7 @@ swap_does line cell reg index given found s a b d is phase = (
   record {
     thread = refl;
     same = (is.threads.1, is.partitions);
+    version = ap (λ (ls : WorkerLists). ls.version) is.caches;
     stakes = λ k. is.last.stakes k ∙ (swap.lends.keeps.stakes k ∙ is.first.stakes k);
     logs = λ k. is.last.logs k ∙ (swap.lends.logs k
         ∙ (ap (λ (log : List Entry). log ++ (if k == a.thread then Entered 5 m ∷ [] else [])) (is.first.logs k)
@@ -148,12 +148,14 @@ swap_does line cell reg index given found s a b d is phase = (
       saw = λ t. refl;
       knows = λ t. let e = swap.known t in let f = is.last.grows t in omega arith;
       carries = λ n t among. ap (λ (y : Made). seen_among t y.seen) (sym (entered_is 5 m n among));
-      steps = λ t step found value among. elim (in_cases (Entered 5 m) (Counted t step found value) [] among) [ inl same ↦ absurd (no_step m t step found value same) | inr none ↦ absurd (not_in_none _ none) ];
+      steps = λ t step found value among. elim (in_cases (Entered 5 m) (Counted t step found value) [] among)
+          [ inl same ↦ absurd (no_step m t step found value same) | inr none ↦ absurd (not_in_none _ none) ];
       looks = λ t found among. elim (in_cases (Entered 5 m) (Looked t found) [] among) [ inl same ↦ absurd (no_look m t found same) | inr none ↦ absurd (not_in_none _ none) ];
       grows = λ t. let e = is.first.grows t in let f = swap.carries t in omega arith;
     };
     enters = record {
       lines = λ q n among. ap line_of (entered_is q m n among) ∙ ap first_of swap.says;
+      fills = λ p n f low among says. absurd (not_in_none n (subst (λ (ms : List Made). Contains ms n) (other_list p m (λ e. omega arith)) among));
       asked = (it, inl (record { pools = refl; roots = λ p. refl }));
       refused = λ j r p size full asks. absurd (not_full index j full);
       uncuts = λ t among. elim (in_cases (Entered 5 m) (Uncut t) [] among) [ inl same ↦ absurd (no_uncut m t same) | inr none ↦ absurd (not_in_none _ none) ];
@@ -225,7 +227,7 @@ swap_does line cell reg index given found s a b d is phase = (
 
     lists_same : SameLists (listed_in d) (listed_in s)
     lists_same p c =
-        ap (λ (cs : List CacheList). numbered_by d.view (titles_in cs p c)) is.caches
+        ap (λ (cs : WorkerLists). numbered_by d.view (titles_in cs p c)) is.caches
         ∙ same_titles s.view d.view (titles_in s.caches p c)
         (λ t among.
         let free = is.stock.lists.free p c t among in

@@ -2,11 +2,12 @@
 use Rattle.std.proofs.Common.{◌≡◌, ℕ, ◌+◌, ◌<◌, ◌≤◌, List, [], ◌∷◌, max, Option, Some, None, refl, sym, ◌∙◌, ap, subst, arith, inl, inr}
 use Rattle.std.specs.Prelude.{slice_get, option_map}
 use Rattle.std.proofs.lemmas.List.{append-nil, append_assoc}
-use Rattle.pa_buckets.specs.Classes.{IsClassOf}
-use Rattle.pa_direct.specs.Shapes.{greatest_size, shape_of, IsDirectSize}
+use Rattle.pa_buckets.specs.Classes.{IsClassIn}
+use Rattle.pa_direct.specs.Shapes.{greatest_size, shape_of}
+use Rattle.pa_rules.specs.Sizes.{IsMapSize}
 use Rattle.pa_trace.specs.declared.script.Op.{Op}
 use Rattle.pa_trace.specs.declared.script.Op.TheVariants as ops
-use Rattle.pa_rules.proofs.Versions.{class_first, map_first}
+use Rattle.pa_heap.proofs.Ruling.{class_as, map_as}
 use Rattle.pa_record.specs.declared.entry.Answer.{Answer}
 use Rattle.pa_record.specs.declared.entry.Answer.TheVariants as answers
 use Rattle.pa_record.specs.declared.entry.Seen.{Seen}
@@ -35,7 +36,7 @@ use Rattle.pa_root.specs.Handing.{IsFullFor, numbered_by, root_entry}
 use Rattle.pa_root.specs.Making.{EntersTwo}
 use Rattle.pa_step_order.proofs.Shaping.{shapes_have_signs}
 use Rattle.pa_op_specs.specs.Stocks.{StockValue, IsStock, HasNoHandle, register_in, as_reg, regs_of, titles_in, listed_in}
-use Rattle.pa_op_specs.specs.Outcomes.{Outcome, IsSeenOf, row_facts}
+use Rattle.pa_op_specs.specs.Outcomes.{Outcome, IsSeenOf, row_facts, FillsFrom}
 use Rattle.pa_thread_state.specs.Allocating.{FindsNone}
 use Rattle.pa_op_specs.specs.Plays.{DoesOp}
 use Rattle.pa_op_specs.proofs.Quiet.{quiet_record, same_titles}
@@ -80,17 +81,24 @@ one_partition r p n s q m e = cc
 -- The op that found no room, for a class or a direct map, if the entry says so and the row is that.
 pub full_does : (line size r p j count : ℕ) (class : Option ℕ) (s : StockValue) (w : View) (full : IsFullFor j s.thread p line count class s.view w) → IsStock s → IsAware s.view →
     IsAware w → p < s.partitions → HasNoHandle (register_in s.registers r) → size ≤ greatest_size →
-    ((o : Outcome) (x : Played) → x.op ≡ ops.Alloc r p size → x.rules.version ≡ 1 → slice_get o.pools full.asked ≡ Some (take_entry line p count None) →
+    ((o : Outcome) (x : Played) → x.op ≡ ops.Alloc r p size → x.rules.version ≡ s.caches.version →
+    slice_get o.pools full.asked ≡ Some (take_entry line p count None) →
     MakesEntry o.pools p (act.Full class full.asked) x) →
-    ((roots : Journals) (x : Played) (after : Cache) → x.op ≡ ops.Alloc r p size → x.rules.version ≡ 1 → OnlyActs roots x.line p (act.Full class full.asked ∷ []) → SameLists after (listed_in s) →
+    ((roots : Journals) (x : Played) (after : Cache) → x.op ≡ ops.Alloc r p size → x.rules.version ≡ s.caches.version →
+    OnlyActs roots x.line p (act.Full class full.asked ∷ []) → SameLists after (listed_in s) →
     FullRow roots x (listed_in s) after) →
     DoesOp line (ops.Alloc r p size) (answers.Full j) s (record s { view = w })
 full_does line size r p j count class s w full is aware now inner bare few makes row =
-    entered_does s (record s { view = w }) line op (answers.Full j) es refl refl (two_enters full.asked j s.thread p line [] taken a s.view w two (omega arith) refl (λ e among. absurd (not_in_none e among)))
+    entered_does s (record s { view = w }) line op (answers.Full j) es refl refl refl
+    (two_enters full.asked j s.thread p line [] taken a s.view w two (omega arith) refl (λ e among. absurd (not_in_none e among)))
     (λ phase. let x = quiet_record s w line phase op (answers.Full j) es in let it = it_asks line p (a ∷ []) es w x asks (λ q. refl) in
     record {
       cells = λ list none. none;
       it = it;
+      fills = λ q e small among. elim (in_cases a e.act [] (act_at line p q (a ∷ []) e among).1) [
+        | inl same ↦ subst (FillsFrom s.caches.version) same tt
+        | inr none ↦ absurd (not_in_none e.act none)
+      ];
       asked = asks.asked x it refl refl refl;
       refused = λ i q p' n says is_op.
           let same : p ≡ p' = one_partition r p size q p' n is_op in
@@ -109,7 +117,7 @@ full_does line size r p j count class s w full is aware now inner bare few makes
       homes = λ q past. inl (root_elsewhere line p q (a ∷ []) (λ e. omega arith));
       owes = λ q. refl;
       words = λ refused q known. two.lends.keeps.words q known;
-      answers = λ o run many sees line_acts. record {
+      answers = λ o run many rules sees line_acts. record {
         told = refl;
         row = alloc_row (register_in s.registers r) (row_facts o) (regs_of s.registers) r size (answers.Full j) (regs_of s.registers) bare (inr (inr (few, j, refl, λ k. refl)));
         lists = row o.roots x.played (listed_in (record s { view = w })) refl refl (only_acts o x it line p (a ∷ []) line_acts low refl)
@@ -158,18 +166,27 @@ full_does line size r p j count class s w full is aware now inner bare few makes
 
 -- what a refusal does for a class with an empty list
 pub full_class_does : (line size r p j c : ℕ) (s after : StockValue) → FindsNone line p 1 (Some c) s after (Full j) → IsStock s → IsAware s.view → IsAware after.view →
-    p < s.partitions → HasNoHandle (register_in s.registers r) → size ≤ greatest_size → IsClassOf (max size 1 + 8) c → titles_in s.caches p c ≡ [] →
+    p < s.partitions → HasNoHandle (register_in s.registers r) → size ≤ greatest_size → IsClassIn s.caches.version (max size 1 + 8) c → titles_in s.caches p c ≡ [] →
     DoesOp line (ops.Alloc r p size) (answers.Full j) s after
 full_class_does line size r p j c s after (full, same) is aware now inner bare few class empty =
     subst (λ (z : StockValue). DoesOp line (ops.Alloc r p size) (answers.Full j) s z) (sym same)
-    (full_does line size r p j 1 (Some c) s after.view full is aware now inner bare few (λ o x is_op first stands. (r, size, is_op, class_first x.rules.version (max size 1 + 8) c first class))
-    (λ roots x later is_op first only lists. inl (p, c, full.asked, (r, size, is_op, class_first x.rules.version (max size 1 + 8) c first class), ap (numbered_by s.view) empty, only, lists)))
+    (full_does line size r p j 1 (Some c) s after.view full is aware now inner bare few
+    (λ o x is_op first stands. (r, size, is_op, class_as x.rules.version s.caches.version (max size 1 + 8) c first class))
+    (λ roots x later is_op first only lists. inl (
+      p,
+      c,
+      full.asked,
+      (r, size, is_op, class_as x.rules.version s.caches.version (max size 1 + 8) c first class),
+      ap (numbered_by s.view) empty,
+      only,
+      lists,
+    )))
 
 -- what a refusal does for a direct map
 pub full_map_does : (line size r p j : ℕ) (s after : StockValue) → FindsNone line p (shape_of size).supers None s after (Full j) → IsStock s → IsAware s.view → IsAware after.view →
-    p < s.partitions → HasNoHandle (register_in s.registers r) → IsDirectSize size → DoesOp line (ops.Alloc r p size) (answers.Full j) s after
+    p < s.partitions → HasNoHandle (register_in s.registers r) → IsMapSize s.caches.version size → DoesOp line (ops.Alloc r p size) (answers.Full j) s after
 full_map_does line size r p j s after (full, same) is aware now inner bare direct =
     subst (λ (z : StockValue). DoesOp line (ops.Alloc r p size) (answers.Full j) s z) (sym same)
     (full_does line size r p j (shape_of size).supers None s after.view full is aware now inner bare direct.1
-    (λ o x is_op first stands. (size, (r, is_op, map_first x.rules.version size first direct), ap (option_map (λ (e : PoolEntry). e.act)) stands))
-    (λ roots x later is_op first only lists. inr (p, size, full.asked, (r, is_op, map_first x.rules.version size first direct), only, lists)))
+    (λ o x is_op first stands. (size, (r, is_op, map_as x.rules.version s.caches.version size first direct), ap (option_map (λ (e : PoolEntry). e.act)) stands))
+    (λ roots x later is_op first only lists. inr (p, size, full.asked, (r, is_op, map_as x.rules.version s.caches.version size first direct), only, lists)))

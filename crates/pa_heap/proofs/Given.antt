@@ -39,7 +39,9 @@ use Rattle.pa_step_order.proofs.Shaping.{shapes_have_signs}
 use Rattle.pa_cells.specs.declared.handle.Handle.{Handle}
 use Rattle.pa_cells.specs.Handles.{HasSeenMade, SlotsStaySeen}
 use Rattle.pa_op_specs.specs.Stocks.{StockRegister, StockValue, regs_of, listed_in, rules_at}
-use Rattle.pa_op_specs.specs.Outcomes.{Outcome, IsOutcome, IsSeenOf, row_facts}
+use Rattle.pa_op_specs.specs.Outcomes.{Outcome, IsOutcome, IsSeenOf, row_facts, FillsFrom}
+use Rattle.pa_rules.specs.Sizes.{HasClass}
+use Rattle.pa_trace.specs.declared.script.Rules.{Rules}
 use Rattle.pa_op_specs.specs.Entering.{EntersCells, HasSeenSome}
 use Rattle.pa_op_specs.specs.Plays.{DoesOp, AnswersIn}
 use Rattle.pa_op_specs.proofs.Seeing.{slot_in_run, home_of}
@@ -109,18 +111,20 @@ gives_name_none xs act among = let (slots, is) = in_gives xs act among in ap ask
 
 -- If slots were given back, and the lists are as the row asks.
 pub gives_does : SlotsStaySeen → (op : Op) (step : Step) (h : Handle) (class word line : ℕ) (s after : StockValue) (w : View) (rs : List StockRegister)
-    (ms : List Made) → HasReturned op step h word s w rs → h.class ≡ Some class →
-    after.thread ≡ s.thread → after.partitions ≡ s.partitions → after.registers ≡ rs →
+    (ms : List Made) (gone : List Numbered) → HasReturned op step h word s w rs → h.class ≡ Some class →
+    after.thread ≡ s.thread → after.partitions ≡ s.partitions → after.caches.version ≡ s.caches.version → after.registers ≡ rs →
     Entering s.thread line (map (Entered h.partition) ms) w after.view →
-    map (λ (m : Made). m.numbers) ms ≡ map root_numbers (map (root_entry line) (gives (spilled class (left_at h word ∷ listed_in s h.partition class)))) →
-    SameLists (listed_in after) (with_list (listed_in s) h.partition class (kept class (left_at h word ∷ listed_in s h.partition class))) →
+    map (λ (m : Made). m.numbers) ms ≡ map root_numbers (map (root_entry line) (gives gone)) →
+    (HasClass s.caches.version class → (gone ≡ spilled class (left_at h word ∷ listed_in s h.partition class))
+    × SameLists (listed_in after) (with_list (listed_in s) h.partition class (kept class (left_at h word ∷ listed_in s h.partition class)))) →
     DoesOp line op (answers.Done (seen_at h word)) s after
-gives_does stays op step h class word line s after w rs ms is of thread partitions registers came says lists =
-    entered_does s after line op (answers.Done (seen_at h word)) es thread partitions
+gives_does stays op step h class word line s after w rs ms gone is of thread partitions version registers came says lists =
+    entered_does s after line op (answers.Done (seen_at h word)) es thread partitions version
     (entering_both s.thread line (c ∷ []) (map (Entered p) ms) s.view w after.view (touched_enters s.thread line (c ∷ []) s.view w is.touched) came)
     (λ phase. record {
       cells = λ list none. is.cells list (x phase) none;
       it = it phase;
+      fills = λ q e lower among. let (slots, give) = give_all q (q == h.partition) e among in subst (FillsFrom s.caches.version) (sym give) tt;
       asked = inl (record { pools = refl; roots = λ q. asked_in q (q == p) });
       refused = λ j r q size full asks. absurd (not_full (seen_at h word) j full);
       uncuts = λ t among. elim (in_cases c (Uncut t) (map (Entered p) ms) among) [
@@ -134,7 +138,7 @@ gives_does stays op step h class word line s after w rs ms is of thread partitio
       owes = owes_done s.registers op (seen_at h word) h.title.len es
           (is.told (λ (n : SlotName). h.title.len) es ([], tt, ap (λ fs. c ∷ fs) (none_touches h.partition ms))) is.long;
       words = λ refused. absurd refused;
-      answers = λ o run many sees line_acts. answers_in phase o run sees line_acts;
+      answers = λ o run many rules sees line_acts. answers_in phase o run rules sees line_acts;
     })
   where
     p : ℕ
@@ -152,11 +156,8 @@ gives_does stays op step h class word line s after w rs ms is of thread partitio
     x : ℕ → ToldRecord
     x phase = quiet_record s after.view line phase op (answers.Done (seen_at h word)) (Counted h.title step word 0 ∷ map (Entered h.partition) ms)
 
-    gone : List Numbered
-    gone = spilled class (left_at h word ∷ listed_in s h.partition class)
-
     acts : List RootEntry
-    acts = map (root_entry line) (gives (spilled class (left_at h word ∷ listed_in s h.partition class)))
+    acts = map (root_entry line) (gives gone)
 
     entries : ℕ → List RootEntry
     entries q = if q == h.partition then acts else []
@@ -214,13 +215,16 @@ gives_does stays op step h class word line s after w rs ms is of thread partitio
         go false higher =
             not_in_none (Unmap asked slot) (subst (λ done. Contains done (Unmap asked slot)) (line_acts.past q (grind (arith, nat_tests))) among)
 
-    answers_in : (phase : ℕ) (o : Outcome) → IsOutcome o → IsSeenOf o after.view → LineActs o (x phase) (it phase) → AnswersIn o s after (x phase)
-    answers_in phase o run sees line_acts =
+    answers_in : (phase : ℕ) (o : Outcome) → IsOutcome o → rules_at s ≡ o.rules → IsSeenOf o after.view → LineActs o (x phase) (it phase) →
+        AnswersIn o s after (x phase)
+    answers_in phase o run rules sees line_acts =
         let slot = slot_in_run o after.view h run sees (stays h w after.view is.made (came.lists h.partition)) in
         let only : OnlyActs o.roots line h.partition (gives gone) = (
           line_acts.here h.partition low ∙ (own (h.partition == h.partition) refl ∙ acts_back line (gives gone)),
           λ q differs. none_here o (x phase) (it phase) line_acts q (other q (q == h.partition) refl differs),
         ) in
+        let real : HasClass s.caches.version class = subst (λ (k : Rules). HasClass k.version class) (sym rules) (slot.real class of) in
+        let row_is = lists real in
         record {
           told = is.told o.sizes es ([], tt, ap (λ fs. Counted h.title step word 0 ∷ fs) (none_touches h.partition ms) ∙ ap (λ u. Counted u step word 0 ∷ []) (sym slot.title));
           row = subst (λ r. Row (row_facts o) op (regs_of s.registers) (answers.Done (seen_at h word)) (regs_of r)) (sym registers) (is.row o);
@@ -228,8 +232,8 @@ gives_does stays op step h class word line s after w rs ms is of thread partitio
             h.partition,
             class,
             slot.class class of,
-            only,
-            lists,
+            subst (λ xs. OnlyActs o.roots line h.partition (gives xs)) row_is.0 only,
+            row_is.1,
           ));
           reader = is.reader o (x phase);
           unmaps = unmaps_next o.roots (x phase).played (λ q asked slot among seen done. absurd (none_unmaps phase o line_acts q asked slot among));

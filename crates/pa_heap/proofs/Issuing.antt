@@ -31,15 +31,15 @@ use Rattle.pa_rules.specs.Registers.{Facts, Regs, with, Becomes, AllocRow, Reque
 use Rattle.pa_rules.specs.Caches.{Cache, SameLists, OnlyActs, MadeRow}
 use Rattle.pa_rules.specs.Roots.{Journals, MakesEntry}
 use Rattle.pa_rules.specs.Sizes.{usable_of}
+use Rattle.pa_trace.specs.declared.script.Rules.{Rules}
 use Rattle.pa_logs.specs.Touches.{is_touch, touches}
 use Rattle.pa_cells.specs.declared.handle.Handle.{Handle}
-use Rattle.pa_cache.specs.Caches.{CacheList}
 use Rattle.pa_rules.specs.declared.register.Register.TheVariants.{Empty, Own, Ref, Freed, Cleared}
 use Rattle.pa_step_order.specs.Signs.{Stepped, sign_of}
 use Rattle.pa_step_order.proofs.Shaping.{shapes_have_signs}
-use Rattle.pa_op_specs.specs.Stocks.{StockRegister, StockValue, IsStock, HasNoHandle, register_in, as_reg, regs_of, titles_in, listed_in}
+use Rattle.pa_op_specs.specs.Stocks.{StockRegister, StockValue, IsStock, HasNoHandle, register_in, as_reg, regs_of, titles_in, listed_in, WorkerLists}
 use Rattle.pa_op_specs.specs.Workers.{HasItsStake}
-use Rattle.pa_op_specs.specs.Outcomes.{row_facts}
+use Rattle.pa_op_specs.specs.Outcomes.{FillsFrom, row_facts}
 use Rattle.pa_op_specs.specs.Owing.{IsMadeIn}
 use Rattle.pa_thread_state.specs.Changes.{IsBack}
 use Rattle.pa_thread_state.specs.Allocating.{Issues}
@@ -101,15 +101,17 @@ alloc_row Cleared facts regs r size answer after bare row = row
 
 -- What came before the issue: the view and the lists of the thread's state `s` changed to `v` and `cs`, with the entries `es`, which did
 -- these acts in the journal of the handle's partition.
-pub record Bringing (line size : ℕ) (h : Handle) (acts : List RootAct) (es : List Entry) (s : StockValue) (v : View) (cs : List CacheList) : Type 0 where
+pub record Bringing (line size : ℕ) (h : Handle) (acts : List RootAct) (es : List Entry) (s : StockValue) (v : View) (cs : WorkerLists) : Type 0 where
   pub entering : Entering s.thread line es s.view v
+  pub version : cs.version ≡ s.caches.version
   pub quiet : touches es ≡ []
   pub uncut : (t : Title) → Contains es (Uncut t) → ⊥
   pub asks : Asks line h.partition acts es v
-  pub makes : (pools : List PoolEntry) (a : RootAct) (x : Played) (r : ℕ) → x.op ≡ ops.Alloc r h.partition size → x.rules.version ≡ 1 → Contains acts a →
+  pub makes : (pools : List PoolEntry) (a : RootAct) (x : Played) (r : ℕ) → x.op ≡ ops.Alloc r h.partition size → x.rules.version ≡ s.caches.version → Contains acts a →
       MakesEntry pools h.partition a x
-  pub usable : h.title.len - 8 ≡ usable_of 1 size
-  pub rows : (roots : Journals) (x : Played) (r : ℕ) (seen : Seen) (after : Cache) → x.op ≡ ops.Alloc r h.partition size → x.rules.version ≡ 1 → OnlyActs roots x.line h.partition acts →
+  pub fills : (a : RootAct) → Contains acts a → FillsFrom s.caches.version a
+  pub usable : h.title.len - 8 ≡ usable_of s.caches.version size
+  pub rows : (roots : Journals) (x : Played) (r : ℕ) (seen : Seen) (after : Cache) → x.op ≡ ops.Alloc r h.partition size → x.rules.version ≡ s.caches.version → OnlyActs roots x.line h.partition acts →
       seen.slot ≡ name_of h.title → number_of seen.found.0 ≡ seen_of v h.title → SameLists after (listed_in (record s { view = v; caches = cs })) →
       MadeRow roots x seen (listed_in s) after
 
@@ -122,18 +124,19 @@ not_full seen usable j e = cc
 not_done : (seen : Seen) (usable : ℕ) (other : Seen) → answers.Made seen usable ≡ answers.Done other → ⊥
 not_done seen usable other e = cc
 
-pub made_does : CountLeaves → (line size r word : ℕ) (h : Handle) (acts : List RootAct) (es : List Entry) (s : StockValue) (v : View) (cs : List CacheList) →
+pub made_does : CountLeaves → (line size r word : ℕ) (h : Handle) (acts : List RootAct) (es : List Entry) (s : StockValue) (v : View) (cs : WorkerLists) →
     Bringing line size h acts es s v cs → IsStock (record s { view = v; caches = cs }) → HasItsStake (record s { view = v; caches = cs }) →
     CanCount steps.Issue h.title (zeroed h.title v) → IsFound h.title word (zeroed h.title v) → number_of word ≡ seen_of v h.title →
     IsBack h (record s { view = v; caches = cs }) → h.partition < s.partitions → r < 64 → HasNoHandle (register_in s.registers r) → 16 ≤ h.title.len →
     size ≤ greatest_size → DoesOp line (ops.Alloc r h.partition size) (answers.Made (seen_at h word) (h.title.len - 8)) s (issued (record s { view = v; caches = cs }) h r word)
 made_does counts line size r word h acts es s v cs before is stake can found number back inner below bare long few =
-    entered_does s (issued mid h r word) line op answer all refl refl
+    entered_does s (issued mid h r word) line op answer all refl refl before.version
     (entering_both s.thread line es (Counted t steps.Issue word 0 ∷ []) s.view v w before.entering (issued_enters counts mid line word t is stake can found))
     (λ phase. let x = quiet_record s w line phase op answer all in let it = it_asks line h.partition acts es v x before.asks same in
     record {
       cells = λ list none. none;
       it = it;
+      fills = λ p e low among. before.fills e.act (act_at line h.partition p acts e among).1;
       asked = before.asks.asked x it (same 4) refl refl;
       refused = λ j q p n full is_op. absurd (not_full (seen_at h word) (h.title.len - 8) j full);
       uncuts = λ u among. absurd (elim (Contains-append_cases es (Counted t steps.Issue word 0 ∷ []) (Uncut u) among) [
@@ -144,16 +147,23 @@ made_does counts line size r word h acts es s v cs before is stake can found num
       owes = owes_made s.registers op (seen_at h word) (h.title.len - 8) h.title.len all
           ([], tt, filter-append is_touch es (Counted t steps.Issue word 0 ∷ []) ∙ ap (λ ys. ys ++ Counted t steps.Issue word 0 ∷ []) before.quiet) (omega arith);
       words = λ refused. absurd refused;
-      answers = λ o run many sees line_acts.
+      answers = λ o run many rules sees line_acts.
           let slot = slot_in_run o w h run sees (made_kept h v w refl back.made) in
           let only = only_acts o x it line h.partition acts line_acts back.made.partition refl in
           record {
             told = (
-              ([], tt, filter-append is_touch es (Counted t steps.Issue word 0 ∷ []) ∙ (ap (λ ys. ys ++ Counted t steps.Issue word 0 ∷ []) before.quiet ∙ ap (λ u. Counted u steps.Issue word 0 ∷ []) (sym slot.title))),
+              (
+                [],
+                tt,
+                filter-append is_touch es (Counted t steps.Issue word 0 ∷ [])
+                    ∙ (ap (λ ys. ys ++ Counted t steps.Issue word 0 ∷ []) before.quiet
+                    ∙ ap (λ u. Counted u steps.Issue word 0 ∷ []) (sym slot.title)),
+              ),
               (let e = slot.length in omega arith),
             );
             row = alloc_row (register_in s.registers r) (row_facts o) (regs_of s.registers) r size answer (regs_of (slice_set s.registers r (Own h))) bare
-                (request_row (row_facts o) (regs_of s.registers) r size (seen_at h word) (h.title.len - 8) (regs_of (slice_set s.registers r (Own h))) few before.usable
+                (request_row (row_facts o) (regs_of s.registers) r size (seen_at h word) (h.title.len - 8) (regs_of (slice_set s.registers r (Own h))) few
+                (before.usable ∙ ap (λ (k : Rules). usable_of k.version size) rules)
                 (λ k. regs_set s.registers r (Own h) k inside));
             lists = before.rows o.roots x.played r (seen_at h word) (listed_in (issued mid h r word)) refl refl only refl number (issued_lists counts mid r word h can back);
             reader = tt;
@@ -196,7 +206,7 @@ pub issued_budget : (h : Handle) (r n : ℕ) (answer : Answer) (mid after : Stoc
 issued_budget h r n answer mid after is more = let e : after.view.budget ≡ mid.view.budget - 1 = ap (λ (z : StockValue). z.view.budget) is.after_is in omega arith
 
 -- the op that was played then
-pub issued_does : CountLeaves → (line size r : ℕ) (h : Handle) (acts : List RootAct) (es : List Entry) (s mid after : StockValue) (v : View) (cs : List CacheList) (answer : Answer) →
+pub issued_does : CountLeaves → (line size r : ℕ) (h : Handle) (acts : List RootAct) (es : List Entry) (s mid after : StockValue) (v : View) (cs : WorkerLists) (answer : Answer) →
     Bringing line size h acts es s v cs → mid ≡ record s { view = v; caches = cs } → IsStock mid → HasItsStake mid → IsBack h mid →
     Issues h r answer mid after → h.partition < s.partitions → r < 64 →
     HasNoHandle (register_in s.registers r) → size ≤ greatest_size → DoesOp line (ops.Alloc r h.partition size) answer s after

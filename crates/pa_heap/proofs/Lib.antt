@@ -25,3 +25,4 @@ pub mod Fetching
 pub mod Fulling
 pub mod Allocated
 pub mod Stopped
+pub mod Ruling

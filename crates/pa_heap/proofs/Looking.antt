@@ -62,15 +62,43 @@ lookingly op (answers.Done s) seen is = absurd is
 lookingly op (answers.Value s value) seen is = absurd is
 lookingly op (answers.Dangling s value) seen is = absurd is
 lookingly op (answers.SecondFree None) seen is = absurd is
-lookingly op (answers.SecondFree (Some s)) seen is = record { room = λ j e. cc; no_swap = λ j e. cc; owes = λ registers t found q. refl; told = λ sizes es h. subst (λ x. IsToldBy sizes op (answers.SecondFree (Some x)) es) (sym is) h; lists = λ n roots x c d none same. (none, same); home = λ line. ap (λ x. Some (mark_at line x None)) is }
-lookingly op (answers.NotOwner s) seen is = record { room = λ j e. cc; no_swap = λ j e. cc; owes = λ registers t found q. refl; told = λ sizes es h. subst (λ x. IsToldBy sizes op (answers.NotOwner x) es) (sym is) h; lists = λ n roots x c d none same. (none, same); home = λ line. ap (λ x. Some (mark_at line x None)) is }
+lookingly op (answers.SecondFree (Some s)) seen is = record {
+  room = λ j e. cc;
+  no_swap = λ j e. cc;
+  owes = λ registers t found q. refl;
+  told = λ sizes es h. subst (λ x. IsToldBy sizes op (answers.SecondFree (Some x)) es) (sym is) h;
+  lists = λ n roots x c d none same. (none, same);
+  home = λ line. ap (λ x. Some (mark_at line x None)) is;
+}
+lookingly op (answers.NotOwner s) seen is = record {
+  room = λ j e. cc;
+  no_swap = λ j e. cc;
+  owes = λ registers t found q. refl;
+  told = λ sizes es h. subst (λ x. IsToldBy sizes op (answers.NotOwner x) es) (sym is) h;
+  lists = λ n roots x c d none same. (none, same);
+  home = λ line. ap (λ x. Some (mark_at line x None)) is;
+}
 lookingly op answers.StaleReset seen is = absurd is
 lookingly op (answers.StaleUse None) seen is = absurd is
-lookingly op (answers.StaleUse (Some s)) seen is = record { room = λ j e. cc; no_swap = λ j e. cc; owes = λ registers t found q. refl; told = λ sizes es h. subst (λ x. IsToldBy sizes op (answers.StaleUse (Some x)) es) (sym is) h; lists = λ n roots x c d none same. (none, same); home = λ line. ap (λ x. Some (mark_at line x None)) is }
+lookingly op (answers.StaleUse (Some s)) seen is = record {
+  room = λ j e. cc;
+  no_swap = λ j e. cc;
+  owes = λ registers t found q. refl;
+  told = λ sizes es h. subst (λ x. IsToldBy sizes op (answers.StaleUse (Some x)) es) (sym is) h;
+  lists = λ n roots x c d none same. (none, same);
+  home = λ line. ap (λ x. Some (mark_at line x None)) is;
+}
 lookingly op answers.Nothing seen is = absurd is
 lookingly op answers.Filled seen is = absurd is
 lookingly op answers.NotRef seen is = absurd is
-lookingly op (answers.Shared s) seen is = record { room = λ j e. cc; no_swap = λ j e. cc; owes = λ registers t found q. refl; told = λ sizes es h. subst (λ x. IsToldBy sizes op (answers.Shared x) es) (sym is) h; lists = λ n roots x c d none same. (none, same); home = λ line. ap (λ x. Some (mark_at line x None)) is }
+lookingly op (answers.Shared s) seen is = record {
+  room = λ j e. cc;
+  no_swap = λ j e. cc;
+  owes = λ registers t found q. refl;
+  told = λ sizes es h. subst (λ x. IsToldBy sizes op (answers.Shared x) es) (sym is) h;
+  lists = λ n roots x c d none same. (none, same);
+  home = λ line. ap (λ x. Some (mark_at line x None)) is;
+}
 lookingly op answers.OutOfRange seen is = absurd is
 lookingly op answers.TooLarge seen is = absurd is
 lookingly op (answers.Full entry) seen is = absurd is

@@ -102,7 +102,7 @@ settled_does : SlotsStaySeen → (op : Op) (step : Step) (h : Handle) (word line
     DoesOp line op (answers.Done (seen_at h word)) s after
 settled_does stays op step h word line s after w rs is sound of root (inl (bare, home)) = home_does stays op step h word line s after w rs is of bare home
 settled_does stays op step h word line s after w rs is sound of root (inr (class, class_is, small, some, spills)) =
-    spill_does stays op step h class word line s after w rs is sound of class_is small some (root class class_is) spills
+    spill_does stays op step h class word line s after w rs is sound of class_is small some (root class class_is small) spills
 
 pub reset_settled : CountLeaves → SlotsStaySeen → (line : ℕ) (s mid after : StockValue) (r : ℕ) (h : Handle) (seen : Seen) → IsStock s → IsAware s.view → HasItsStake s → 0 < s.view.budget → r < 64 →
     register_in s.registers r ≡ Ref h → LetsGo steps.Reset h r Cleared s.view seen s mid → IsReturning steps.Reset seen.found.0 → NeedsRoot h mid → IsSettled line h mid after → IsStock after →
@@ -116,8 +116,11 @@ reset_settled counts stays line s mid after r h seen is aware stake budget below
     (reset_returned counts s r word h is aware stake budget below ref gone.found back)
     (subst (λ (z : StockValue). NeedsRoot h z) gone.after_is root) (subst (λ (z : StockValue). IsSettled line h z after) gone.after_is settled))
 
-pub free_settled : CountLeaves → OwnsChange → StatesAreOwns → SlotsStaySeen → (line : ℕ) (s mid after : StockValue) (r : ℕ) (h : Handle) (seen : Seen) → IsStock s → IsAware s.view → HasItsStake s → 0 < s.view.budget → r < 64 →
-    register_in s.registers r ≡ Own h → LetsGo steps.Free h r Freed (poisoned h.title s.view) seen s mid → IsReturning steps.Free seen.found.0 → NeedsRoot h mid → IsSettled line h mid after → IsStock after →
+pub free_settled : CountLeaves → OwnsChange → StatesAreOwns → SlotsStaySeen
+    → (line : ℕ) (s mid after : StockValue) (r : ℕ) (h : Handle) (seen : Seen) → IsStock s → IsAware s.view → HasItsStake s
+    → 0 < s.view.budget → r < 64 →
+    register_in s.registers r ≡ Own h → LetsGo steps.Free h r Freed (poisoned h.title s.view) seen s mid
+    → IsReturning steps.Free seen.found.0 → NeedsRoot h mid → IsSettled line h mid after → IsStock after →
     DoesOp line (ops.Free r) (answers.Done seen) s after
 free_settled counts owns states stays line s mid after r h seen is aware stake budget below own gone back root settled sound =
     let word = seen.found.0 in

@@ -34,7 +34,7 @@ use Rattle.pa_step_order.specs.Signs.{Sign, sign_of, act_signs}
 use Rattle.pa_step_order.proofs.Shaping.{shapes_have_signs}
 use Rattle.pa_op_specs.specs.Stocks.{StockRegister, StockValue, IsStock, titles_in, listed_in, listed_slot, regs_of}
 use Rattle.pa_op_specs.specs.Workers.{HasItsStake}
-use Rattle.pa_op_specs.specs.Outcomes.{Outcome, IsOutcome, IsSeenOf}
+use Rattle.pa_op_specs.specs.Outcomes.{Outcome, IsOutcome, IsSeenOf, FillsFrom}
 use Rattle.pa_op_specs.specs.Plays.{DoesOp}
 use Rattle.pa_thread_state.specs.Purging.{PurgesRoot, without_lists}
 use Rattle.pa_op_specs.proofs.Seeing.{slot_in_run}
@@ -87,6 +87,7 @@ pub record Purging (line n slots : ℕ) (s now : StockValue) : Type 0 where
   numbers : (m : ℕ) (t : Title) → IsWellFormed m t → 0 < free_of now.view t → seen_of now.view t ≡ seen_of s.view t
   fewer : (t : Title) → free_of now.view t ≤ free_of s.view t
   same : (now.thread ≡ s.thread) × (now.partitions ≡ s.partitions) × (now.registers ≡ s.registers)
+  version : now.caches.version ≡ s.caches.version
   count : slots + all_listed (listed_in s) n (s.partitions - n) ≡ all_listed (listed_in s) 0 s.partitions
 
 pub purging_none : (line : ℕ) (s : StockValue) → Purging line 0 0 s s
@@ -102,6 +103,7 @@ purging_none line s = record {
   numbers = λ m t well free. refl;
   fewer = λ t. omega arith;
   same = (refl, refl, refl);
+  version = refl;
   count =
       let e : s.partitions - 0 ≡ s.partitions = omega arith in
       let f : all_listed (listed_in s) 0 (s.partitions - 0) ≡ all_listed (listed_in s) 0 s.partitions = ap (all_listed (listed_in s) 0) e in
@@ -170,7 +172,9 @@ purging_more line n slots more s now next is some (more_is, given) below low = r
         (ap (map (λ (m : Made). m.numbers)) (entered_append n some.stretch es ∙ (ap (λ ms. ms ++ entered_in n es) (some.none n (omega arith)) ∙ entered_here n given.entries))
         ∙ (given.says ∙ ap (λ acts. map root_numbers (map (root_entry line) acts)) (acts_same (listed_in now n) (listed_in s n) 0 170 lists)))
     | inr away ↦
-        ap (map (λ (m : Made). m.numbers)) (entered_append p some.stretch es ∙ (ap (λ ms. entered_in p some.stretch ++ ms) (entered_elsewhere n p given.entries away.1) ∙ append-nil (entered_in p some.stretch)))
+        ap (map (λ (m : Made). m.numbers)) (entered_append p some.stretch es
+        ∙ (ap (λ ms. entered_in p some.stretch ++ ms) (entered_elsewhere n p given.entries away.1)
+        ∙ append-nil (entered_in p some.stretch)))
         ∙ some.says p (less p n lower away.1)
   ];
   none = λ p far.
@@ -193,6 +197,7 @@ purging_more line n slots more s now next is some (more_is, given) below low = r
   numbers = λ m t well free. given.numbers m t well free ∙ some.numbers m t well (let e = given.fewer t in omega arith);
   fewer = λ t. let e = given.fewer t in let f = some.fewer t in omega arith;
   same = (given.same.0 ∙ some.same.0, given.same.1 ∙ some.same.1, given.same.2 ∙ some.same.2);
+  version = given.version ∙ some.version;
   count =
       let e : s.partitions - n ≡ suc (s.partitions - (n + 1)) = omega arith in
       let f : all_listed (listed_in s) n (s.partitions - n) ≡ listed_slots (listed_in s n) 0 170 + all_listed (listed_in s) (n + 1) (s.partitions - (n + 1)) = ap (all_listed (listed_in s) n) e in
@@ -223,6 +228,17 @@ made_by_purge lists i (suc n) pools p act x op among = elim (Contains-append_cas
   | inr later ↦ made_by_purge lists (i + 1) n pools p act x op later
 ]
 
+-- and it fills from no class
+no_fill : (version : ℕ) (lists : ℕ → List Numbered) (i n : ℕ) (act : RootAct) → Contains (purge_acts lists i n) act → FillsFrom version act
+no_fill version lists i zero act among = elim (in_cases Purge act [] among) [
+  | inl same ↦ subst (FillsFrom version) same tt
+  | inr none ↦ absurd (not_in_none act none)
+]
+no_fill version lists i (suc n) act among = elim (Contains-append_cases (gives (lists i)) (purge_acts lists (i + 1) n) act among) [
+  | inl first ↦ (let (slots, is) = in_gives (lists i) act first in subst (FillsFrom version) (sym is) tt)
+  | inr later ↦ no_fill version lists (i + 1) n act later
+]
+
 purge_asks_none : (line : ℕ) (lists : ℕ → List Numbered) (i n : ℕ) → filter asks (map (root_entry line) (purge_acts lists i n)) ≡ []
 purge_asks_none line lists i zero = refl
 purge_asks_none line lists i (suc n) =
@@ -246,17 +262,18 @@ none_past o s q c run sees is past = go (titles_in s.caches q c) refl
 pub purge_does : (line slots : ℕ) (s now : StockValue) → IsStock s → IsStock now → Purging line s.partitions slots s now →
     DoesOp line ops.Purge (answers.Purged slots) s now
 purge_does line slots s now is still some =
-    entered_does s now line ops.Purge (answers.Purged slots) some.stretch some.same.0 some.same.1 some.enters
+    entered_does s now line ops.Purge (answers.Purged slots) some.stretch some.same.0 some.same.1 some.version some.enters
     (λ phase. record {
       cells = λ list none. none;
       it = it phase;
+      fills = λ p e low among. fills p e among;
       asked = inl (record { pools = refl; roots = λ p. asked_none p });
       refused = λ j reg p size full asks. absurd (not_full j full);
       uncuts = λ t among. absurd (some.uncut t among);
       homes = λ p past. inl (roots_past p past);
       owes = λ q. owes_none q some.stretch some.quiet;
       words = λ refused. absurd refused;
-      answers = λ o run many sees acts.
+      answers = λ o run many rules sees acts.
           record {
             told = some.quiet;
             row = (slots, refl, λ k. ap (λ (rs : List StockRegister). regs_of rs k) some.same.2);
@@ -267,7 +284,9 @@ purge_does line slots s now is still some =
             );
             reader = tt;
             unmaps = λ seen p asked slot e done among on act. absurd (not_done seen done);
-            makes = makes_each (quiet_record s now.view line phase ops.Purge (answers.Purged slots) some.stretch) (it phase) o.pools (λ p e low among. makes p e o.pools (quiet_record s now.view line phase ops.Purge (answers.Purged slots) some.stretch).played refl among);
+            makes = makes_each (quiet_record s now.view line phase ops.Purge (answers.Purged slots) some.stretch) (it phase) o.pools
+                (λ p e low among. makes p e o.pools (quiet_record s now.view line phase ops.Purge (answers.Purged slots)
+                some.stretch).played refl among);
             home = λ m e. absurd (not_some m e);
             signs = some.signs ∙ ap (λ n. flat_map (λ p. flat_map (act_signs line p) (purge_acts (listed_in s p) 0 170)) (range_with_len 0 n)) (sym many)
                 ∙ range_same (λ p. flat_map (act_signs line p) (purge_acts (listed_in s p) 0 170)) (λ p. flat_map (act_signs line p) (acts_of o.roots line p)) 0 o.partitions
@@ -330,6 +349,13 @@ purge_does line slots s now is still some =
         go : (b : Bool) → nat_lt p s.partitions ≡ b → titles_in now.caches p c ≡ (if b then [] else titles_in s.caches p c) → titles_in now.caches p c ≡ []
         go true is kept = kept
         go false is kept = none_past o now p c run sees still (let high : s.partitions ≤ p = grind (arith, nat_tests) in omega arith)
+
+    fills : (p : ℕ) (e : RootEntry) → Contains (roots p) e → FillsFrom s.caches.version e.act
+    fills p e among = go (nat_lt p s.partitions) among
+      where
+        go : (b : Bool) → Contains (if b then map (root_entry line) (purge_acts (listed_in s p) 0 170) else []) e → FillsFrom s.caches.version e.act
+        go true among = no_fill s.caches.version (listed_in s p) 0 170 e.act (act_among line (purge_acts (listed_in s p) 0 170) e among)
+        go false none = absurd (not_in_none e none)
 
     makes : (p : ℕ) (e : RootEntry) (pools : List PoolEntry) (x : Played) → x.op ≡ ops.Purge → Contains (roots p) e → MakesEntry pools p e.act x
     makes p e pools x op among = go (nat_lt p s.partitions) among

@@ -249,7 +249,8 @@ looked_of_read seen value = elim (by_held seen.found.0 (answers.Value seen value
 ]
 
 -- a call that looked at a handle's slot and read a content word of it did the read, with the answer for what was found
-pub read_op_does : LookLeaves → EntryLeaves → OwnsChange → (s after : StockValue) (n reg place value : ℕ) (h : Handle) (seen : Seen) (answer : Answer) → IsStock s → IsAware s.view → HasItsStake s → reg < 64 →
+pub read_op_does : LookLeaves → EntryLeaves → OwnsChange → (s after : StockValue) (n reg place value : ℕ) (h : Handle) (seen : Seen)
+    (answer : Answer) → IsStock s → IsAware s.view → HasItsStake s → reg < 64 →
     HasHandleTo h (register_in s.registers reg) → IsWellFormed n h.title → place < content_count h.title → ReadsAt h place seen value s after → IsOfRead answer seen value → (line : ℕ) →
     DoesOp line (ops.Read reg place) answer s after
 read_op_does looks entries owns s after n reg place value h seen answer is aware stake below has well near reads of_read line =

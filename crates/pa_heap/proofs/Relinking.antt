@@ -8,9 +8,8 @@ use Rattle.pa_region.specs.declared.view.View.{View}
 use Rattle.pa_region.specs.Views.{seen_of}
 use Rattle.pa_link.specs.Chains.{Relinked}
 use Rattle.pa_link.proofs.Gaps.{free_same}
-use Rattle.pa_cache.specs.Caches.{CacheList}
 use Rattle.pa_cells.specs.declared.handle.Handle.{Handle}
-use Rattle.pa_op_specs.specs.Stocks.{StockValue}
+use Rattle.pa_op_specs.specs.Stocks.{StockValue, WorkerLists}
 use Rattle.pa_op_specs.proofs.Entered.{TellsOf}
 use Rattle.pa_op_specs.proofs.Seeing.{made_kept}
 use Rattle.pa_op_specs.proofs.Touching.{Touched, Touches}
@@ -55,7 +54,7 @@ touched_relinked stake es v w x re touched = subst (Touched stake es v) (sym re.
 })
 
 -- what came before an issue
-pub brings_relinked : (line size : ℕ) (h : Handle) (acts : List RootAct) (es : List Entry) (s : StockValue) (v x : View) (cs : List CacheList) → Relinked v x →
+pub brings_relinked : (line size : ℕ) (h : Handle) (acts : List RootAct) (es : List Entry) (s : StockValue) (v x : View) (cs : WorkerLists) → Relinked v x →
     Bringing line size h acts es s v cs → Bringing line size h acts es s x cs
 brings_relinked line size h acts es s v x cs re brings = subst (λ (y : View). Bringing line size h acts es s y cs) (sym re.rest) (record {
   entering = record {
@@ -66,6 +65,7 @@ brings_relinked line size h acts es s v x cs re brings = subst (λ (y : View). B
     each = λ e among. tells_to line s.view v (record v { words = x.words; since = record v.since { stored = x.since.stored } }) (λ t. refl) e
         (brings.entering.each e among);
   };
+  version = brings.version;
   quiet = brings.quiet;
   uncut = brings.uncut;
   asks = record {
@@ -76,6 +76,7 @@ brings_relinked line size h acts es s v x cs re brings = subst (λ (y : View). B
     signs = brings.asks.signs;
   };
   makes = brings.makes;
+  fills = brings.fills;
   usable = brings.usable;
   rows = brings.rows;
 })

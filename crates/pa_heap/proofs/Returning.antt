@@ -10,6 +10,7 @@ use Rattle.pa_region.specs.declared.view.View.{View}
 use Rattle.pa_region.specs.Views.{free_of, seen_of}
 use Rattle.pa_rules.specs.Caches.{SameLists, with_list, kept, spilled}
 use Rattle.pa_root.specs.Handing.{numbered_by}
+use Rattle.pa_rules.specs.Sizes.{HasClass}
 use Rattle.pa_op_specs.specs.Stocks.{StockRegister, StockValue, IsStock, titles_in, listed_in}
 use Rattle.pa_thread_state.specs.Changes.{put_in_front}
 use Rattle.pa_thread_state.proofs.Fronting.{front_cases}
@@ -25,7 +26,7 @@ stays_whole c xs few = go (nat_lt (limit_of c) (length xs)) refl
     go false is = (rw is refl, rw is refl)
 
 -- The lists afterwards, if the seat has seen this number of the title and no other number of the titles that were listed.
-pub front_lists : (s : StockValue) (w : View) (rs : List StockRegister) (p c n : ℕ) (t : Title) → IsStock s → p < 4 → c < 59 →
+pub front_lists : (s : StockValue) (w : View) (rs : List StockRegister) (p c n : ℕ) (t : Title) → IsStock s → p < 4 → HasClass s.caches.version c →
     ((u : Title) → 0 < free_of s.view u → seen_of w u ≡ seen_of s.view u) → seen_of w t ≡ n →
     SameLists (listed_in (record s { view = w; registers = rs; caches = put_in_front p c t s.caches }))
     (with_list (listed_in s) p c (record { slot = name_of t; number = n } ∷ listed_in s p c))

@@ -1,12 +1,13 @@
 -- A slot that a step returned goes back to its root, or its list spills: what the op says then.
-use Rattle.std.proofs.Common.{◌≡◌, ℕ, zero, suc, ◌-◌, ◌/◌, ◌<◌, ◌≤◌, Bool, true, false, List, [], ◌∷◌, length, map, take, drop, Option, Some, None, refl, sym, ◌∙◌, ap, subst, arith, inl, inr}
-use Rattle.std.specs.Prelude.{Contains, nat_lt}
+use Rattle.std.proofs.Common.{◌≡◌, ℕ, zero, suc, ◌-◌, ◌*◌, ◌/◌, ◌<◌, ◌≤◌, Bool, true, false, List, [], ◌∷◌, length, map, take, drop, Option, Some, None, refl, sym, ◌∙◌, ap, subst, arith, ◌⊎◌, inl, inr}
+use Rattle.std.specs.Prelude.{Contains, nat_le, nat_lt}
 use Rattle.std.proofs.lemmas.List.{length-set}
 use Rattle.std.proofs.lemmas.Bool.Decides.{nat_tests}
 use Rattle.pa_slot.specs.declared.title.Title.{Title}
 use Rattle.pa_slot.specs.declared.word.Step.{Step}
-use Rattle.pa_buckets.specs.Bands.{limit_of}
-use Rattle.pa_buckets.proofs.Facts.{limit_of-first, limit_of-second, limit_of-third, limit_of-last}
+use Rattle.pa_buckets.specs.Bands.{limit_for, limit_of}
+use Rattle.pa_buckets.specs.Table.{slot_of}
+use Rattle.pa_buckets.proofs.Facts.{limit_of-size}
 use Rattle.pa_trace.specs.declared.script.Op.{Op}
 use Rattle.pa_record.specs.declared.entry.Answer.TheVariants as answers
 use Rattle.pa_record.specs.declared.numbered.Numbered.{Numbered}
@@ -26,14 +27,15 @@ use Rattle.pa_rules.specs.Caches.{SameLists, gives, kept, spilled, with_list}
 use Rattle.pa_layout.specs.Pages.{supers_for}
 use Rattle.pa_pool.specs.Calls.{give_entry}
 use Rattle.pa_logs.specs.Listed.{first_of}
-use Rattle.pa_cache.specs.Caches.{CacheList}
 use Rattle.pa_root.specs.Handing.{at_number_seen, numbered_by, root_entry}
 use Rattle.pa_cells.specs.declared.handle.Handle.{Handle}
 use Rattle.pa_cells.specs.Handles.{SlotsStaySeen}
-use Rattle.pa_op_specs.specs.Stocks.{StockRegister, StockValue, IsStock, cache_place, titles_in, listed_in}
+use Rattle.pa_op_specs.specs.Stocks.{StockRegister, StockValue, IsStock, cache_place, titles_in, listed_in, WorkerLists}
+use Rattle.pa_rules.specs.Sizes.{HasClass, class_total}
+use Rattle.pa_rules.proofs.Versions.{real_in}
 use Rattle.pa_thread_state.specs.Changes.{put_in_front}
 use Rattle.pa_thread_state.specs.Giving.{GivesTail}
-use Rattle.pa_thread_state.specs.Homing.{ComesHome, GoesHome, Spills, without_title, note_of_title}
+use Rattle.pa_thread_state.specs.Homing.{ComesHome, GoesHome, Spills, without_title, note_of_title, KeepsNoList}
 use Rattle.pa_op_specs.specs.Plays.{DoesOp}
 use Rattle.pa_thread_state.proofs.Looking.{seen_at}
 use Rattle.pa_op_specs.proofs.Quiet.{same_titles}
@@ -46,21 +48,22 @@ use Rattle.pa_heap.proofs.Unmapping.{behind, unmap_does}
 
 -- ---- limits
 
--- a class keeps no list, or one of two slots at least
-pub limit_some : (c : ℕ) → c < 59 → 0 < limit_of c → 2 ≤ limit_of c
-limit_some c small some = go (nat_lt c 8) (nat_lt c 20) (nat_lt c 40) refl refl refl
+limit_by : (size : ℕ) → (limit_for size ≡ 0) ⊎ (2 ≤ limit_for size)
+limit_by size = go (nat_le size 128) (nat_le size 1024) (nat_le size 32768) (nat_le size 983040) refl refl refl refl
   where
-    go : (a b d : Bool) → nat_lt c 8 ≡ a → nat_lt c 20 ≡ b → nat_lt c 40 ≡ d → 2 ≤ limit_of c
-    go true b d e f g = let is = limit_of-first c (let low : c < 8 = grind (arith, nat_tests) in omega arith) in omega arith
-    go false true d e f g =
-        let is = limit_of-second c (let high : 8 ≤ c = grind (arith, nat_tests) in omega arith) (let low : c < 20 = grind (arith, nat_tests) in omega arith) in
-        omega arith
-    go false false true e f g =
-        let is = limit_of-third c (let high : 20 ≤ c = grind (arith, nat_tests) in omega arith) (let low : c < 40 = grind (arith, nat_tests) in omega arith) in
-        omega arith
-    go false false false e f g =
-        let is = limit_of-last c (let high : 40 ≤ c = grind (arith, nat_tests) in omega arith) small in
-        absurd (omega arith)
+    go : (a b d e : Bool) → nat_le size 128 ≡ a → nat_le size 1024 ≡ b → nat_le size 32768 ≡ d → nat_le size 983040 ≡ e →
+        (limit_for size ≡ 0) ⊎ (2 ≤ limit_for size)
+    go true b d e f g h i = inr (rw f (omega arith))
+    go false true d e f g h i = inr (rw (f, g) (omega arith))
+    go false false true e f g h i = inr (rw (f, g, h) (omega arith))
+    go false false false true f g h i = inl (rw (f, g, h, i) refl)
+    go false false false false f g h i = inl (rw (f, g, h, i) refl)
+
+-- a class keeps no list, or one of two slots at least
+pub limit_some : (c : ℕ) → c < 170 → 0 < limit_of c → 2 ≤ limit_of c
+limit_some c real some =
+    let is = limit_of-size c real in
+    elim (limit_by (slot_of c)) [ inl none ↦ absurd (omega (arith, some, is, none)) | inr two ↦ omega (arith, is, two) ]
 
 half_some : (n : ℕ) → 2 ≤ n → n / 2 ≡ suc (n / 2 - 1)
 half_some n some = omega arith
@@ -115,7 +118,7 @@ in_note : (op : Op) (step : Step) (h : Handle) (word : ℕ) (s : StockValue) (w 
 in_note op step h word s w rs of = ap (λ n. record { slot = name_of h.title; number = n }) of.number
 
 pub home_does : SlotsStaySeen → (op : Op) (step : Step) (h : Handle) (word line : ℕ) (s after : StockValue) (w : View) (rs : List StockRegister) → IsStock s →
-    HasReturned op step h word s w rs → ((class : ℕ) → h.class ≡ Some class → (class < 59) × (limit_of class ≡ 0)) →
+    HasReturned op step h word s w rs → KeepsNoList h (record s { view = w; registers = rs }) →
     GoesHome line h (record s { view = w; registers = rs }) after → DoesOp line op (answers.Done (seen_at h word)) s after
 home_does stays op step h word line s after w rs is of bare home = by_class h.class refl home.comes
   where
@@ -137,6 +140,9 @@ home_does stays op step h word line s after w rs is of bare home = by_class h.cl
     partitions : after.partitions ≡ s.partitions
     partitions = ap (λ (z : StockValue). z.partitions) home.same
 
+    version : after.caches.version ≡ s.caches.version
+    version = ap (λ (z : StockValue). z.caches.version) home.same
+
     registers : after.registers ≡ rs
     registers = ap (λ (z : StockValue). z.registers) home.same
 
@@ -146,24 +152,27 @@ home_does stays op step h word line s after w rs is of bare home = by_class h.cl
     by_class : (k : Option ℕ) → h.class ≡ k → ComesHome k s.thread h.partition line (without_title h.title w) after.view (note_of_title h.title w) h.title →
         DoesOp line op (answers.Done (seen_at h word)) s after
     by_class None direct takes =
-        unmap_does stays op step h word line s after w rs y note of direct thread partitions registers takes
+        unmap_does stays op step h word line s after w rs y note of direct thread partitions version registers takes
         (entering_both s.thread line [] (behind h.title takes.enters.pool h.partition takes.enters.made) w y after.view (left_enters s.thread line h.title w)
         (two_enters takes.asked takes.index s.thread h.partition line (Uncut h.title ∷ []) (give_entry line h.partition (supers_for h.title.len) takes.first)
         (Unmap takes.asked (at_number_seen note h.title)) y after.view takes.enters (omega arith) refl (uncut_tells line h.title y after.view)))
         of.number lists
     by_class (Some class) class_is (index, one) =
-        let none = (bare class class_is).1 in
-        let empty = no_list s h.partition class is none in
-        let alone = none_kept class (left_at h word) none in
-        let list_is : left_at h word ∷ listed_in s h.partition class ≡ left_at h word ∷ [] = ap (λ xs. left_at h word ∷ xs) empty in
-        let acts_are : Give (numbered_by note (h.title ∷ [])) ∷ [] ≡ gives (spilled class (left_at h word ∷ listed_in s h.partition class)) =
-        ap (λ x. Give (x ∷ []) ∷ []) (in_note op step h word s w rs of) ∙ sym (ap (λ xs. gives (spilled class xs)) list_is ∙ ap gives alone.1) in
-        gives_does stays op step h class word line s after w rs (one.made ∷ []) of class_is thread partitions registers
+        let acts_are : Give (numbered_by note (h.title ∷ [])) ∷ [] ≡ gives (left_at h word ∷ []) =
+        ap (λ x. Give (x ∷ []) ∷ []) (in_note op step h word s w rs of) in
+        gives_does stays op step h class word line s after w rs (one.made ∷ []) (left_at h word ∷ []) of class_is thread partitions version registers
         (entering_both s.thread line [] (Entered h.partition one.made ∷ []) w y after.view (left_enters s.thread line h.title w)
         (one_enters index s.thread h.partition line (Give (numbered_by note (h.title ∷ []))) y after.view one (omega arith)))
         (ap (λ n. n ∷ []) one.is_made.says ∙ ap (λ done. map root_numbers (map (root_entry line) done)) acts_are)
-        (λ p c. lists p c ∙ (same_list s h.partition class empty p c
-        ∙ ap (λ xs. with_list (listed_in s) h.partition class xs p c) (sym (ap (kept class) list_is ∙ alone.0))))
+        (λ real.
+        let none = bare class class_is real in
+        let empty = no_list s h.partition class is none in
+        let alone = none_kept class (left_at h word) none in
+        let list_is : left_at h word ∷ listed_in s h.partition class ≡ left_at h word ∷ [] = ap (λ xs. left_at h word ∷ xs) empty in (
+          sym (ap (spilled class) list_is ∙ alone.1),
+          λ p c. lists p c ∙ (same_list s h.partition class empty p c
+              ∙ ap (λ xs. with_list (listed_in s) h.partition class xs p c) (sym (ap (kept class) list_is ∙ alone.0))),
+        ))
 
 -- ---- its list spills
 
@@ -197,12 +206,12 @@ tail_tells line p (a ∷ acts) (m ∷ ms) v w low says e among =
     ]
 
 pub spill_does : SlotsStaySeen → (op : Op) (step : Step) (h : Handle) (class word line : ℕ) (s after : StockValue) (w : View) (rs : List StockRegister) → IsStock s → IsStock after →
-    HasReturned op step h word s w rs → h.class ≡ Some class → class < 59 → 0 < limit_of class →
+    HasReturned op step h word s w rs → h.class ≡ Some class → HasClass s.caches.version class → 0 < limit_of class →
     limit_of class ≤ length (titles_in s.caches h.partition class) →
     Spills line h class (record s { view = w; registers = rs }) after → DoesOp line op (answers.Done (seen_at h word)) s after
 spill_does stays op step h class word line s after w rs is sound of class_is small some full spills =
-    gives_does stays op step h class word line s after w rs ms of class_is
-    (thread ∙ given.same.0) (partitions ∙ given.same.1) (registers ∙ given.same.2)
+    gives_does stays op step h class word line s after w rs ms gone of class_is
+    (thread ∙ given.same.0) (partitions ∙ given.same.1) (version ∙ given.version) (registers ∙ given.same.2)
     (record {
       logs = λ k. ap (log_here k) view ∙ given.logs k;
       stakes = λ k. ap (stake_here k) view ∙ given.stakes k;
@@ -211,13 +220,16 @@ spill_does stays op step h class word line s after w rs is sound of class_is sma
       each = tail_tells line h.partition (gives (drop keep (listed_in mid h.partition class))) ms w after.view (omega arith) given.says;
     })
     (given.says ∙ ap (λ done. map root_numbers (map (root_entry line) done)) (ap (λ xs. gives (drop keep xs)) (before_lists h.partition class) ∙ sym (ap gives over.1)))
-    lists
+    (λ real. (refl, lists))
   where
     mid : StockValue
     mid = record s { view = w; registers = rs }
 
     keep : ℕ
     keep = limit_of class / 2 - 1
+
+    gone : List Numbered
+    gone = spilled class (left_at h word ∷ listed_in s h.partition class)
 
     between : StockValue
     between = spills.between
@@ -249,6 +261,12 @@ spill_does stays op step h class word line s after w rs is sound of class_is sma
     registers : after.registers ≡ spills.between.registers
     registers = ap (λ (z : StockValue). z.registers) spills.front.after_is
 
+    version : after.caches.version ≡ spills.between.caches.version
+    version = ap (λ (z : StockValue). z.caches.version) spills.front.after_is
+
+    real_between : HasClass spills.between.caches.version class
+    real_between = subst (λ v. HasClass v class) (sym given.version) small
+
     caches : after.caches ≡ put_in_front h.partition class h.title spills.between.caches
     caches = ap (λ (z : StockValue). z.caches) spills.front.after_is
 
@@ -259,12 +277,13 @@ spill_does stays op step h class word line s after w rs is sound of class_is sma
         × (spilled class (left_at h word ∷ listed_in s h.partition class) ≡ drop (limit_of class / 2 - 1) (listed_in s h.partition class))
     over =
         let long = length_numbered s.view (titles_in s.caches h.partition class) in
-        over_limit class (left_at h word) (listed_in s h.partition class) (limit_some class small some) (omega arith)
+        over_limit class (left_at h word) (listed_in s h.partition class) (limit_some class (real_in s.caches.version class small) some) (omega arith)
 
-    long_between : length spills.between.caches ≡ 236
+    long_between : length spills.between.caches.lists ≡ 4 * class_total spills.between.caches.version
     long_between =
-        sym (length-set spills.between.caches (cache_place h.partition class) (record { class = class; titles = h.title ∷ titles_in spills.between.caches h.partition class }))
-        ∙ (ap (λ (cs : List CacheList). length cs) (sym caches) ∙ sound.lists.count)
+        sym (length-set spills.between.caches.lists (cache_place spills.between.caches.version h.partition class)
+        (record { class = class; titles = h.title ∷ titles_in spills.between.caches h.partition class }))
+        ∙ subst (λ (cs : WorkerLists). length cs.lists ≡ 4 * class_total cs.version) caches sound.lists.count
 
     -- a title that is on a list at the end is free then, so it has the number that was seen after the step
     end_number : (q d : ℕ) (t : Title) → Contains (titles_in after.caches q d) t → seen_of after.view t ≡ seen_of w t
@@ -281,11 +300,11 @@ spill_does stays op step h class word line s after w rs is sound of class_is sma
         (λ t among. let both = each t among in end_number q d t both.0 ∙ of.touched.numbers t (is.lists.free q d t both.1))
 
     lists : SameLists (listed_in after) (with_list (listed_in s) h.partition class (kept class (left_at h word ∷ listed_in s h.partition class)))
-    lists q d = elim (front_cases spills.between.caches h.partition class h.title q d low small long_between) [
+    lists q d = elim (front_cases spills.between.caches h.partition class h.title q d low real_between long_between) [
       | inl here ↦ elim (front_list (listed_in s) h.partition class q d (kept class (left_at h word ∷ listed_in s h.partition class))) [
         | inl y ↦
             let titles : titles_in after.caches q d ≡ h.title ∷ take keep (titles_in s.caches h.partition class) =
-            ap (λ (cs : List CacheList). titles_in cs q d) caches ∙ (here.2 ∙ ap (λ ts. h.title ∷ ts) kept_here) in
+            ap (λ (cs : WorkerLists). titles_in cs q d) caches ∙ (here.2 ∙ ap (λ ts. h.title ∷ ts) kept_here) in
             ap (numbered_by after.view) titles ∙ (in_front q d here.0 here.1 titles ∙ (sym over.0 ∙ sym y.2))
         | inr none ↦ absurd (none.0 (here.0, here.1))
       ]
@@ -293,7 +312,7 @@ spill_does stays op step h class word line s after w rs is sound of class_is sma
         | inl y ↦ absurd (there.0 (y.0, y.1))
         | inr none ↦
             let titles : titles_in after.caches q d ≡ titles_in s.caches q d =
-            ap (λ (cs : List CacheList). titles_in cs q d) caches ∙ (there.1 ∙ other_list q d there.0) in
+            ap (λ (cs : WorkerLists). titles_in cs q d) caches ∙ (there.1 ∙ other_list q d there.0) in
             ap (numbered_by after.view) titles
             ∙ (both_numbers q d (titles_in s.caches q d) (λ t among. (subst (λ ts. Contains ts t) (sym titles) among, among)) ∙ sym none.1)
       ]

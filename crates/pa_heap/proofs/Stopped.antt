@@ -1,7 +1,8 @@
 -- Ops that run out of memory: an allocation that asks a root, a purge that purged the first partitions, and what the worker is then.
 use Rattle.std.proofs.Common.{◌≡◌, ℕ, ◌+◌, ◌≤◌, List, [], true, max, sym, ◌∙◌, ap, subst, add-one}
-use Rattle.pa_buckets.specs.Classes.{IsClassOf}
-use Rattle.pa_direct.specs.Shapes.{greatest_size, IsDirectSize}
+use Rattle.pa_buckets.specs.Classes.{IsClassIn}
+use Rattle.pa_direct.specs.Shapes.{greatest_size}
+use Rattle.pa_rules.specs.Sizes.{IsMapSize}
 use Rattle.pa_rules.proofs.Versions.{has_no_class}
 use Rattle.pa_rules.proofs.Asking.{class_of_size}
 use Rattle.pa_totals.specs.declared.owed.Owed.{Owed}
@@ -13,20 +14,20 @@ use Rattle.pa_heap.specs.Stopping.{AsksRoot, PurgesFirst}
 
 -- the list of the size's class is empty
 pub class_asks : (reg p size class : ℕ) (s : StockValue) → HasNoHandle (register_in s.registers reg) → size ≤ greatest_size →
-    IsClassOf (max size 1 + 8) class → titles_in s.caches p class ≡ [] → AsksRoot reg p size s
+    IsClassIn s.caches.version (max size 1 + 8) class → titles_in s.caches p class ≡ [] → AsksRoot reg p size s
 class_asks reg p size class s bare few of empty = record {
   bare = bare;
   small = few;
   empty = λ other is. subst (λ c. titles_in s.caches p c ≡ [])
-      (class_of_size 1 (max size 1 + 8) class other of is) empty;
+      (class_of_size s.caches.version (max size 1 + 8) class other of is) empty;
 }
 
 -- the size has no class
-pub map_asks : (reg p size : ℕ) (s : StockValue) → HasNoHandle (register_in s.registers reg) → IsDirectSize size → AsksRoot reg p size s
+pub map_asks : (reg p size : ℕ) (s : StockValue) → HasNoHandle (register_in s.registers reg) → IsMapSize s.caches.version size → AsksRoot reg p size s
 map_asks reg p size s bare direct = record {
   bare = bare;
   small = direct.1;
-  empty = λ class is. absurd (has_no_class 1 size class direct is);
+  empty = λ class is. absurd (has_no_class s.caches.version size class direct is);
 }
 
 -- one partition more was purged

@@ -40,7 +40,7 @@ use Rattle.pa_cells.specs.Handles.{HandsOut, HasSeenMade, SlotsStaySeen}
 use Rattle.pa_step_order.specs.Signs.{Stepped}
 use Rattle.pa_step_order.proofs.Shaping.{shapes_have_signs}
 use Rattle.pa_op_specs.specs.Stocks.{StockRegister, StockValue, regs_of, listed_in}
-use Rattle.pa_op_specs.specs.Outcomes.{Outcome, IsOutcome, IsSeenOf, row_facts}
+use Rattle.pa_op_specs.specs.Outcomes.{Outcome, IsOutcome, IsSeenOf, row_facts, FillsFrom}
 use Rattle.pa_op_specs.specs.Entering.{HasSeenSome}
 use Rattle.pa_op_specs.specs.Plays.{DoesOp, AnswersIn}
 use Rattle.pa_op_specs.proofs.Seeing.{slot_in_run, home_of}
@@ -74,18 +74,19 @@ same_unmap a b x y e = cc
 
 pub unmap_does : SlotsStaySeen → (op : Op) (step : Step) (h : Handle) (word line : ℕ) (s after : StockValue) (w : View) (rs : List StockRegister) (y note : View) →
     HasReturned op step h word s w rs → h.class ≡ None →
-    after.thread ≡ s.thread → after.partitions ≡ s.partitions → after.registers ≡ rs →
+    after.thread ≡ s.thread → after.partitions ≡ s.partitions → after.caches.version ≡ s.caches.version → after.registers ≡ rs →
     (takes : UnmapTakes s.thread h.partition line y after.view note h.title) →
     Entering s.thread line (behind h.title takes.enters.pool h.partition takes.enters.made) w after.view →
     seen_of note h.title ≡ number_of word + 1 →
     SameLists (listed_in after) (listed_in s) →
     DoesOp line op (answers.Done (seen_at h word)) s after
-unmap_does stays op step h word line s after w rs y note is direct thread partitions registers takes came number lists =
-    entered_does s after line op (answers.Done (seen_at h word)) es thread partitions
+unmap_does stays op step h word line s after w rs y note is direct thread partitions version registers takes came number lists =
+    entered_does s after line op (answers.Done (seen_at h word)) es thread partitions version
     (entering_both s.thread line (c ∷ []) (behind h.title pool h.partition made) s.view w after.view (touched_enters s.thread line (c ∷ []) s.view w is.touched) came)
     (λ phase. record {
       cells = λ list none. is.cells list (x phase) none;
       it = it phase;
+      fills = λ q e lower among. subst (λ (f : RootEntry). FillsFrom s.caches.version f.act) (in_one q (q == h.partition) e among) tt;
       asked = inr (asked phase);
       refused = λ j r q size full asks. absurd (not_full (seen_at h word) j full);
       uncuts = λ u among. subst (λ z. Unmaps (x phase) z) (uncut_is u among) (unmaps phase);
@@ -95,7 +96,7 @@ unmap_does stays op step h word line s after w rs y note is direct thread partit
       ];
       owes = owes_done s.registers op (seen_at h word) h.title.len es (is.told (λ (n : SlotName). h.title.len) es ([], tt, refl)) is.long;
       words = λ refused. absurd refused;
-      answers = λ o run many sees line_acts. answers_in phase o run sees line_acts;
+      answers = λ o run many rules sees line_acts. answers_in phase o run sees line_acts;
     })
   where
     low : h.partition < 4

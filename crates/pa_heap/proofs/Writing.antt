@@ -128,7 +128,8 @@ shared_does looks s after reg value h seen is aware stake below own at some line
     (λ o. subst (λ x. WriteRow (as_reg x) (regs_of s.registers) (answers.Shared seen) (regs_of s.registers)) (sym own) (seen, at.slot, λ k. refl, inl (some, refl)))
     (λ o line phase. tt) line)
 
-pub written_does : CountLeaves → LookLeaves → OwnsChange → StatesAreOwns → FilledWords → (n : ℕ) (s middle after : StockValue) (reg value : ℕ) (h : Handle) (first seen : Seen) → IsStock s → IsAware s.view →
+pub written_does : CountLeaves → LookLeaves → OwnsChange → StatesAreOwns → FilledWords
+    → (n : ℕ) (s middle after : StockValue) (reg value : ℕ) (h : Handle) (first seen : Seen) → IsStock s → IsAware s.view →
     HasItsStake s → 0 < s.view.budget → reg < 64 → register_in s.registers reg ≡ Own h → IsWellFormed n h.title → length s.view.words ≡ n → refs_of first.found.0 ≡ 0 →
     LooksAtSlot h first s middle → WritesTo h value seen middle after → (line : ℕ) → DoesOp line (ops.Write reg value) (answers.Done seen) s after
 written_does counts looks owns states fills n s middle after reg value h first seen is aware stake budget below own well long none at writes line =

@@ -1,7 +1,7 @@
 -- When an allocation may run out of memory, and what is left of a worker's thread state after a reset, a free or a purge that did.
 use Rattle.std.specs.Prelude.{◌≡◌, ℕ, zero, suc, ◌+◌, ◌<◌, ◌≤◌, [], max}
 use Rattle.pa_slot.specs.declared.word.Step.TheVariants as steps
-use Rattle.pa_buckets.specs.Classes.{IsClassOf}
+use Rattle.pa_buckets.specs.Classes.{IsClassIn}
 use Rattle.pa_direct.specs.Shapes.{greatest_size}
 use Rattle.pa_quarantine.specs.Filling.{poisoned}
 use Rattle.pa_cells.specs.declared.handle.Handle.{Handle}
@@ -11,11 +11,11 @@ use Rattle.pa_thread_state.specs.Purging.{PurgesRoot}
 use Rattle.pa_thread_state.specs.Stopping.{StopsPartition, StopsRelease}
 
 -- An allocation of this size in partition p asks the root: the register has no handle, the size isn't too large, and if it has a
--- class, the list of that is empty.
+-- class in the worker's version, the list of that is empty.
 pub record AsksRoot (reg p size : ℕ) (s : StockValue) : Type 0 where
   pub bare : HasNoHandle (register_in s.registers reg)
   pub small : size ≤ greatest_size
-  pub empty : (class : ℕ) → IsClassOf (max size 1 + 8) class → titles_in s.caches p class ≡ []
+  pub empty : (class : ℕ) → IsClassIn s.caches.version (max size 1 + 8) class → titles_in s.caches p class ≡ []
 
 -- A reset stopped: the register had a `raw_ptr`, and its release stopped.
 abbrev pub StopsReset : (line reg : ℕ) → (before after : StockValue) → Type 0

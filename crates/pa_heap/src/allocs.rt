@@ -1,9 +1,10 @@
 //! A worker's allocation.
 ghost use Rattle.std.specs.Prelude.{◌≡◌, ◌+◌, ◌<◌, ◌≤◌, [], max, IfOk, OnOk, OnErr, true};
-ghost use Rattle.pa_buckets.specs.Classes.{IsClassOf};
-ghost use Rattle.pa_direct.specs.Shapes.{greatest_size, IsDirectSize};
+ghost use Rattle.pa_buckets.specs.Classes.{IsClassIn};
+ghost use Rattle.pa_direct.specs.Shapes.{greatest_size};
 ghost use Rattle.pa_trace.specs.declared.script.Op.TheVariants as ops;
 ghost use Rattle.pa_trace.specs.Limits.{register_count};
+ghost use Rattle.pa_rules.specs.Sizes.{IsMapSize};
 ghost use Rattle.pa_totals.specs.Settled.{none_owed};
 ghost use Rattle.pa_op_specs.specs.Stocks.{HasNoHandle, register_in, titles_in};
 ghost use Rattle.pa_op_specs.specs.Workers.{HasItsStake, CanPlayOp, KeepsOn};
@@ -13,7 +14,7 @@ ghost use Rattle.pa_heap.specs.Stopping.{AsksRoot};
 
 use crate::counts::{count_step, made, owe_step, owed_none, owned};
 use crate::worker::{Worker, enter};
-use pa_buckets::{Class, class_of, raw_of};
+use pa_buckets::{Class, class_in, raw_of};
 use pa_cells::Handle;
 use pa_direct::{GREATEST_SIZE, shape};
 use pa_record::Answer;
@@ -120,7 +121,7 @@ fn request<N: Name, R: Wait>(
     if size > GREATEST_SIZE {
         return Ok(Answer::TooLarge);
     }
-    match class_of(raw_of(size)) {
+    match class_in(stock.version(), raw_of(size)) {
         Some(class) => alloc_slot(stock, rt, heap, line, reg, partition, size, class),
         None => alloc_map(stock, rt, heap, line, reg, partition, size),
     }
@@ -142,7 +143,7 @@ fn alloc_slot<N: Name, R: Wait>(
     requires reg { reg < register_count }
     requires partition { partition < stock.old.partitions }
     requires none { HasNoHandle (register_in stock.old.registers reg) }
-    requires class { (size ≤ greatest_size) × IsClassOf (max size 1 + 8) class }
+    requires class { (size ≤ greatest_size) × IsClassIn stock.old.caches.version (max size 1 + 8) class }
     ensures does { IfOk result (λ answer. DoesOp line (ops.Alloc reg partition size) answer stock.old stock.new) }
     ensures made { IfOk result (IsMadeIn (register_in stock.new.registers reg)) }
     ensures budget { stock.old.view.budget ≤ stock.new.view.budget + 1 }
@@ -183,7 +184,7 @@ fn alloc_filled<N: Name, R: Wait>(
     requires reg { reg < register_count }
     requires partition { partition < stock.old.partitions }
     requires none { HasNoHandle (register_in stock.old.registers reg) }
-    requires class { (size ≤ greatest_size) × IsClassOf (max size 1 + 8) class }
+    requires class { (size ≤ greatest_size) × IsClassIn stock.old.caches.version (max size 1 + 8) class }
     requires empty { titles_in stock.old.caches partition class ≡ [] }
     ensures does { IfOk result (λ answer. DoesOp line (ops.Alloc reg partition size) answer stock.old stock.new) }
     ensures made { IfOk result (IsMadeIn (register_in stock.new.registers reg)) }
@@ -229,7 +230,7 @@ fn alloc_map<N: Name, R: Wait>(
     requires reg { reg < register_count }
     requires partition { partition < stock.old.partitions }
     requires none { HasNoHandle (register_in stock.old.registers reg) }
-    requires direct { IsDirectSize size }
+    requires direct { IsMapSize stock.old.caches.version size }
     ensures does { IfOk result (λ answer. DoesOp line (ops.Alloc reg partition size) answer stock.old stock.new) }
     ensures made { IfOk result (IsMadeIn (register_in stock.new.registers reg)) }
     ensures budget { stock.old.view.budget ≤ stock.new.view.budget + 1 }

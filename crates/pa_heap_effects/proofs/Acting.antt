@@ -58,7 +58,8 @@ pub record IsActed (partitions n p : ℕ) (x : Played) (pools more : List PoolEn
   pub unmaps : UnmapsNext (grown roots n (only_in p acts)) x
 
 -- the acts of the line are these
-only_acts : (partitions n p : ℕ) (ps : List Played) (x : Played) (pools : List PoolEntry) (roots : Journals) (acts : List RootAct) (all : Caches) → IsPlacedTo partitions n ps pools roots all → x.line ≡ n →
+only_acts : (partitions n p : ℕ) (ps : List Played) (x : Played) (pools : List PoolEntry) (roots : Journals) (acts : List RootAct)
+    (all : Caches) → IsPlacedTo partitions n ps pools roots all → x.line ≡ n →
     OnlyActs (grown roots n (only_in p acts)) x.line p acts
 only_acts partitions n p ps x pools roots acts all h line = (
   at x.line line p ∙ only_here p acts,
@@ -82,7 +83,8 @@ acted_deed partitions n p ps x pools more roots acts all next h a = record {
 }
 
 -- with what the root and the pool become
-pub acted_called : (supers partitions n p : ℕ) (ps : List Played) (x : Played) (pools more : List PoolEntry) (roots : Journals) (acts : List RootAct) (all : Caches) (next : Cache) (after : Root) (plan : PoolState) →
+pub acted_called : (supers partitions n p : ℕ) (ps : List Played) (x : Played) (pools more : List PoolEntry) (roots : Journals)
+    (acts : List RootAct) (all : Caches) (next : Cache) (after : Root) (plan : PoolState) →
     IsPlacedTo partitions n ps pools roots all → IsActed partitions n p x pools more roots acts (all x.thread) next → Asks supers n pools more (only_in p acts) →
     root_after (pools ++ more) acts (root_at pools roots p) ≡ after → pool_at supers (pools ++ more) ≡ plan →
     IsCalled supers partitions n x pools more roots p acts (all x.thread) next after plan
@@ -168,4 +170,14 @@ pub front_leaves : FrontLeaves
 front_leaves supers partitions n p class usable ps x pools roots all seen rest h line made asks front =
     nothing_done partitions n ps x pools roots all h line supers (with_list (all x.thread) p class rest) (λ j full. not_full_made x.answer seen usable j made full)
     (λ none. subst (λ a. CacheRow partitions (grown roots n no_acts) x a (all x.thread) (with_list (all x.thread) p class rest)) (sym made)
-    (inl (p, class, all x.thread p class, rest, asks, filled_front (grown roots n no_acts) x.line p class (all x.thread p class) (record { slot = seen.slot; number = number_of seen.found.0 }) rest front none, front, λ q c. refl)))
+    (inl (
+      p,
+      class,
+      all x.thread p class,
+      rest,
+      asks,
+      filled_front (grown roots n no_acts) x.line p class (all x.thread p class)
+          (record { slot = seen.slot; number = number_of seen.found.0 }) rest front none,
+      front,
+      λ q c. refl,
+    )))

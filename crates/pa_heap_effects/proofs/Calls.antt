@@ -74,7 +74,8 @@ module _ (supers partitions n p class usable : ℕ) (ps : List Played) (x : Play
   real = let (reg, size, is, of) = asks in real_in x.rules.version class (of.from, of.real)
 
   -- without asking the pool
-  filled_without : (after : Root) (plan : PoolState) (titles : List Title) → Fills class (fill_of class) (pool_at supers pools) plan (root_at pools roots p) (record { root = after; titles = titles }) None →
+  filled_without : (after : Root) (plan : PoolState) (titles : List Title)
+      → Fills class (fill_of class) (pool_at supers pools) plan (root_at pools roots p) (record { root = after; titles = titles }) None →
       map name_of titles ≡ names xs → IsCalled supers partitions n x pools [] roots p (Fill class None xs ∷ []) (all x.thread) (with_list (all x.thread) p class rest) after plan
   filled_without after plan titles (some, same, is) named =
       let got : titles ≡ (takes class (fill_of class) (root_at pools roots p)).titles = ap (λ (f : Filled). f.titles) is in
@@ -108,14 +109,16 @@ module _ (supers partitions n p class usable : ℕ) (ps : List Played) (x : Play
   no_slots : (titles : List Title) → titles ≡ [] → map name_of titles ≡ names xs → ⊥
   no_slots titles e named = not_cons seen.slot (names rest) (sym (ap (map name_of) e) ∙ named ∙ ap names front)
 
-  first_of_titles : (titles : List Title) (entry first : ℕ) → IsNone (span_for class (root_at pools roots p)) → titles ≡ (takes class (fill_of class) (opened first entry (root_at pools roots p))).titles →
+  first_of_titles : (titles : List Title) (entry first : ℕ) → IsNone (span_for class (root_at pools roots p))
+      → titles ≡ (takes class (fill_of class) (opened first entry (root_at pools roots p))).titles →
       map name_of titles ≡ names xs → found_by titles ≡ Some first
   first_of_titles [] entry first none is named = absurd (no_slots [] refl named)
   first_of_titles (t ∷ ts) entry first none is named =
       ap Some (ap super_page_at (first_start class (fill_of class) first entry (root_at pools roots p) t ts none (sym is)) ∙ page_super first)
 
   filled_asking : (after : Root) (plan : PoolState) (titles : List Title) (entry : ℕ) (found : Option ℕ) → IsNone (span_for class (root_at pools roots p)) →
-      IsAsked 1 entry found (pool_at supers pools) plan → record { root = after; titles = titles } ≡ filled_by class (fill_of class) entry found (root_at pools roots p) → map name_of titles ≡ names xs →
+      IsAsked 1 entry found (pool_at supers pools) plan → record { root = after; titles = titles } ≡ filled_by class (fill_of class) entry
+      found (root_at pools roots p) → map name_of titles ≡ names xs →
       IsCalled supers partitions n x pools (asked_for n p 1 titles (Some entry)) roots p (Fill class (Some entry) xs ∷ []) (all x.thread) (with_list (all x.thread) p class rest) after plan
   filled_asking after plan titles entry None none asked is named = absurd (no_slots titles (ap (λ (f : Filled). f.titles) is) named)
   filled_asking after plan titles entry (Some first) none asked is named =
@@ -201,10 +204,12 @@ full_is_done supers partitions n p class asked j ps x pools roots all plan after
         let left = journal_leaves pools (roots p) (h.journals p) in
         let at : asked ≡ length pools = ask.entry ∙ entries_are supers partitions n ps pools roots all h in
         let some = (IsRow-of class real).some_fill in
-        absurd (never_empty class (fill_of class) first asked (root_at pools roots p) left.sound (born_more (least_after_all 0 (roots p)) asked (root_at pools roots p) (omega arith) left.born) real some
+        absurd (never_empty class (fill_of class) first asked (root_at pools roots p) left.sound
+        (born_more (least_after_all 0 (roots p)) asked (root_at pools roots p) (omega arith) left.born) real some
         (sym (ap (λ (f : Filled). f.titles) is) ∙ none))
 
-    by_answer : (titles : List Title) (o : Option ℕ) → Fills class (fill_of class) (pool_at supers pools) plan (root_at pools roots p) (record { root = after; titles = titles }) o → o ≡ Some asked → titles ≡ [] →
+    by_answer : (titles : List Title) (o : Option ℕ) → Fills class (fill_of class) (pool_at supers pools) plan (root_at pools roots p)
+        (record { root = after; titles = titles }) o → o ≡ Some asked → titles ≡ [] →
         IsCalled supers partitions n x pools (asked_for n p 1 [] (Some asked)) roots p (Full (Some class) asked ∷ []) (all x.thread) (all x.thread) after plan
     by_answer titles None did at none = absurd (not_some asked at)
     by_answer titles (Some entry) (no_span, found, ask, is) at none =

@@ -80,7 +80,8 @@ module _ (supers partitions n p size usable asked : ℕ) (ps : List Played) (x :
       (calls_fit.map pools e first (shape_of size).slot seen.slot (root_at pools roots p) act (ap (λ (z : SlotName). z.start) slot) (born ∙ at)) in
       one_called supers partitions n p ps x pools (e ∷ []) roots (Map asked seen.slot (shape_of size).slot) all (all x.thread) h after plan
       (map_act (e ∷ []) fits at born)
-      (asks_once supers n p pools e (Map asked seen.slot (shape_of size).slot) refl refl (omega arith, subst (λ z. IsLowest (pool_at supers pools) (shape_of size).supers z) (sym found) ask.lowest) (ap Some at))
+      (asks_once supers n p pools e (Map asked seen.slot (shape_of size).slot) refl refl
+      (omega arith, subst (λ z. IsLowest (pool_at supers pools) (shape_of size).supers z) (sym found) ask.lowest) (ap Some at))
       (ap (λ z. mapped (map_title z (shape_of size).slot) (root_at pools roots p)) slot ∙ sym (ap (λ (f : Filled). f.root) is))
       (pool_grows.next supers pools e ∙ ap (λ z. took (shape_of size).supers z (pool_at supers pools)) found ∙ sym ask.took)
 

@@ -60,7 +60,8 @@ move_counted w m (n ∷ ms) among is =
     ]
 
 -- the slot left a journal as often as it came back, or once more
-pub left_or_back : (pools : List PoolEntry) (journal : List RootEntry) (s : SlotName) → IsJournal pools journal → (times_back s journal ≤ times_left s journal) × (times_left s journal ≤ times_back s journal + 1)
+pub left_or_back : (pools : List PoolEntry) (journal : List RootEntry) (s : SlotName) → IsJournal pools journal
+    → (times_back s journal ≤ times_left s journal) × (times_left s journal ≤ times_back s journal + 1)
 left_or_back pools journal s h = elim (out_is_left pools journal s h) [
   | inl (out, more) ↦ (omega arith, omega arith)
   | inr (in', same) ↦ (omega arith, omega arith)
@@ -108,7 +109,8 @@ one_numbered pools journal e s h h' numbered leaves =
         let slot : m.slot ≡ s = same_slot_eq m.slot s is in
         by_way m m.way refl among member slot
       where
-        by_way : (m : Move) (w : Way) → m.way ≡ w → Contains (filter (is_of s) (moves_by e.line e.act)) m → Contains (moves_by e.line e.act) m → m.slot ≡ s → HasAt (at_end (Some 0) (moves_of journal s)) w m.number
+        by_way : (m : Move) (w : Way) → m.way ≡ w → Contains (filter (is_of s) (moves_by e.line e.act)) m
+            → Contains (moves_by e.line e.act) m → m.slot ≡ s → HasAt (at_end (Some 0) (moves_of journal s)) w m.number
         by_way m Out way among member slot =
             let some = move_counted is_out m (filter (is_of s) (moves_by e.line e.act)) among (ap is_out way) in
             let a = acts_out e.line s e.act in

@@ -118,7 +118,8 @@ module _ (supers n : ℕ) (pools : List PoolEntry) (e : PoolEntry) (roots : Jour
           subst (λ z. slice_get (roots p ++ entries_at n z) (length (roots p)) ≡ Some (record { line = n; act = asks.act })) (sym only)
           (slice_get_at (roots p) [] (record { line = n; act = asks.act }))
 
-      last_named : (k : ℕ) → j ≡ length pools + k → slice_get (e ∷ []) k ≡ Some f → (i : ℕ) × (g : RootEntry) × IsEntry (grown roots n acts) f.partition i g × (asked_by g.act ≡ Some j) × (g.line ≡ f.line)
+      last_named : (k : ℕ) → j ≡ length pools + k → slice_get (e ∷ []) k ≡ Some f → (i : ℕ) × (g : RootEntry)
+          × IsEntry (grown roots n acts) f.partition i g × (asked_by g.act ≡ Some j) × (g.line ≡ f.line)
       last_named zero at is =
           let same : e ≡ f = of_some e f is in
           let there : f.partition ≡ e.partition = ap (λ (z : PoolEntry). z.partition) (sym same) in

@@ -100,10 +100,13 @@ module _ (supers partitions n p class : ℕ) (ls : List Line) (ps : List Played)
         fits = gives_alone (pools ++ []) (least_after_all 0 (roots p)) xs (root_at pools roots p) sound are_out;
         makes = λ a among. give_makes (pools ++ []) p x a (inl frees) (give_is xs a among);
         refusal = λ j reg q size full. absurd (not_full_done x.answer seen j returns.answer full);
-        row = λ only. subst (λ a. CacheRow partitions (grown roots n (only_in p (gives xs))) x a (all x.thread) (with_list (all x.thread) p class (kept class (returned_by seen ∷ all x.thread p class)))) (sym returns.answer)
+        row = λ only. subst (λ a. CacheRow partitions (grown roots n (only_in p (gives xs))) x a (all x.thread)
+            (with_list (all x.thread) p class (kept class (returned_by seen ∷ all x.thread p class)))) (sym returns.answer)
             (done_row _ x (step_of x.op) returns.step seen (all x.thread) _ returns.makes returns.returning
             (inl (p, class, class_grown p of, subst (λ z. OnlyActs (grown roots n (only_in p (gives xs))) x.line p (gives z)) is only, λ q c. refl)));
-        numbers = λ s. backs_numbered pools (roots p) n (gives xs) s (h.placed.journals p) (gives_alone pools (least_after_all 0 (roots p)) xs (root_at pools roots p) sound are_out) (h.placed.numbers p s) (gives_leave xs);
+        numbers = λ s. backs_numbered pools (roots p) n (gives xs) s (h.placed.journals p)
+            (gives_alone pools (least_after_all 0 (roots p)) xs (root_at pools roots p) sound are_out) (h.placed.numbers p s)
+            (gives_leave xs);
         unmaps = λ other q asked slot e done among at act. elim (grown_cases roots n (only_in p (gives xs)) q e among) [
           | inl old ↦ absurd (let low = h.placed.entered q e old in omega arith)
           | inr new ↦ absurd (no_unmap q e asked slot act new.0)

@@ -35,7 +35,8 @@ fits_before supers before es partition (pool.Give count first) h (t, one, (e, th
       | inr (k, at, is) ↦ absurd (omega arith)
     ]
 
-step_of_pool : (supers : ℕ) (pools before : List PoolEntry) (e : PoolEntry) (es : List PoolEntry) → pools ≡ before ++ e ∷ es → IsPool supers before → PoolReplays pools (e ∷ es) (pool_at supers before) →
+step_of_pool : (supers : ℕ) (pools before : List PoolEntry) (e : PoolEntry) (es : List PoolEntry) → pools ≡ before ++ e ∷ es
+    → IsPool supers before → PoolReplays pools (e ∷ es) (pool_at supers before) →
     Moment supers pools (length before) e before es
 step_of_pool supers pools before e es parts h fits = record {
   parts = parts;
@@ -45,7 +46,8 @@ step_of_pool supers pools before e es parts h fits = record {
 }
 
 -- if an entry and those after it replay on the pool before it, those after it replay on the pool with it
-rest_of : (supers : ℕ) (pools before : List PoolEntry) (e : PoolEntry) (es : List PoolEntry) → PoolReplays pools (e ∷ es) (pool_at supers before) → PoolReplays pools es (pool_at supers (before ++ e ∷ []))
+rest_of : (supers : ℕ) (pools before : List PoolEntry) (e : PoolEntry) (es : List PoolEntry)
+    → PoolReplays pools (e ∷ es) (pool_at supers before) → PoolReplays pools es (pool_at supers (before ++ e ∷ []))
 rest_of supers pools before e es fits = subst (λ s. PoolReplays pools es s) (sym (pool_grows.next supers before e)) fits.1
 
 after_moment : (supers : ℕ) (pools : List PoolEntry) (k : ℕ) (e : PoolEntry) (before after : List PoolEntry) → Moment supers pools k e before after → IsPool supers (before ++ e ∷ [])
@@ -56,7 +58,8 @@ record Found (supers : ℕ) (pools : List PoolEntry) (k : ℕ) (e : PoolEntry) (
   when : Moment supers pools k e before after
   rest : PoolReplays pools after (pool_at supers (before ++ e ∷ []))
 
-moment_from : (supers : ℕ) (pools before es : List PoolEntry) (k : ℕ) (e : PoolEntry) → pools ≡ before ++ es → IsPool supers before → PoolReplays pools es (pool_at supers before) → slice_get es k ≡ Some e →
+moment_from : (supers : ℕ) (pools before es : List PoolEntry) (k : ℕ) (e : PoolEntry) → pools ≡ before ++ es → IsPool supers before
+    → PoolReplays pools es (pool_at supers before) → slice_get es k ≡ Some e →
     (front behind : List PoolEntry) × Found supers pools (length before + k) e front behind
 moment_from supers pools before [] k e parts h fits at = absurd (not_some e at)
 moment_from supers pools before (x ∷ es) zero e parts h fits at =
@@ -65,7 +68,8 @@ moment_from supers pools before (x ∷ es) zero e parts h fits at =
     (before, es, subst (λ z. Found supers pools (length before + 0) z before es) (of_some x e at) (subst (λ i. Found supers pools i x before es) place f))
 moment_from supers pools before (x ∷ es) (suc k) e parts h fits at =
     let m = step_of_pool supers pools before x es parts h fits in
-    let (front, behind, found) = moment_from supers pools (before ++ x ∷ []) es k e (parts ∙ sym (append_assoc before (x ∷ []) es)) (after_moment supers pools (length before) x before es m) (rest_of supers pools before x es fits) at in
+    let (front, behind, found) = moment_from supers pools (before ++ x ∷ []) es k e (parts ∙ sym (append_assoc before (x ∷ []) es))
+    (after_moment supers pools (length before) x before es m) (rest_of supers pools before x es fits) at in
     let long = length-append before (x ∷ []) in
     let place : length (before ++ x ∷ []) + k ≡ length before + suc k = omega arith in
     (front, behind, subst (λ i. Found supers pools i e front behind) place found)
@@ -89,7 +93,8 @@ pub record WasGiven (supers : ℕ) (pools : List PoolEntry) (u : Taken) (k : ℕ
   pub owner : IsPartitions before e.partition u
 
 -- runs that begin at one super page are one
-pub one_first : (supers : ℕ) (pools : List PoolEntry) (t u : Taken) → IsPool supers pools → Contains (pool_at supers pools).taken t → Contains (pool_at supers pools).taken u → t.first ≡ u.first → t ≡ u
+pub one_first : (supers : ℕ) (pools : List PoolEntry) (t u : Taken) → IsPool supers pools → Contains (pool_at supers pools).taken t
+    → Contains (pool_at supers pools).taken u → t.first ≡ u.first → t ≡ u
 one_first supers pools t u h among among' same =
     let sound = pool_is_sound.sound supers pools h in
     let some = sound.some t among in
@@ -105,7 +110,8 @@ keeps (pool.Give count first) s u among = elim (cases_eq u.first first) [
   | inr other ↦ inl (without_keeps first s.taken u among other)
 ]
 
-given_by : (supers : ℕ) (before : List PoolEntry) (partition count first : ℕ) (act : PoolAct) (u : Taken) → IsPool supers before → PoolActFits before partition act (pool_at supers before) → act ≡ pool.Give count first →
+given_by : (supers : ℕ) (before : List PoolEntry) (partition count first : ℕ) (act : PoolAct) (u : Taken) → IsPool supers before
+    → PoolActFits before partition act (pool_at supers before) → act ≡ pool.Give count first →
     Contains (pool_at supers before).taken u → u.first ≡ first → (act ≡ pool.Give u.count u.first) × IsPartitions before partition u
 given_by supers before partition count first act u h fits is among same =
     let (v, one, owner) = subst (λ z. PoolActFits before partition z (pool_at supers before)) is fits in
@@ -117,7 +123,8 @@ given_by supers before partition count first act u h fits is among same =
 abbrev pub IsTakenOrGiven : ℕ → List PoolEntry → Taken → Type 0
 IsTakenOrGiven supers pools u = Contains (pool_at supers pools).taken u ⊎ ((k : ℕ) × (e : PoolEntry) × (before after : List PoolEntry) × WasGiven supers pools u k e before after)
 
-walk : (supers : ℕ) (pools before es : List PoolEntry) (u : Taken) → pools ≡ before ++ es → IsPool supers before → PoolReplays pools es (pool_at supers before) → Contains (pool_at supers before).taken u →
+walk : (supers : ℕ) (pools before es : List PoolEntry) (u : Taken) → pools ≡ before ++ es → IsPool supers before
+    → PoolReplays pools es (pool_at supers before) → Contains (pool_at supers before).taken u →
     IsTakenOrGiven supers pools u
 walk supers pools before [] u parts h fits among = inl (subst (λ z. Contains (pool_at supers z).taken u) (sym (parts ∙ append-nil before)) among)
 walk supers pools before (e ∷ es) u parts h fits among =

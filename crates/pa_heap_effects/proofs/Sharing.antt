@@ -90,7 +90,8 @@ module _ (supers : ℕ) (pools : List PoolEntry) (roots : Journals) (h : SharePo
     own : entry.partition ≡ p
 
   -- the super page of a slot is never given: only direct maps go back
-  never : (p : ℕ) (t : Title) (first : ℕ) (d : PoolEntry) → IsMade (root_at pools roots p) t → slice_get pools t.born ≡ Some d → d.partition ≡ p → (k : ℕ) (e : PoolEntry) (before after : List PoolEntry) →
+  never : (p : ℕ) (t : Title) (first : ℕ) (d : PoolEntry) → IsMade (root_at pools roots p) t → slice_get pools t.born ≡ Some d
+      → d.partition ≡ p → (k : ℕ) (e : PoolEntry) (before after : List PoolEntry) →
       WasGiven supers pools (run_of t.born first 1) k e before after → ⊥
   never p t first d made at own k e before after w =
       let at_k : slice_get pools k ≡ Some e = ap (λ z. slice_get z k) w.when.parts ∙ ap (λ i. slice_get (before ++ e ∷ after) i) (sym w.when.place) ∙ slice_get_at before after e in
@@ -107,7 +108,8 @@ module _ (supers : ℕ) (pools : List PoolEntry) (roots : Journals) (h : SharePo
       let journal = subst (λ z. IsJournal pools z) u.parts (h.journals e.partition) in
       let whole = subst (λ z. Contains (root_replayed pools z new_root).supers page) u.parts (subst (λ q. Contains (root_at pools roots q).supers page) (sym place) member) in
       let parted = subst (λ (r : Root). Contains r.supers page) (root_parts pools xs (f ∷ ys) new_root) whole in
-      elim (later_supers pools (f ∷ ys) (least_after_all 0 xs) (root_replayed pools xs new_root) page left.sound left.settled left.born (replays_rest pools xs (f ∷ ys) new_root journal.replays) (rise_rest 0 xs (f ∷ ys) journal.rise) parted) [
+      elim (later_supers pools (f ∷ ys) (least_after_all 0 xs) (root_replayed pools xs new_root) page left.sound left.settled left.born
+      (replays_rest pools xs (f ∷ ys) new_root journal.replays) (rise_rest 0 xs (f ∷ ys) journal.rise) parted) [
         | inl early ↦ left.sound.mixed (map_title slot.slot len) page u.mapped early (born ∙ is)
         | inr late ↦ let low = left.born.maps (map_title slot.slot len) u.mapped in omega arith
       ]

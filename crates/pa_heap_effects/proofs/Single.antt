@@ -51,7 +51,8 @@ act_entry n p roots act =
     subst (λ z. slice_get (roots p ++ entries_at n z) (length (roots p)) ≡ Some (record { line = n; act = act })) (sym (only_here p (act ∷ [])))
     (slice_get_at (roots p) [] (record { line = n; act = act }))
 
-module _ (supers partitions n p : ℕ) (ps : List Played) (x : Played) (pools more : List PoolEntry) (roots : Journals) (act : RootAct) (all : Caches) (next : Cache) (h : IsPlacedTo partitions n ps pools roots all) where
+module _ (supers partitions n p : ℕ) (ps : List Played) (x : Played) (pools more : List PoolEntry) (roots : Journals) (act : RootAct)
+    (all : Caches) (next : Cache) (h : IsPlacedTo partitions n ps pools roots all) where
   pub one_called : (after : Root) (plan : PoolState) → IsOneAct partitions n p x pools more roots act (all x.thread) next → Asks supers n pools more (only_in p (act ∷ [])) →
       root_next (pools ++ more) act (root_at pools roots p) ≡ after → pool_at supers (pools ++ more) ≡ plan →
       IsCalled supers partitions n x pools more roots p (act ∷ []) (all x.thread) next after plan

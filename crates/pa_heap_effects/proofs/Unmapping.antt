@@ -143,7 +143,8 @@ pub record UnmapOf (pools : List PoolEntry) (roots : Journals) (q k first : ℕ)
 abbrev Unmaps : List PoolEntry → RootAct → ℕ → ℕ → Root → Type 0
 Unmaps pools act k first r = (slot : Numbered) × (len : ℕ) × (act ≡ Unmap k slot) × Contains r.maps (map_title slot.slot len) × (slot.slot.start ≡ page_place first 1)
 
-unmaps_by : (pools : List PoolEntry) (act : RootAct) (k count first : ℕ) (r : Root) → asked_by act ≡ Some k → act_at pools k ≡ Some (pool.Give count first) → RootActFits pools act r → Unmaps pools act k first r
+unmaps_by : (pools : List PoolEntry) (act : RootAct) (k count first : ℕ) (r : Root) → asked_by act ≡ Some k
+    → act_at pools k ≡ Some (pool.Give count first) → RootActFits pools act r → Unmaps pools act k first r
 unmaps_by pools (Fill class None slots) k count first r asked gave fits = absurd (not_some k asked)
 unmaps_by pools (Fill class (Some j) slots) k count first r asked gave fits =
     absurd (take_is_no_give (act_at pools j) 1 _ count first fits.1.2 (subst (λ z. act_at pools z ≡ Some (pool.Give count first)) (sym (of_some j k asked)) gave))
@@ -246,17 +247,23 @@ module _ (supers : ℕ) (pools : List PoolEntry) (roots : Journals) (h : SharePo
       ]
     where
       earlier : ((j : ℕ) (d : PoolEntry) (front behind : List PoolEntry) (slot' : Numbered) (len' : ℕ) (f' : RootEntry) (xs' ys' : List RootEntry) → j < fuel → Moment supers pools j d front behind →
-          UnmapOf pools roots d.partition j first slot' len' f' xs' ys' → Contains (pool_at supers front).taken (run_of slot'.slot.born first (supers_for len'))) → (k' : ℕ) (e' : PoolEntry) (before' after' : List PoolEntry) → WasGiven supers before (run_of slot.slot.born first (supers_for len)) k' e' before' after' → ⊥
+          UnmapOf pools roots d.partition j first slot' len' f' xs' ys'
+          → Contains (pool_at supers front).taken (run_of slot'.slot.born first (supers_for len')))
+          → (k' : ℕ) (e' : PoolEntry) (before' after' : List PoolEntry)
+          → WasGiven supers before (run_of slot.slot.born first (supers_for len)) k' e' before' after' → ⊥
       earlier ih k' e' before' after' w =
           let whole : pools ≡ before' ++ e' ∷ (after' ++ e ∷ after) = m.parts ∙ ap (λ z. z ++ e ∷ after) w.when.parts ∙ append_assoc before' (e' ∷ after') (e ∷ after) in
           let m' : Moment supers pools k' e' before' (after' ++ e ∷ after) = record { parts = whole; place = w.when.place; fits = w.when.fits; acts = w.when.acts } in
-          let at' : slice_get pools k' ≡ Some e' = ap (λ z. slice_get z k') whole ∙ ap (λ i. slice_get (before' ++ e' ∷ (after' ++ e ∷ after)) i) (sym w.when.place) ∙ slice_get_at before' (after' ++ e ∷ after) e' in
+          let at' : slice_get pools k' ≡ Some e' = ap (λ z. slice_get z k') whole
+          ∙ ap (λ i. slice_get (before' ++ e' ∷ (after' ++ e ∷ after)) i) (sym w.when.place)
+          ∙ slice_get_at before' (after' ++ e ∷ after) e' in
           let long = ap length w.when.parts ∙ length-append before' (e' ∷ after') in
           let place = m.place in
           let place' = w.when.place in
           let (d, there, same_owner) = w.owner in
           let (i, names) = map_named e.partition xs (f ∷ ys) (map_title slot.slot len) u.parts u.journal u.mapped in
-          let at_d : slice_get pools slot.slot.born ≡ Some d = subst (λ z. slice_get z slot.slot.born ≡ Some d) (sym whole) (slice_get_more before' (e' ∷ (after' ++ e ∷ after)) slot.slot.born d there) in
+          let at_d : slice_get pools slot.slot.born ≡ Some d = subst (λ z. slice_get z slot.slot.born ≡ Some d) (sym whole)
+          (slice_get_more before' (e' ∷ (after' ++ e ∷ after)) slot.slot.born d there) in
           let one : e'.partition ≡ e.partition = sym same_owner ∙ owner_is slot.slot.born e.partition i d at_d names in
           let (slot', len', f', xs', ys', u') = unmap_of k' (supers_for len) first e' at' w.act in
           let run' = ih k' e' before' (after' ++ e ∷ after) slot' len' f' xs' ys' (omega arith) m' u' in

@@ -43,7 +43,8 @@ pub HasWritten_refl : (told : Option (List ℕ)) (all : List ℕ) → HasWritten
 HasWritten_refl told all = record { front = []; split = refl; grown = Appends_refl told }
 
 -- one more write: what it left of the rest is the new rest
-pub Takes_more : (start before after : Option (List ℕ)) (all rest left : List ℕ) (n : ℕ) → HasWritten start before all rest → Takes before after n rest → left ≡ drop n rest → HasWritten start after all left
+pub Takes_more : (start before after : Option (List ℕ)) (all rest left : List ℕ) (n : ℕ) → HasWritten start before all rest
+    → Takes before after n rest → left ≡ drop n rest → HasWritten start after all left
 Takes_more start before after all rest left n w t e = record {
   front = w.front ++ take n rest;
   split = rw (e, append_assoc, take-append-drop) w.split;

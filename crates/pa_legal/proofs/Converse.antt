@@ -129,7 +129,9 @@ module _ (pools : List PoolEntry) (journal : List RootEntry) (s : SlotName) (j :
   abbrev Even : Option ℕ → List RootEntry → Type 0
   Even at done = had at + times_left s done ≡ times_back s done + 1
 
-  module _ (done es : List RootEntry) (e : RootEntry) (at : Option ℕ) (parts : journal ≡ done ++ e ∷ es) (even : had at + times_left s done ≡ times_back s done + 1) (fits : (k : ℕ) → WaysFit (away_at at k) (filter (is_move_of s k) (all_moves (e ∷ es)))) where
+  module _ (done es : List RootEntry) (e : RootEntry) (at : Option ℕ) (parts : journal ≡ done ++ e ∷ es)
+      (even : had at + times_left s done ≡ times_back s done + 1)
+      (fits : (k : ℕ) → WaysFit (away_at at k) (filter (is_move_of s k) (all_moves (e ∷ es)))) where
     outs : counted is_out (filter (is_of s) (moves_by e.line e.act)) ≡ times s (leaves_by e.act)
     outs = acts_out e.line s e.act
 
@@ -143,10 +145,13 @@ module _ (pools : List PoolEntry) (journal : List RootEntry) (s : SlotName) (j :
     even_after = journal_even pools (done ++ e ∷ []) s (front (done ++ e ∷ []) es (parts ∙ sym (append_assoc done (e ∷ []) es)))
 
     -- the moves at a number, by the entry's own
-    at_here : (here : List Move) (k : ℕ) → filter (is_of s) (moves_by e.line e.act) ≡ here → WaysFit (away_at at k) (filter (λ (m : Move). m.number == k) here ++ filter (is_move_of s k) (all_moves es))
+    at_here : (here : List Move) (k : ℕ) → filter (is_of s) (moves_by e.line e.act) ≡ here
+        → WaysFit (away_at at k) (filter (λ (m : Move). m.number == k) here ++ filter (is_move_of s k) (all_moves es))
     at_here here k is =
         subst (λ zs. WaysFit (away_at at k) zs)
-        (filter-append (is_move_of s k) (moves_by e.line e.act) (all_moves es) ∙ ap (λ zs. zs ++ filter (is_move_of s k) (all_moves es)) (at_number s k (moves_by e.line e.act) ∙ ap (filter (λ (m : Move). m.number == k)) is))
+        (filter-append (is_move_of s k) (moves_by e.line e.act) (all_moves es)
+        ∙ ap (λ zs. zs ++ filter (is_move_of s k) (all_moves es))
+        (at_number s k (moves_by e.line e.act) ∙ ap (filter (λ (m : Move). m.number == k)) is))
         (fits k)
 
     -- it moves the slot once at most
@@ -230,7 +235,8 @@ module _ (pools : List PoolEntry) (journal : List RootEntry) (s : SlotName) (j :
 
   -- it goes on as numbered from here
   abbrev GoesOn : List RootEntry → List RootEntry → Type 0
-  GoesOn done rest = (next : Option ℕ) → had next + times_left s done ≡ times_back s done + 1 → ((k : ℕ) → WaysFit (away_at next k) (filter (is_move_of s k) (all_moves rest))) → IsNumbered next (moves_of rest s)
+  GoesOn done rest = (next : Option ℕ) → had next + times_left s done ≡ times_back s done + 1
+      → ((k : ℕ) → WaysFit (away_at next k) (filter (is_move_of s k) (all_moves rest))) → IsNumbered next (moves_of rest s)
 
   numbered_from : (done rest : List RootEntry) (at : Option ℕ) → journal ≡ done ++ rest → had at + times_left s done ≡ times_back s done + 1 →
       ((k : ℕ) → WaysFit (away_at at k) (filter (is_move_of s k) (all_moves rest))) → IsNumbered at (moves_of rest s)
@@ -262,7 +268,8 @@ numbers_follow partitions ps pools roots r holders p s =
 done_is : (a b : Seen) → Done a ≡ Done b → a ≡ b
 done_is a b e = cc
 
-unmaps_follow : (supers partitions : ℕ) (ps : List Played) (pools : List PoolEntry) (roots : Journals) → AreRoots partitions ps pools roots → IsPoolOf supers ps pools roots → AllPairs OtherRecord ps → Slots (marks_of ps) →
+unmaps_follow : (supers partitions : ℕ) (ps : List Played) (pools : List PoolEntry) (roots : Journals)
+    → AreRoots partitions ps pools roots → IsPoolOf supers ps pools roots → AllPairs OtherRecord ps → Slots (marks_of ps) →
     AreCaches partitions roots ps → AreHolders ps roots → ((x : Played) → Contains ps x → FindsInUse x) → (x : Played) → Contains ps x → UnmapsNext roots x
 unmaps_follow supers partitions ps pools roots r h lines slots caches holders used x among seen p asked slot e answer member line is =
     let real = below supers partitions ps pools roots r h lines slots caches p e member in
@@ -274,7 +281,8 @@ unmaps_follow supers partitions ps pools roots r h lines slots caches holders us
     let before = holders.gone_from_records p i asked (number_of back.seen.found.0) slot e x at is among (mark_at x.line back.seen (Some back.step), mark, back.slot, refl) in
     let move : Contains (moves_at (roots p) slot.slot slot.number) (move_of e.line Back slot) =
     filter_in (is_move_of slot.slot slot.number) (all_moves (roots p)) (move_of e.line Back slot)
-    (flat_in (λ (f : RootEntry). moves_by f.line f.act) (roots p) e (move_of e.line Back slot) member (subst (λ a. Contains (moves_by e.line a) (move_of e.line Back slot)) (sym is) (first_in (move_of e.line Back slot) [])))
+    (flat_in (λ (f : RootEntry). moves_by f.line f.act) (roots p) e (move_of e.line Back slot) member
+    (subst (λ a. Contains (moves_by e.line a) (move_of e.line Back slot)) (sym is) (first_in (move_of e.line Back slot) [])))
     (rw (same_slot_yes slot.slot slot.slot refl, eq-eqb slot.number slot.number refl) refl) in
     by_first (first_of (moves_at (roots p) slot.slot slot.number) (holders.moves p slot.slot slot.number) move)
     (λ z n there of. gone_from supers partitions ps pools roots r h lines slots caches used slot.slot x back among z n there of) number before
@@ -283,7 +291,8 @@ unmaps_follow supers partitions ps pools roots r h lines slots caches holders us
     first_of [] has there = absurd (not_in_none (move_of e.line Back slot) there)
     first_of (m ∷ ms) (holder, first, fit) there = (holder, first)
 
-    by_first : ((holder : Holder) × IsFirstHolder ps slot.slot slot.number holder) → {f : ℕ} → ((z : Played) (n : ℕ) → Contains ps z → IsOfSlot z slot.slot n → n < f + 1) → number_of seen.found.0 ≡ f → f < slot.number →
+    by_first : ((holder : Holder) × IsFirstHolder ps slot.slot slot.number holder) → {f : ℕ}
+        → ((z : Played) (n : ℕ) → Contains ps z → IsOfSlot z slot.slot n → n < f + 1) → number_of seen.found.0 ≡ f → f < slot.number →
         slot.number ≡ number_of seen.found.0 + 1
     by_first (holder, inl (none, root)) gone number before = absurd (omega arith)
     by_first (holder, inr (z, (there, m, step, mark, named, steps, returning, next), thread)) gone number before =

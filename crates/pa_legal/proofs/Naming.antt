@@ -150,7 +150,8 @@ gone_on pools (e ∷ es) b n r f m good fits rise gone among named same =
     ]
 
 -- a direct map that went back is no map of the root any more
-map_gone : (name : SlotName) (ts : List Title) (t u : Title) → AllPairs OtherBorn ts → Contains ts t → t.start ≡ name.start → t.born ≡ name.born → Contains (without_map name ts) u → u.born ≡ name.born → ⊥
+map_gone : (name : SlotName) (ts : List Title) (t u : Title) → AllPairs OtherBorn ts → Contains ts t → t.start ≡ name.start
+    → t.born ≡ name.born → Contains (without_map name ts) u → u.born ≡ name.born → ⊥
 map_gone name [] t u alone among start born there same = not_in_none t among
 map_gone name (v ∷ vs) t u alone among start born there same = elim (cases_Bool (eqb v.start name.start && eqb v.born name.born)) [
   | inl hit ↦
@@ -165,7 +166,8 @@ map_gone name (v ∷ vs) t u alone among start born there same = elim (cases_Boo
   ]
 ]
 
-pub unmap_gone : (pools : List PoolEntry) (asked n : ℕ) (slot : Numbered) (r : Root) → IsGood n r → n ≤ asked → RootActFits pools (Unmap asked slot) r → IsGone slot.slot.born (asked + 1) (unmapped slot.slot r)
+pub unmap_gone : (pools : List PoolEntry) (asked n : ℕ) (slot : Numbered) (r : Root) → IsGood n r → n ≤ asked
+    → RootActFits pools (Unmap asked slot) r → IsGone slot.slot.born (asked + 1) (unmapped slot.slot r)
 unmap_gone pools asked n slot r good asks (len, first, member, start, gave) = record {
   past = let below = good.born.maps (map_title slot.slot len) member in omega arith;
   supers = λ at among same. good.sound.mixed (map_title slot.slot len) at member among (sym same);

@@ -67,7 +67,8 @@ slots_counted w line way s (n ∷ ns) =
     parted true all x y e = e
     parted false all x y e = refl
 
-    one_slot : (n.slot ≡ s) ⊎ (n.slot ≡ s → ⊥) → counted w (filter (is_of s) (map (move_of line way) (n ∷ ns))) ≡ cond {A = ℕ} (w way) (once s n.slot) 0 + counted w (filter (is_of s) (map (move_of line way) ns))
+    one_slot : (n.slot ≡ s) ⊎ (n.slot ≡ s → ⊥) → counted w (filter (is_of s) (map (move_of line way) (n ∷ ns))) ≡ cond {A = ℕ} (w way)
+        (once s n.slot) 0 + counted w (filter (is_of s) (map (move_of line way) ns))
     one_slot (inl e) =
         ap (counted w) (filter_hit (map (move_of line way) ns) (same_slot_yes n.slot s e))
         ∙ sum_by-cons (λ (m : Move). cond {A = ℕ} (w m.way) 1 0) (move_of line way n) (filter (is_of s) (map (move_of line way) ns))
@@ -101,7 +102,8 @@ acts_back line s (Give slots) = slots_counted is_back line Back s slots
 acts_back line s (Unmap asked slot) = slots_counted is_back line Back s (slot ∷ [])
 acts_back line s Purge = refl
 
-parts_counted : (w : Way → Bool) (s : SlotName) (e : RootEntry) (es : List RootEntry) → counted w (moves_of (e ∷ es) s) ≡ counted w (filter (is_of s) (moves_by e.line e.act)) + counted w (moves_of es s)
+parts_counted : (w : Way → Bool) (s : SlotName) (e : RootEntry) (es : List RootEntry)
+    → counted w (moves_of (e ∷ es) s) ≡ counted w (filter (is_of s) (moves_by e.line e.act)) + counted w (moves_of es s)
 parts_counted w s e es =
     ap (counted w) (filter-append (is_of s) (moves_by e.line e.act) (all_moves es))
     ∙ sum_by-append (λ (m : Move). cond {A = ℕ} (w m.way) 1 0) (filter (is_of s) (moves_by e.line e.act)) (moves_of es s)

@@ -18,7 +18,8 @@ use Rattle.pa_rules.proofs.ByLines.{same_record}
 use Rattle.pa_lists.proofs.Elements.{in_one}
 
 -- if a step was made at a word of the run, the next word is one of the run
-pub goes_on : (ms : List Mark) (s : SlotName) (u : ℕ) (vs : List ℕ) (w : ℕ) (m : Mark) (p : Step) → AllPairs OtherLine ms → IsRunFrom ms s u vs → Contains (u ∷ vs) w → IsFirstAt ms s w m p → CanStep p w →
+pub goes_on : (ms : List Mark) (s : SlotName) (u : ℕ) (vs : List ℕ) (w : ℕ) (m : Mark) (p : Step) → AllPairs OtherLine ms
+    → IsRunFrom ms s u vs → Contains (u ∷ vs) w → IsFirstAt ms s w m p → CanStep p w →
     Contains (u ∷ vs) (stepped p w)
 goes_on ms s u [] w m p h run among first can =
     let e = in_one u w among in

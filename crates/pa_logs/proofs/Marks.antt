@@ -113,7 +113,8 @@ tells_none sizes line op a es none no_mark nothing = record {
   step_is = λ t step found value among. absurd (nothing_there t es step found value nothing among);
 }
 
-tells_done : (sizes : SlotName → ℕ) (line : ℕ) (op : Op) (seen : Seen) (es : List Entry) (o : Option Step) → step_of op ≡ o → IsDoneTold sizes o (value_by op) seen es → Tells sizes line op (answers.Done seen) es
+tells_done : (sizes : SlotName → ℕ) (line : ℕ) (op : Op) (seen : Seen) (es : List Entry) (o : Option Step) → step_of op ≡ o
+    → IsDoneTold sizes o (value_by op) seen es → Tells sizes line op (answers.Done seen) es
 tells_done sizes line op seen es None e told = absurd told
 tells_done sizes line op seen es (Some p) e told =
     tells_step sizes line op (answers.Done seen) es (record { slot = seen.slot; step = p; found = seen.found.0; value = value_by op })
@@ -121,7 +122,8 @@ tells_done sizes line op seen es (Some p) e told =
     (λ m marked none. some_none p (sym e ∙ (ap (λ (x : Mark). x.step) (of_some (mark_at line seen (step_of op)) m marked) ∙ none)))
     told
 
-tells_seen : (sizes : SlotName → ℕ) (line : ℕ) (op : Op) (a : Answer) (es : List Entry) (o : Option Seen) → step_in op a ≡ None → mark_of_answer line op a ≡ look_at line o → IsSeenTold sizes o es → Tells sizes line op a es
+tells_seen : (sizes : SlotName → ℕ) (line : ℕ) (op : Op) (a : Answer) (es : List Entry) (o : Option Seen) → step_in op a ≡ None
+    → mark_of_answer line op a ≡ look_at line o → IsSeenTold sizes o es → Tells sizes line op a es
 tells_seen sizes line op a es None none is told = tells_none sizes line op a es none is told
 tells_seen sizes line op a es (Some seen) none is told =
     tells_look sizes line op a es seen none is (look_there _ seen.found.0 es told) told.1 (λ t p w v among. look_alone (title_of sizes seen.slot) t seen.found.0 es p w v told among)

@@ -57,7 +57,8 @@ record Frees (ts : List ToldRecord) (s : SlotName) (word : ℕ) (y : ToldRecord)
   pub found : made.found ≡ word
 
 -- the entry of a free is that of a record's
-frees_of : (sizes : SlotName → ℕ) (ts : List ToldRecord) (s : SlotName) (word value : ℕ) (y : ToldRecord) → AreTold sizes ts → Contains ts y → Contains y.stretch (Counted (title_of sizes s) Free word value) →
+frees_of : (sizes : SlotName → ℕ) (ts : List ToldRecord) (s : SlotName) (word value : ℕ) (y : ToldRecord) → AreTold sizes ts
+    → Contains ts y → Contains y.stretch (Counted (title_of sizes s) Free word value) →
     Frees ts s word y
 frees_of sizes ts s word value y told among there =
     let (d, is, e) = (tells_its_mark sizes y (told y among)).step_is (title_of sizes s) Free word value there in
@@ -114,7 +115,8 @@ module _ (sizes : SlotName → ℕ) (v : View) (ts : List ToldRecord) (off : IsR
   left_before : (y z : ToldRecord) (d e : StepMade) → Contains ts y → Contains ts z → step_by y.played ≡ Some d → step_by z.played ≡ Some e → d.slot ≡ e.slot → y.played.phase < z.played.phase →
       number_of d.found + 1 ≤ number_of e.found
   left_before y z d e first second is other same late =
-      let rise = off.phases y.played z.played (mark_made y.played.line d) (mark_made z.played.line e) (map_in (λ (x : ToldRecord). x.played) ts y first) (map_in (λ (x : ToldRecord). x.played) ts z second)
+      let rise = off.phases y.played z.played (mark_made y.played.line d) (mark_made z.played.line e)
+      (map_in (λ (x : ToldRecord). x.played) ts y first) (map_in (λ (x : ToldRecord). x.played) ts z second)
       late (step_mark y.played.line y.played.op y.played.answer d is) (step_mark z.played.line z.played.op z.played.answer e other) same in
       omega arith
 
@@ -146,7 +148,8 @@ module _ (sizes : SlotName → ℕ) (v : View) (ts : List ToldRecord) (off : IsR
       free_step z seen reg op answer = ap (λ a. step_in z.op a) answer ∙ ap (λ o. step_in o (answers.Done seen)) op
 
   -- a free that is the next at the end of a read's phase is in that phase
-  may_be : (x y : ToldRecord) (seen : Seen) (w : View) (stake : Stake) (word : ℕ) → KnowsAll w (told_until x.played.phase ts) → Contains ts x → Contains ts y → (y.played.thread ≡ x.played.thread → ⊥) →
+  may_be : (x y : ToldRecord) (seen : Seen) (w : View) (stake : Stake) (word : ℕ) → KnowsAll w (told_until x.played.phase ts)
+      → Contains ts x → Contains ts y → (y.played.thread ≡ x.played.thread → ⊥) →
       mark_of x.played ≡ Some (mark_at x.played.line seen None) → y.played.phase ≤ x.played.phase → Frees ts seen.slot word y →
       IsNextFree w (title_of sizes seen.slot) (number_of seen.found.0) stake word → MayBePoison (played_in ts) x.played seen.slot (number_of seen.found.0)
   may_be x y seen w stake word knows among there ne is early frees next =
@@ -158,7 +161,8 @@ module _ (sizes : SlotName → ℕ) (v : View) (ts : List ToldRecord) (off : IsR
         ne,
         elim (cases_lt y.played.phase n) [
           | inl sooner ↦
-              let rise = off.phases y.played x.played (mark_made y.played.line frees.made) (mark_at x.played.line seen None) (map_in (λ (z : ToldRecord). z.played) ts y there) (map_in (λ (z : ToldRecord). z.played) ts x among)
+              let rise = off.phases y.played x.played (mark_made y.played.line frees.made) (mark_at x.played.line seen None)
+              (map_in (λ (z : ToldRecord). z.played) ts y there) (map_in (λ (z : ToldRecord). z.played) ts x among)
               sooner (step_mark y.played.line y.played.op y.played.answer frees.made frees.is) is frees.slot in
               absurd (omega arith)
           | inr late ↦ omega arith

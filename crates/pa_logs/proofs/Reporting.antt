@@ -234,7 +234,9 @@ module _ (supers partitions threads : ℕ) (home size : SlotName → ℕ) (lists
       } in
       let homes : AreHomes roots home size (marks_of xs) = λ m among. all.homes m (until_mark ps l.phase m among) in
       record {
-        live = tallies_follow.live supers partitions l.partition ps xs pools roots home size l.live tallied homes (left_by issues frees home size l.partition threads xs l.live few (tallies_follow.freed supers partitions l.partition ps xs pools roots home size tallied) h.live);
+        live = tallies_follow.live supers partitions l.partition ps xs pools roots home size l.live tallied homes
+            (left_by issues frees home size l.partition threads xs l.live few
+            (tallies_follow.freed supers partitions l.partition ps xs pools roots home size tallied) h.live);
         quarantined = tallies_follow.quarantined supers partitions l.partition ps xs pools roots home size l.quarantined tallied homes
             (left_by enters leaves home size l.partition threads xs l.quarantined few (tallies_follow.left supers partitions l.partition ps xs pools roots home size tallied) h.quarantined);
         cached = cached partitions threads roots xs l.partition l.cached h.cached;

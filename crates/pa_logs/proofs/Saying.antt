@@ -104,7 +104,9 @@ module _ (t : Trace) (r : Told) (v : View) (ts : List ToldRecord) (says : Layers
   -- ---- exchanges
 
   swap_in : (x : ToldRecord) (k : ℕ) (at : IsSwapAt says.swaps x k) → Contains says.swaps at.swap
-  swap_in x k at = subst (λ ss. Contains ss at.swap) (sym at.begins) (Contains-append_left (at.older ++ at.swap ∷ []) at.rest at.swap (Contains-append_right at.older (at.swap ∷ []) at.swap (first_in at.swap [])))
+  swap_in x k at = subst (λ ss. Contains ss at.swap) (sym at.begins)
+      (Contains-append_left (at.older ++ at.swap ∷ []) at.rest at.swap
+      (Contains-append_right at.older (at.swap ∷ []) at.swap (first_in at.swap [])))
 
   made_in : (s : SwapMade) → Contains says.swaps s → Contains (list_of 5 v) s.made
   made_in s among = subst (λ ms. Contains ms s.made) (sym says.cells.swaps_are.list_is) (map_in (λ (z : SwapMade). z.made) says.swaps s among)

@@ -70,7 +70,8 @@ HasPlace swaps e = (i : ℕ) × (s : SwapMade) × StandsAt swaps i e s
 later_place : (s : SwapMade) (ss : List SwapMade) (e : CellEntry) → HasPlace ss e → HasPlace (s ∷ ss) e
 later_place s ss e (i, t, there) = (suc i, t, record { at_i = there.at_i; is = there.is })
 
-first_place : (s : SwapMade) (ss : List SwapMade) (es : List CellEntry) (j : ℕ) (e : CellEntry) → ((i : ℕ) → slice_get es i ≡ Some e → HasPlace ss e) → slice_get (s.entry ∷ es) j ≡ Some e → HasPlace (s ∷ ss) e
+first_place : (s : SwapMade) (ss : List SwapMade) (es : List CellEntry) (j : ℕ) (e : CellEntry)
+    → ((i : ℕ) → slice_get es i ≡ Some e → HasPlace ss e) → slice_get (s.entry ∷ es) j ≡ Some e → HasPlace (s ∷ ss) e
 first_place s ss es zero e rest at_j = (0, s, record { at_i = refl; is = of_some s.entry e at_j })
 first_place s ss es (suc j) e rest at_j = later_place s ss e (rest j at_j)
 

@@ -31,7 +31,8 @@ abbrev pub by_records : ℕ → List Played → (ℕ → List CellEntry) → Fac
 by_records version ps cells = record { usable_of = usable_of version; usable_at = usable_in ps; cells = cells }
 
 module _ (version : ℕ) (sizes : SlotName → ℕ) (ps : List Played) (cells : ℕ → List CellEntry) where
-  alloc_row : (r : Reg) (regs : Regs) (reg size : ℕ) (a : Answer) (after : Regs) → AllocRow r (by_length version sizes cells) regs reg size a after → AllocRow r (by_records version ps cells) regs reg size a after
+  alloc_row : (r : Reg) (regs : Regs) (reg size : ℕ) (a : Answer) (after : Regs)
+      → AllocRow r (by_length version sizes cells) regs reg size a after → AllocRow r (by_records version ps cells) regs reg size a after
   alloc_row Empty regs reg size a after h = h
   alloc_row (Own s) regs reg size a after h = h
   alloc_row (Ref s) regs reg size a after h = h
@@ -43,7 +44,8 @@ module _ (version : ℕ) (sizes : SlotName → ℕ) (ps : List Played) (cells : 
   from_row s regs place a after same (becomes, inl (past, is)) = (becomes, inl (subst (λ n. n ≤ 8 * place) (sym same) past, is))
   from_row s regs place a after same (becomes, inr (inside, seen, value, slot, is)) = (becomes, inr (subst (λ n. 8 * place < n) (sym same) inside, seen, value, slot, is))
 
-  read_row : (r : Reg) (regs : Regs) (place : ℕ) (a : Answer) (after : Regs) → ((s : SlotName) → HoldsHandle r s → usable_in ps s ≡ sizes s - 8) → ReadRow r (by_length version sizes cells) regs place a after →
+  read_row : (r : Reg) (regs : Regs) (place : ℕ) (a : Answer) (after : Regs)
+      → ((s : SlotName) → HoldsHandle r s → usable_in ps s ≡ sizes s - 8) → ReadRow r (by_length version sizes cells) regs place a after →
       ReadRow r (by_records version ps cells) regs place a after
   read_row Empty regs place a after same h = h
   read_row (Own s) regs place a after same h = from_row s regs place a after (same s refl) h
@@ -162,6 +164,8 @@ have_readers version sizes cells ts told each x seen value among answer =
     let at = stands_at sizes facts no_regs ts x each among in
     let (held, (reg, place, owned, op, read)) = subst (λ a. IsToldBy sizes x.played.op a x.stretch) answer (told x among) in
     let regs = at.regs x.played.thread in
-    let row : ReadRow (regs reg) facts regs place (answers.Value seen value) at.next = subst (λ o. Row facts o regs (answers.Value seen value) at.next) op (subst (λ a. Row facts x.played.op regs a at.next) answer at.row) in
+    let row : ReadRow (regs reg) facts regs place (answers.Value seen value) at.next = subst
+    (λ o. Row facts o regs (answers.Value seen value) at.next) op
+    (subst (λ a. Row facts x.played.op regs a at.next) answer at.row) in
     let reads : IsReadThrough sizes (regs reg) x = subst (λ o. ReadsIts sizes regs o x) op at.reads in
     (reg, place, regs, op, (at.before, at.after, at.regs, at.parts, at.rows, refl), through sizes facts (regs reg) regs at.next seen place value owned x reads row read)

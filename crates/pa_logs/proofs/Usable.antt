@@ -31,7 +31,8 @@ said sizes s op (answers.Made seen usable) es other told = elim (cases_Bool (sam
 ]
 said sizes s op a es other told = inr refl
 
-made_here : (sizes : SlotName → ℕ) (s : SlotName) (op : Op) (a : Answer) (es : List Entry) (other : ℕ) (seen : Seen) (usable : ℕ) → IsToldBy sizes op a es → a ≡ answers.Made seen usable → seen.slot ≡ s →
+made_here : (sizes : SlotName → ℕ) (s : SlotName) (op : Op) (a : Answer) (es : List Entry) (other : ℕ) (seen : Seen) (usable : ℕ)
+    → IsToldBy sizes op a es → a ≡ answers.Made seen usable → seen.slot ≡ s →
     usable_or (made_of a) s other + 8 ≡ sizes s
 made_here sizes s op a es other seen usable told e slot =
     let made = subst (λ b. IsToldBy sizes op b es) e told in
@@ -40,7 +41,8 @@ made_here sizes s op a es other seen usable told e slot =
     omega arith
 
 -- by the records, a slot that one of them made has 8 usable bytes fewer than its size
-first_made : (sizes : SlotName → ℕ) (s : SlotName) (ts : List ToldRecord) (x : Played) (seen : Seen) (usable : ℕ) → AreTold sizes ts → Contains (played_in ts) x → x.answer ≡ answers.Made seen usable → seen.slot ≡ s →
+first_made : (sizes : SlotName → ℕ) (s : SlotName) (ts : List ToldRecord) (x : Played) (seen : Seen) (usable : ℕ) → AreTold sizes ts
+    → Contains (played_in ts) x → x.answer ≡ answers.Made seen usable → seen.slot ≡ s →
     usable_in (played_in ts) s + 8 ≡ sizes s
 first_made sizes s [] x seen usable told among e slot = absurd (not_in_none x among)
 first_made sizes s (y ∷ ys) x seen usable told among e slot = elim (in_cases y.played x (played_in ys) among) [

@@ -159,11 +159,13 @@ chain t = elim (title_tells its_title t) [
 abbrev pair_of : (Entry → Entry → ℕ) → ℕ
 pair_of weight = weight (Looked its_title 33554435) (Read its_title 0 0 no_deeds false false)
 
-first_pairs : (weight : Entry → Entry → ℕ) → weight (Counted its_title Issue 0 0) (Counted its_title Copy 16777217 0) ≡ 0 → weight (Counted its_title Copy 16777217 0) (Counted its_title Free 33554435 0) ≡ 0 →
+first_pairs : (weight : Entry → Entry → ℕ) → weight (Counted its_title Issue 0 0) (Counted its_title Copy 16777217 0) ≡ 0
+    → weight (Counted its_title Copy 16777217 0) (Counted its_title Free 33554435 0) ≡ 0 →
     paired_of (view_of worked_records) weight ≡ pair_of weight
 first_pairs weight a b = omega arith
 
-by_pairs : (r : ℕ) (weight : Entry → Entry → ℕ) → weight (Counted its_title Issue 0 0) (Counted its_title Copy 16777217 0) ≡ 0 → weight (Counted its_title Copy 16777217 0) (Counted its_title Free 33554435 0) ≡ 0 →
+by_pairs : (r : ℕ) (weight : Entry → Entry → ℕ) → weight (Counted its_title Issue 0 0) (Counted its_title Copy 16777217 0) ≡ 0
+    → weight (Counted its_title Copy 16777217 0) (Counted its_title Free 33554435 0) ≡ 0 →
     paired_of_by (view_of worked_records) r weight ≤ pair_of weight
 by_pairs r weight a b =
     let within = paired_by_within (view_of worked_records ∷ []) r weight in

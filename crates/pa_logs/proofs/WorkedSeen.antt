@@ -96,7 +96,8 @@ at_less n m t less = go (same_title its_title t)
 abbrev HasSeen : ℕ → ℕ → Title → ℕ → Type 0
 HasSeen saw gives t found = (at_number saw t ≤ number_of found) × (number_of found + 1 ≤ at_number gives t)
 
-one_step : (p : Step) (w v saw gives : ℕ) → saw ≤ number_of w → number_of w + 1 ≤ gives → (t : Title) (step : Step) (found value : ℕ) → Contains (Counted its_title p w v ∷ []) (Counted t step found value) →
+one_step : (p : Step) (w v saw gives : ℕ) → saw ≤ number_of w → number_of w + 1 ≤ gives → (t : Title) (step : Step) (found value : ℕ)
+    → Contains (Counted its_title p w v ∷ []) (Counted t step found value) →
     HasSeen saw gives t found
 one_step p w v saw gives low high t step found value among = elim (in_cases (Counted its_title p w v) (Counted t step found value) [] among) [
   | inl e ↦
@@ -149,16 +150,49 @@ not_after : (t : Title) (x y : ToldRecord) → (x.played.thread ≡ y.played.thr
 not_after t x y never same before = absurd (apart_threads x.played y.played never same before)
 
 from_maker : (t : Title) (y : ToldRecord) → Contains worked_records y → Handed t the_maker y
-from_maker t y second = by_four (Handed t the_maker) (not_after t the_maker the_maker (λ s l. absurd (omega arith)) refl, ((λ before. at_less 1 1 t (omega arith)), (not_after t the_maker the_reader (λ s l. absurd (omega arith)) refl, ((λ before. at_less 1 2 t (omega arith)), tt)))) y second
+from_maker t y second = by_four (Handed t the_maker) (
+  not_after t the_maker the_maker (λ s l. absurd (omega arith)) refl,
+  (
+    (λ before. at_less 1 1 t (omega arith)),
+    (
+      not_after t the_maker the_reader (λ s l. absurd (omega arith)) refl,
+      ((λ before. at_less 1 2 t (omega arith)), tt),
+    ),
+  ),
+) y second
 
 from_copy : (t : Title) (y : ToldRecord) → Contains worked_records y → Handed t the_copy y
-from_copy t y second = by_four (Handed t the_copy) (not_after t the_copy the_maker (λ s l. absurd (omega arith)) refl, (not_after t the_copy the_copy (λ s l. absurd (omega arith)) refl, (not_after t the_copy the_reader (λ s l. absurd (omega arith)) refl, ((λ before. at_less 2 2 t (omega arith)), tt)))) y second
+from_copy t y second = by_four (Handed t the_copy) (
+  not_after t the_copy the_maker (λ s l. absurd (omega arith)) refl,
+  (
+    not_after t the_copy the_copy (λ s l. absurd (omega arith)) refl,
+    (not_after t the_copy the_reader (λ s l. absurd (omega arith)) refl, ((λ before. at_less 2 2 t (omega arith)), tt)),
+  ),
+) y second
 
 from_reader : (t : Title) (y : ToldRecord) → Contains worked_records y → Handed t the_reader y
-from_reader t y second = by_four (Handed t the_reader) (not_after t the_reader the_maker (λ s l. absurd (omega arith)) refl, (not_after t the_reader the_copy (λ s l. absurd (omega arith)) refl, (not_after t the_reader the_reader (λ s l. absurd (omega arith)) refl, (not_after t the_reader the_free (λ s l. absurd (omega arith)) refl, tt)))) y second
+from_reader t y second = by_four (Handed t the_reader) (
+  not_after t the_reader the_maker (λ s l. absurd (omega arith)) refl,
+  (
+    not_after t the_reader the_copy (λ s l. absurd (omega arith)) refl,
+    (
+      not_after t the_reader the_reader (λ s l. absurd (omega arith)) refl,
+      (not_after t the_reader the_free (λ s l. absurd (omega arith)) refl, tt),
+    ),
+  ),
+) y second
 
 from_free : (t : Title) (y : ToldRecord) → Contains worked_records y → Handed t the_free y
-from_free t y second = by_four (Handed t the_free) (not_after t the_free the_maker (λ s l. absurd (omega arith)) refl, (not_after t the_free the_copy (λ s l. absurd (omega arith)) refl, (not_after t the_free the_reader (λ s l. absurd (omega arith)) refl, (not_after t the_free the_free (λ s l. absurd (omega arith)) refl, tt)))) y second
+from_free t y second = by_four (Handed t the_free) (
+  not_after t the_free the_maker (λ s l. absurd (omega arith)) refl,
+  (
+    not_after t the_free the_copy (λ s l. absurd (omega arith)) refl,
+    (
+      not_after t the_free the_reader (λ s l. absurd (omega arith)) refl,
+      (not_after t the_free the_free (λ s l. absurd (omega arith)) refl, tt),
+    ),
+  ),
+) y second
 
 stands_in : (t : Title) (x y : ToldRecord) → Contains worked_records x → Contains worked_records y → Handed t x y
 stands_in t x y first second =
@@ -186,7 +220,9 @@ viewed = record {
       ),
     ),
   ) x among t found;
-  grows = λ x t among. by_four (λ (y : ToldRecord). y.saw t ≤ y.gives t) (at_less 0 1 t (omega arith), (at_less 1 2 t (omega arith), (at_less 2 2 t (omega arith), (at_less 2 3 t (omega arith), tt)))) x among;
+  grows = λ x t among. by_four (λ (y : ToldRecord). y.saw t ≤ y.gives t)
+      (at_less 0 1 t (omega arith), (at_less 1 2 t (omega arith), (at_less 2 2 t (omega arith), (at_less 2 3 t (omega arith), tt)))) x
+      among;
   stands = λ x y t first second before. stands_in t x y first second before;
   hands = λ x y t first second h. absurd (no_entry h.1 h.2 h.4);
 }

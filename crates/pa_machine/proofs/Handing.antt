@@ -98,7 +98,8 @@ raw_unheld c k at_byte t sound raw held covers =
     ]
 
 -- what a store to an Own asks, by what the table of homes finds there
-opens : (c : Tables) (k at_byte : ℕ) (t : Title) (s : OwnState) → AreSound c → MayChange (state_of c) k t → Holds (state_of c) k (OwnAs t s) → IsContentOf t at_byte → IsOwnWord (state_of c) k at_byte t s
+opens : (c : Tables) (k at_byte : ℕ) (t : Title) (s : OwnState) → AreSound c → MayChange (state_of c) k t
+    → Holds (state_of c) k (OwnAs t s) → IsContentOf t at_byte → IsOwnWord (state_of c) k at_byte t s
 opens c k at_byte t s sound (inl free) holds within =
     let alone = free_alone c.words.items (total_of (state_of c)) t sound.good (in_total (state_of c) k (FreeTitle t) free) in
     let none = alone.2 in

@@ -38,7 +38,8 @@ no_place_at (suc n) zero = refl
 no_place_at (suc n) (suc i) = no_place_at n i
 
 -- the raw bytes are actor 0's, and nobody holds a title
-start_titles : (c : Tables) (bytes actors actor : ℕ) (x : Thing) → IsStartTables bytes actors c → actor < c.actors → held_in (raw_pieces actor 0 c.holders.items) x ≡ 0 → held_by (state_of c) actor x ≡ 0
+start_titles : (c : Tables) (bytes actors actor : ℕ) (x : Thing) → IsStartTables bytes actors c → actor < c.actors
+    → held_in (raw_pieces actor 0 c.holders.items) x ≡ 0 → held_by (state_of c) actor x ≡ 0
 start_titles c bytes actors actor x st has none =
     let e = held_tables c.holders.items c.slots.items c.actors actor x has in
     let z : sum_by (λ p. held_in (place_pieces actor p) x) c.slots.items ≡ 0 = rw st.slots (no_places actor (bytes / 8) x) in
@@ -59,10 +60,14 @@ start_held c bytes actors actor st has (RawByte b) =
           let y = none_of actor 0 (RawPiece 0 bytes ∷ []) (RawByte b) (uncovered_raw 0 bytes b (inr (omega arith))) in
           omega arith
     ]
-start_held c bytes actors actor st has (FreeTitle t) = start_titles c bytes actors actor (FreeTitle t) st has (raw_titles actor 0 c.holders.items t).free ∙ sym (none_of actor 0 (RawPiece 0 bytes ∷ []) (FreeTitle t) refl)
-start_held c bytes actors actor st has (OwnOf t) = start_titles c bytes actors actor (OwnOf t) st has (raw_titles actor 0 c.holders.items t).own ∙ sym (none_of actor 0 (RawPiece 0 bytes ∷ []) (OwnOf t) refl)
-start_held c bytes actors actor st has (OwnAs t s) = start_titles c bytes actors actor (OwnAs t s) st has ((raw_titles actor 0 c.holders.items t).state s) ∙ sym (none_of actor 0 (RawPiece 0 bytes ∷ []) (OwnAs t s) refl)
-start_held c bytes actors actor st has (RefOf t) = start_titles c bytes actors actor (RefOf t) st has (raw_titles actor 0 c.holders.items t).ref ∙ sym (none_of actor 0 (RawPiece 0 bytes ∷ []) (RefOf t) refl)
+start_held c bytes actors actor st has (FreeTitle t) = start_titles c bytes actors actor (FreeTitle t) st has
+    (raw_titles actor 0 c.holders.items t).free ∙ sym (none_of actor 0 (RawPiece 0 bytes ∷ []) (FreeTitle t) refl)
+start_held c bytes actors actor st has (OwnOf t) = start_titles c bytes actors actor (OwnOf t) st has
+    (raw_titles actor 0 c.holders.items t).own ∙ sym (none_of actor 0 (RawPiece 0 bytes ∷ []) (OwnOf t) refl)
+start_held c bytes actors actor st has (OwnAs t s) = start_titles c bytes actors actor (OwnAs t s) st has
+    ((raw_titles actor 0 c.holders.items t).state s) ∙ sym (none_of actor 0 (RawPiece 0 bytes ∷ []) (OwnAs t s) refl)
+start_held c bytes actors actor st has (RefOf t) = start_titles c bytes actors actor (RefOf t) st has
+    (raw_titles actor 0 c.holders.items t).ref ∙ sym (none_of actor 0 (RawPiece 0 bytes ∷ []) (RefOf t) refl)
 
 -- all actors together hold each byte once at the start, and no title
 start_total : (c : Tables) (bytes actors : ℕ) → IsStartTables bytes actors c → 1 ≤ actors → (x : Thing) → total_of (state_of c) x ≡ held_in (RawPiece 0 bytes ∷ []) x

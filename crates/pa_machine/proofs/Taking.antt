@@ -113,10 +113,16 @@ cut_things c after k t new sound can fresh filled actor x has =
   where
     raw_part : (x : Thing) → held_in (raw_pieces actor 0 after.holders.items) x + held_in (of_actor k (RawPiece t.start t.len ∷ []) actor) x ≡ held_in (raw_pieces actor 0 c.holders.items) x
     raw_part (RawByte b) = raw_lost c after.holders.items k t can filled actor b
-    raw_part (FreeTitle u) = let a = (raw_titles actor 0 after.holders.items u).free in let b = (raw_titles actor 0 c.holders.items u).free in let l = none_of actor k (RawPiece t.start t.len ∷ []) (FreeTitle u) refl in omega arith
-    raw_part (OwnOf u) = let a = (raw_titles actor 0 after.holders.items u).own in let b = (raw_titles actor 0 c.holders.items u).own in let l = none_of actor k (RawPiece t.start t.len ∷ []) (OwnOf u) refl in omega arith
-    raw_part (OwnAs u s) = let a = (raw_titles actor 0 after.holders.items u).state s in let b = (raw_titles actor 0 c.holders.items u).state s in let l = none_of actor k (RawPiece t.start t.len ∷ []) (OwnAs u s) refl in omega arith
-    raw_part (RefOf u) = let a = (raw_titles actor 0 after.holders.items u).ref in let b = (raw_titles actor 0 c.holders.items u).ref in let l = none_of actor k (RawPiece t.start t.len ∷ []) (RefOf u) refl in omega arith
+    raw_part (FreeTitle u) = let a = (raw_titles actor 0 after.holders.items u).free in let b =
+        (raw_titles actor 0 c.holders.items u).free in let l = none_of actor k (RawPiece t.start t.len ∷ []) (FreeTitle u) refl in omega
+        arith
+    raw_part (OwnOf u) = let a = (raw_titles actor 0 after.holders.items u).own in let b = (raw_titles actor 0 c.holders.items u).own in
+        let l = none_of actor k (RawPiece t.start t.len ∷ []) (OwnOf u) refl in omega arith
+    raw_part (OwnAs u s) = let a = (raw_titles actor 0 after.holders.items u).state s in let b =
+        (raw_titles actor 0 c.holders.items u).state s in let l = none_of actor k (RawPiece t.start t.len ∷ []) (OwnAs u s) refl in omega
+        arith
+    raw_part (RefOf u) = let a = (raw_titles actor 0 after.holders.items u).ref in let b = (raw_titles actor 0 c.holders.items u).ref in
+        let l = none_of actor k (RawPiece t.start t.len ∷ []) (RefOf u) refl in omega arith
 
 -- the tables after a cut
 pub record IsCutRow (c after : Tables) (k : ℕ) (t : Title) (new : Box Slot Global) : Type 0 where
@@ -274,10 +280,16 @@ uncut_things c after k t old sound can was filled actor x has =
   where
     raw_part : (x : Thing) → held_in (raw_pieces actor 0 after.holders.items) x ≡ held_in (raw_pieces actor 0 c.holders.items) x + held_in (of_actor k (RawPiece t.start t.len ∷ []) actor) x
     raw_part (RawByte b) = raw_gained c after.holders.items k t sound can filled actor b has
-    raw_part (FreeTitle u) = let a = (raw_titles actor 0 after.holders.items u).free in let b = (raw_titles actor 0 c.holders.items u).free in let l = none_of actor k (RawPiece t.start t.len ∷ []) (FreeTitle u) refl in omega arith
-    raw_part (OwnOf u) = let a = (raw_titles actor 0 after.holders.items u).own in let b = (raw_titles actor 0 c.holders.items u).own in let l = none_of actor k (RawPiece t.start t.len ∷ []) (OwnOf u) refl in omega arith
-    raw_part (OwnAs u s) = let a = (raw_titles actor 0 after.holders.items u).state s in let b = (raw_titles actor 0 c.holders.items u).state s in let l = none_of actor k (RawPiece t.start t.len ∷ []) (OwnAs u s) refl in omega arith
-    raw_part (RefOf u) = let a = (raw_titles actor 0 after.holders.items u).ref in let b = (raw_titles actor 0 c.holders.items u).ref in let l = none_of actor k (RawPiece t.start t.len ∷ []) (RefOf u) refl in omega arith
+    raw_part (FreeTitle u) = let a = (raw_titles actor 0 after.holders.items u).free in let b =
+        (raw_titles actor 0 c.holders.items u).free in let l = none_of actor k (RawPiece t.start t.len ∷ []) (FreeTitle u) refl in omega
+        arith
+    raw_part (OwnOf u) = let a = (raw_titles actor 0 after.holders.items u).own in let b = (raw_titles actor 0 c.holders.items u).own in
+        let l = none_of actor k (RawPiece t.start t.len ∷ []) (OwnOf u) refl in omega arith
+    raw_part (OwnAs u s) = let a = (raw_titles actor 0 after.holders.items u).state s in let b =
+        (raw_titles actor 0 c.holders.items u).state s in let l = none_of actor k (RawPiece t.start t.len ∷ []) (OwnAs u s) refl in omega
+        arith
+    raw_part (RefOf u) = let a = (raw_titles actor 0 after.holders.items u).ref in let b = (raw_titles actor 0 c.holders.items u).ref in
+        let l = none_of actor k (RawPiece t.start t.len ∷ []) (RefOf u) refl in omega arith
 
 -- the tables after an uncut
 pub record IsUncutRow (c after : Tables) (k : ℕ) (t : Title) : Type 0 where

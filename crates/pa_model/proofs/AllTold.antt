@@ -1,4 +1,5 @@
 -- What is reported at the end.
+use Rattle.std.proofs.Common.{◌≡◌}
 use Rattle.pa_trace.specs.declared.script.Trace.{Trace}
 use Rattle.pa_trace.specs.Limits.{IsWithinLimits}
 use Rattle.pa_record.specs.declared.run.Run.{Run}
@@ -12,9 +13,9 @@ use Rattle.pa_player.specs.Told.{IsToldRun}
 use Rattle.pa_player.proofs.Ended.{ends_filed, ends_printed}
 
 -- what is reported at the end is what a run of the trace contains
-pub all_told : (t : Trace) (p : Player) → IsWithinLimits t → IsPlaying t.region t.partitions t.threads t.lines p → IsAllTold t (phase_ended p).told
-all_told t p within playing =
-    let filed : (r : Run) → IsToldRun (phase_ended p).told r → IsFileRun t r = λ r told. ends_filed t p r within.version playing told in
+pub all_told : (t : Trace) (p : Player) → p.version ≡ t.version → IsWithinLimits t → IsPlaying t.region t.partitions t.threads t.lines p → IsAllTold t (phase_ended p).told
+all_told t p version within playing =
+    let filed : (r : Run) → IsToldRun (phase_ended p).told r → IsFileRun t r = λ r told. ends_filed t p r version playing told in
     record {
       file = filed;
       core = λ r told. files_are_played t r within (filed r told);

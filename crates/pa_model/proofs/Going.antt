@@ -6,7 +6,7 @@ use Rattle.pa_trace.specs.declared.script.Line.{Line}
 use Rattle.pa_trace.specs.declared.script.Line.TheVariants.{Phase, Do}
 use Rattle.pa_trace.specs.Limits.{IsHeadWithin, IsLineWithin}
 use Rattle.pa_trace.proofs.Texts.{all_push}
-use Rattle.pa_trace.specs.Rules.{first_rules}
+use Rattle.pa_trace.specs.Grammar.{IsVersionTo, last_version}
 use Rattle.pa_trace.specs.declared.script.Rules.{Rules}
 use Rattle.pa_record.specs.declared.entry.Answer.{Answer}
 use Rattle.pa_record.specs.declared.entry.Entry.{Entry}
@@ -24,33 +24,42 @@ use Rattle.pa_player.specs.Told.{history_in}
 use Rattle.pa_player.proofs.Start.{begins_playing}
 use Rattle.pa_model.specs.Player.{Player, records_so_far, WasPlayed, IsGoing, IsNew, IsLater, IsRecorded, PlaysLine}
 
+-- the rules by which the lines of a trace with this head are played
+abbrev rules_by : Head → Rules
+rules_by h = record { version = h.version; plain_from = h.partitions }
+
 -- ---- before the first line
 
-pub begins_new : (head : Head) (p : Player) → IsHeadWithin head.region head.partitions head.threads → IsBegun head.region head.partitions head.threads p.inner
+pub begins_new : (head : Head) (p : Player) → IsVersionTo last_version head.version → IsHeadWithin head → IsBegun head p.inner
     → p.lines.head ≡ head → p.lines.items ≡ [] → IsNew head p
-begins_new head p within begun at none =
+begins_new head p known within begun at none =
     let start : WasPlayed head [] p.inner = record {
-      within = record { version = refl; head = within; lines = tt; few = omega arith };
-      playing = begins_playing head.region head.partitions head.threads p.inner within begun;
+      within = record { version = known; head = within; lines = tt; few = omega arith };
+      version = begun.version;
+      playing = begins_playing head p.inner within begun;
     } in
     record {
       going = subst (λ h. WasPlayed h p.lines.items p.inner) (sym at) (subst (λ ls. WasPlayed head ls p.inner) (sym none) start);
       head = at;
       lines = none;
-      records = ap (λ ls. played (first_rules p.lines.head.partitions) ls p.inner.told.entries) none;
+      records = ap (λ ls. played (rules_by p.lines.head) ls p.inner.told.entries) none;
     }
 
 -- ---- the records so far
 
 -- they are those of the lines
-own_lines : (p : Player) → (h : IsPlaying p.lines.head.region p.lines.head.partitions p.lines.head.threads p.lines.items p.inner)
-    → AreLines (first_rules p.lines.head.partitions) p.lines.items h.ps
-own_lines p h = subst (λ n. AreLines (first_rules n) p.lines.items h.ps) h.shaped.many h.told.lines
+own_lines : (p : Player) → p.inner.version ≡ p.lines.head.version
+    → (h : IsPlaying p.lines.head.region p.lines.head.partitions p.lines.head.threads p.lines.items p.inner)
+    → AreLines (rules_by p.lines.head) p.lines.items h.ps
+own_lines p version h =
+    let by : ℕ → ℕ → Rules = λ v n. record { version = v; plain_from = n } in
+    subst (λ (k : Rules). AreLines k p.lines.items h.ps) (ap₂ by version h.shaped.many) h.told.lines
 
-pub records_are : (p : Player) → (h : IsPlaying p.lines.head.region p.lines.head.partitions p.lines.head.threads p.lines.items p.inner) → records_so_far p ≡ h.ps
-records_are p h =
-    let rules = first_rules p.lines.head.partitions in
-    ap (played rules p.lines.items) (sym h.entries) ∙ records_are_lines.same rules p.lines.items h.ps (own_lines p h)
+pub records_are : (p : Player) → p.inner.version ≡ p.lines.head.version
+    → (h : IsPlaying p.lines.head.region p.lines.head.partitions p.lines.head.threads p.lines.items p.inner) → records_so_far p ≡ h.ps
+records_are p version h =
+    let rules = rules_by p.lines.head in
+    ap (played rules p.lines.items) (sym h.entries) ∙ records_are_lines.same rules p.lines.items h.ps (own_lines p version h)
 
 -- lines and records more
 records_more : (rules : Rules) (ls more : List Line) (ps added : List Played) (es new : List Entry) → map entry_of ps ≡ es → map entry_of added ≡ new → AreLines rules (ls ++ more) (ps ++ added)
@@ -63,22 +72,28 @@ records_more rules ls more ps added es new old last lines =
 
 module _ (p q : Player) (line : Line) (going : IsGoing p) (few : length p.lines.items < 65535) (within : IsLineWithin p.lines.head.partitions p.lines.head.threads line) where
   can_go_on : CanGoOn p.lines.head.region p.lines.head.partitions p.lines.head.threads p.lines.items line p.inner
-  can_go_on = record { playing = going.playing; short = few; within = within; head = going.within.head }
+  can_go_on = record {
+    playing = going.playing;
+    short = few;
+    within = within;
+    head = subst (λ v. IsHeadWithin (record p.lines.head { version = v })) (sym going.version) going.within.head;
+  }
 
   pub ready : IsReady line p.inner
   ready = record { region = p.lines.head.region; partitions = p.lines.head.partitions; threads = p.lines.head.threads; ls = p.lines.items; can = can_go_on }
 
   module _ (at : q.lines.head ≡ p.lines.head) (pushed : q.lines.items ≡ p.lines.items ++ line ∷ []) where
-    still_going : IsPlaying p.lines.head.region p.lines.head.partitions p.lines.head.threads (p.lines.items ++ line ∷ []) q.inner → IsGoing q
-    still_going playing =
+    still_going : IsPlaying p.lines.head.region p.lines.head.partitions p.lines.head.threads (p.lines.items ++ line ∷ []) q.inner → q.inner.version ≡ p.inner.version → IsGoing q
+    still_going playing version =
         let old = going.within in
         let next : WasPlayed p.lines.head (p.lines.items ++ line ∷ []) q.inner = record {
           within = record {
-            version = refl;
+            version = old.version;
             head = old.head;
             lines = all_push (IsLineWithin p.lines.head.partitions p.lines.head.threads) p.lines.items line old.lines within;
             few = omega (arith, few, length_push p.lines.items line);
           };
+          version = version ∙ going.version;
           playing = playing;
         } in
         subst (λ h. WasPlayed h q.lines.items q.inner) (sym at) (subst (λ ls. WasPlayed p.lines.head ls q.inner) (sym pushed) next)
@@ -100,17 +115,17 @@ module _ (p q : Player) (line : Line) (going : IsGoing p) (few : length p.lines.
     }
 
     plays : (answer : Option Answer) (added : List Played) (es : List Entry) → IsPlaying p.lines.head.region p.lines.head.partitions p.lines.head.threads (p.lines.items ++ line ∷ []) q.inner
-        → TellsOn es p.inner q.inner → IsRecorded (first_rules p.lines.head.partitions) (length p.lines.items + 2) (phases_in p.lines.items) line answer added
-        → map entry_of added ≡ es → AreLines (first_rules p.lines.head.partitions) (p.lines.items ++ line ∷ []) (going.playing.ps ++ added) → PlaysLine p line answer q
+        → TellsOn es p.inner q.inner → IsRecorded (rules_by p.lines.head) (length p.lines.items + 2) (phases_in p.lines.items) line answer added
+        → map entry_of added ≡ es → AreLines (rules_by p.lines.head) (p.lines.items ++ line ∷ []) (going.playing.ps ++ added) → PlaysLine p line answer q
     plays answer added es playing tells recorded last lines =
         let old = going.playing in
-        let whole : played (first_rules p.lines.head.partitions) (p.lines.items ++ line ∷ []) (p.inner.told.entries ++ es) ≡ old.ps ++ added =
-        records_more (first_rules p.lines.head.partitions) p.lines.items (line ∷ []) old.ps added p.inner.told.entries es old.entries last lines in
+        let whole : played (rules_by p.lines.head) (p.lines.items ++ line ∷ []) (p.inner.told.entries ++ es) ≡ old.ps ++ added =
+        records_more (rules_by p.lines.head) p.lines.items (line ∷ []) old.ps added p.inner.told.entries es old.entries last lines in
         let more : records_so_far q ≡ records_so_far p ++ added =
-        ap (λ (k : Head). played (first_rules k.partitions) q.lines.items q.inner.told.entries) at
-        ∙ ap₂ (played (first_rules p.lines.head.partitions)) pushed tells.entries ∙ whole ∙ ap (λ xs. xs ++ added) (sym (records_are p old)) in
+        ap (λ (k : Head). played (rules_by k) q.lines.items q.inner.told.entries) at
+        ∙ ap₂ (played (rules_by p.lines.head)) pushed tells.entries ∙ whole ∙ ap (λ xs. xs ++ added) (sym (records_are p going.version old)) in
         record {
-          going = still_going playing;
+          going = still_going playing tells.version;
           head = at;
           lines = pushed;
           added = added;
@@ -125,15 +140,16 @@ pub plays_line : (p q : Player) (line : Line) (answer : Option Answer) → IsGoi
 plays_line p q Phase None going few within at pushed goes =
     let to = goes p.lines.head.region p.lines.head.partitions p.lines.head.threads p.lines.items (can_go_on p q Phase going few within) in
     let old = going.playing in
-    let lines : AreLines (first_rules p.lines.head.partitions) (p.lines.items ++ Phase ∷ []) (old.ps ++ []) =
-    subst (λ xs. AreLines (first_rules p.lines.head.partitions) (p.lines.items ++ Phase ∷ []) xs) (sym (append-nil old.ps)) (own_lines p old ∙ sym (lines_phase (first_rules p.lines.head.partitions) 2 1 p.lines.items)) in
+    let lines : AreLines (rules_by p.lines.head) (p.lines.items ++ Phase ∷ []) (old.ps ++ []) =
+    subst (λ xs. AreLines (rules_by p.lines.head) (p.lines.items ++ Phase ∷ []) xs) (sym (append-nil old.ps))
+    (own_lines p going.version old ∙ sym (lines_phase (rules_by p.lines.head) 2 1 p.lines.items)) in
     plays p q Phase going few within at pushed None [] [] to.0 to.1 refl refl lines
 plays_line p q Phase (Some answer) going few within at pushed goes = absurd goes
 plays_line p q (Do thread op) None going few within at pushed goes = absurd goes
 plays_line p q (Do thread op) (Some answer) going few within at pushed goes =
     let to = goes p.lines.head.region p.lines.head.partitions p.lines.head.threads p.lines.items (can_go_on p q (Do thread op) going few within) in
     let old = going.playing in
-    let x : Played = played_at (first_rules p.lines.head.partitions) p.lines.items thread op answer in
+    let x : Played = played_at (rules_by p.lines.head) p.lines.items thread op answer in
     let e : ℕ → List Entry = λ n. record { line = n; thread = thread; answer = answer } ∷ [] in
     plays p q (Do thread op) going few within at pushed (Some answer) (x ∷ []) (record_of p.inner thread answer ∷ []) to.0 to.1 refl (ap e (sym old.line))
-    (lines_more (first_rules p.lines.head.partitions) p.lines.items old.ps thread op answer (own_lines p old))
+    (lines_more (rules_by p.lines.head) p.lines.items old.ps thread op answer (own_lines p going.version old))

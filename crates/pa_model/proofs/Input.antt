@@ -1,10 +1,10 @@
 -- The lines of a text are played, each as soon as it is read.
-use Rattle.std.proofs.Common.{◌≡◌, ℕ, List, [], ◌∷◌, ◌++◌, sym, subst, arith}
+use Rattle.std.proofs.Common.{◌≡◌, ℕ, List, [], ◌∷◌, ◌++◌, ap, sym, subst, ◌∙◌, arith}
 use Rattle.std.specs.List.{AllByRecursion}
 use Rattle.std.proofs.lemmas.List.{length_push}
 use Rattle.pa_trace.specs.declared.line.Head.{Head}
 use Rattle.pa_trace.specs.declared.script.Line.{Line}
-use Rattle.pa_trace.specs.Limits.{IsLineWithin}
+use Rattle.pa_trace.specs.Limits.{IsHeadWithin, IsLineWithin}
 use Rattle.pa_trace.specs.Unread.{Unread, trace_with, IsReadUpTo, IsLineRead, IsEndRead}
 use Rattle.pa_player.specs.Player.{Player}
 use Rattle.pa_player.specs.Asks.{CanEnd}
@@ -23,25 +23,25 @@ last_of : (P : Line → Type 0) (ls : List Line) (l : Line) → AllByRecursion P
 last_of P [] l h = h.0
 last_of P (x ∷ ls) l h = last_of P ls l h.1
 
-module _ (bytes : List ℕ) (u : Unread) (p : Player) where
+module _ (known : ℕ) (bytes : List ℕ) (u : Unread) (p : Player) where
   -- before the first line
-  pub input_begins : (head : Head) → head ≡ u.head → IsReadUpTo bytes [] u → IsBegun head.region head.partitions head.threads p → IsPlayedUpTo bytes u p
+  pub input_begins : (head : Head) → head ≡ u.head → IsReadUpTo known bytes [] u → IsBegun head p → IsPlayedUpTo known bytes u p
   input_begins head is read begun =
-      let begun_here = subst (λ (h : Head). IsBegun h.region h.partitions h.threads p) is begun in
-      record { ls = []; read = read; playing = begins_playing u.head.region u.head.partitions u.head.threads p read.head begun_here }
+      let begun_here = subst (λ (h : Head). IsBegun h p) is begun in
+      record { ls = []; read = read; version = begun_here.version; playing = begins_playing u.head p read.head begun_here }
 
-  module _ (so_far : IsPlayedUpTo bytes u p) where
+  module _ (so_far : IsPlayedUpTo known bytes u p) where
     -- the line that was read can be played
     can : (l : Line) (v : Unread) → IsLineRead u l v → CanGoOn u.head.region u.head.partitions u.head.threads so_far.ls l p
     can l v line =
-        let next = line.read bytes so_far.ls so_far.read in
+        let next = line.read known bytes so_far.ls so_far.read in
         let few = next.few in
         record {
           playing = so_far.playing;
           short = omega (arith, few, length_push so_far.ls l);
           within = subst (λ (h : Head). IsLineWithin h.partitions h.threads l) line.head
               (last_of (IsLineWithin v.head.partitions v.head.threads) so_far.ls l next.lines);
-          head = so_far.read.head;
+          head = subst (λ v. IsHeadWithin (record u.head { version = v })) (sym so_far.version) so_far.read.head;
         }
 
     pub input_ready : (l : Line) (v : Unread) → IsLineRead u l v → IsReady l p
@@ -49,13 +49,15 @@ module _ (bytes : List ℕ) (u : Unread) (p : Player) where
         record { region = u.head.region; partitions = u.head.partitions; threads = u.head.threads; ls = so_far.ls; can = can l v line }
 
     -- after a line was read and the player went on over it, the input is played up to that line
-    pub input_goes_on : (l : Line) (v : Unread) (q : Player) → IsLineRead u l v → GoesOnTo p l q → IsPlayedUpTo bytes v q
-    input_goes_on l v q line goes = record {
-      ls = so_far.ls ++ l ∷ [];
-      read = line.read bytes so_far.ls so_far.read;
-      playing = subst (λ (h : Head). IsPlaying h.region h.partitions h.threads (so_far.ls ++ l ∷ []) q) (sym line.head)
-          (goes u.head.region u.head.partitions u.head.threads so_far.ls (can l v line));
-    }
+    pub input_goes_on : (l : Line) (v : Unread) (q : Player) → IsLineRead u l v → GoesOnTo p l q → IsPlayedUpTo known bytes v q
+    input_goes_on l v q line goes =
+        let to = goes u.head.region u.head.partitions u.head.threads so_far.ls (can l v line) in
+        record {
+          ls = so_far.ls ++ l ∷ [];
+          read = line.read known bytes so_far.ls so_far.read;
+          version = to.1 ∙ so_far.version ∙ ap (λ (h : Head). h.version) (sym line.head);
+          playing = subst (λ (h : Head). IsPlaying h.region h.partitions h.threads (so_far.ls ++ l ∷ []) q) (sym line.head) to.0;
+        }
 
     pub input_ends : CanEnd p
     input_ends =
@@ -65,14 +67,14 @@ module _ (bytes : List ℕ) (u : Unread) (p : Player) where
     -- at the end the whole trace was played
     pub input_told : (v : Unread) → IsEndRead u v → IsAllTold (trace_with u.head so_far.ls) (phase_ended p).told
     input_told v end =
-        let input = end.read bytes so_far.ls so_far.read in
-        all_told (trace_with u.head so_far.ls) p input.limits so_far.playing
+        let input = end.read known bytes so_far.ls so_far.read in
+        all_told (trace_with u.head so_far.ls) p so_far.version input.limits so_far.playing
 
     pub input_played : (v : Unread) (text : List ℕ) → IsEndRead u v → IsToldText (phase_ended p).told text → IsInputPlayed bytes text
     input_played v text end is =
         let all = input_told v end in
         record {
           trace = trace_with u.head so_far.ls;
-          input = end.read bytes so_far.ls so_far.read;
+          input = end.read known bytes so_far.ls so_far.read;
           played = record { run = is.run; file = all.file is.run is.lists; core = all.core is.run is.lists; printed = is.text };
         }

@@ -16,7 +16,7 @@ use Rattle.pa_rules.specs.Cells.{IsExchange}
 use Rattle.pa_rules.specs.Registers.{RowsTo, no_regs, made_of, usable_or, usable_in}
 use Rattle.pa_rules.specs.Report.{HasSize}
 use Rattle.pa_rules.specs.Roots.{Journals}
-use Rattle.pa_slot_effects.specs.Known.{facts_of}
+use Rattle.pa_slot_effects.specs.Known.{facts_of, RowsNamed}
 use Rattle.pa_slot_effects.proofs.Rows.{rows_end, usable_made}
 use Rattle.pa_slot_effects.proofs.Words.{used_made}
 use Rattle.pa_rules.specs.declared.register.Register.{Register}
@@ -62,8 +62,10 @@ pub owns : (p : Player) (thread reg : ℕ) → IsGoing p → Owns p thread reg (
 owns p thread reg going ps r on =
     let h = going.playing in
     let a = shown p.inner in
-    let is : records_so_far p ≡ h.ps = records_are p h in
-    let rows : RowsTo (facts_of 1 (usable_in ps) r.cells) no_regs h.ps a.regs = rows_end 1 a.word a.word a.usable (usable_in ps) a.cells r.cells (record {
+    let is : records_so_far p ≡ h.ps = records_are p going.version h in
+    let v = p.lines.head.version in
+    let told = subst (λ k. RowsNamed k a.word a.usable a.cells no_regs h.ps a.regs) going.version h.told.rows in
+    let rows : RowsTo (facts_of v (usable_in ps) r.cells) no_regs h.ps a.regs = rows_end v a.word a.word a.usable (usable_in ps) a.cells r.cells (record {
       used = λ s up. up;
       sizes = λ s up.
           let m = used_made h.ps a.word s h.told.runs up in
@@ -73,16 +75,16 @@ owns p thread reg going ps r on =
       exchanges = λ k j e at.
           let c = on.cells k in
           subst (λ xs. IsExchange (λ n. xs) k j e) (sym c.1) (slice_get_more (a.cells k) c.0 j e at);
-    }) no_regs h.ps a.regs h.told.rows in
+    }) no_regs h.ps a.regs told in
     let sized : (i : ℕ) → i < length p.inner.table → HasSize r.roots (slot_at p.inner.table i).partition (name_of (slot_at p.inner.table i).title) (slot_at p.inner.table i).title.len =
     λ i lt.
     let x = slot_at p.inner.table i in
     let c = on.journals x.partition in
     size_on (journals p.inner) r.roots x.partition (name_of x.title) x.title.len
     (λ e member. subst (λ es. Contains es e) (sym c.1) (Contains-append_left (journals p.inner x.partition) c.0 e member))
-    (let_out_sized (journals p.inner) x x.class (h.slots.let_out i lt)) in (
+    (let_out_sized p.inner.version (journals p.inner) x x.class (h.slots.let_out i lt)) in (
       a.regs,
-      subst (λ xs. AreRegsAfter ps r xs a.regs) (sym is) rows,
+      subst (λ xs. AreRegsAfter v ps r xs a.regs) (sym is) rows,
       owned_here r.roots p.inner.table (register_at p.inner thread reg) sized (h.shaped.held thread reg),
     )
 

@@ -54,6 +54,7 @@ records_so_far p = played (rules_of (trace_so_far p)) p.lines.items p.inner.told
 -- these lines are a trace within the limits, and they were played
 pub record WasPlayed (head : Head) (ls : List Line) (p : LinePlayer) : Type 0 where
   pub within : IsWithinLimits (trace_with head ls)
+  pub version : p.version ≡ head.version
   pub playing : IsPlaying head.region head.partitions head.threads ls p
 
 -- no call refused, so the lines so far were played
@@ -120,10 +121,10 @@ OwnsNothing (Ref s) = Unit {0}
 OwnsNothing Freed = Unit {0}
 OwnsNothing Cleared = Unit {0}
 
--- the registers after the first records of a run, as the rows of the whole run lead to them
-abbrev pub AreRegsAfter : List Played → Told → List Played → AllRegs → Type 0
-AreRegsAfter ps r first regs =
-    RowsTo (record { usable_of = usable_of 1; usable_at = usable_in ps; cells = r.cells }) no_regs first regs
+-- the registers after the first records of a run of a version, as the rows of the whole run lead to them
+abbrev pub AreRegsAfter : ℕ → List Played → Told → List Played → AllRegs → Type 0
+AreRegsAfter version ps r first regs =
+    RowsTo (record { usable_of = usable_of version; usable_at = usable_in ps; cells = r.cells }) no_regs first regs
 
 -- the register owns this slot, which its partition's journal let out with this length, or it owns nothing if there is none
 abbrev pub IsOwned : Journals → Reg → Option Handed → Type 0
@@ -134,7 +135,7 @@ IsOwned roots reg (Some h) = (reg ≡ Own h.slot) × HasSize roots h.partition h
 abbrev pub Owns : Player → ℕ → ℕ → Option Handed → Type 0
 Owns p thread reg found =
     (ps : List Played) (r : Told) → GoesOnFrom p ps r →
-    (regs : AllRegs) × AreRegsAfter ps r (records_so_far p) regs × IsOwned r.roots (regs thread reg) found
+    (regs : AllRegs) × AreRegsAfter p.lines.head.version ps r (records_so_far p) regs × IsOwned r.roots (regs thread reg) found
 
 -- a read of an owner's first word gives a value
 abbrev pub ReadsOwned : Player → Line → Option Answer → Type 0

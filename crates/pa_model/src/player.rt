@@ -1,4 +1,5 @@
 ghost use Rattle.std.specs.Prelude.{◌≡◌, ◌<◌, IfOk, IfSome, OnErr, length};
+ghost use Rattle.pa_trace.specs.Grammar.{IsVersionTo, last_version};
 ghost use Rattle.pa_trace.specs.Limits.{IsHeadWithin, IsLineWithin, register_count};
 ghost use Rattle.pa_trace_writer.specs.Lines.{no_lines};
 ghost use Rattle.pa_record.specs.declared.run.Run.{Run};
@@ -30,23 +31,16 @@ pub struct Handed {
 }
 
 impl Player<Told<ListOutput>, Kept<LineList>> {
-    /// No line yet: `region` super pages, 1 to 16, `partitions`, 1 to 4, and `threads`, 1 to 16. Out of memory is the only
-    /// error.
+    /// No line yet, of a trace with this head. Out of memory is the only error.
     pub fn new(
         alloc: Global,
-        region: u32,
-        partitions: u32,
-        threads: u32,
+        head: Head,
     ) -> Result<Player<Told<ListOutput>, Kept<LineList>>, OutOfMemory>
-        requires { IsHeadWithin region partitions threads }
-        ensures { IfOk result (IsNew (record { region = region; partitions = partitions; threads = threads })) }
+        requires version { IsVersionTo last_version head.version }
+        requires within { IsHeadWithin head }
+        ensures { IfOk result (IsNew head) }
     {
-        let head = Head {
-            region,
-            partitions,
-            threads,
-        };
-        let told = Told::new(alloc, ListOutput::new(alloc, partitions, 0)?)?;
+        let told = Told::new(alloc, ListOutput::new(alloc, head.partitions, 0)?)?;
         begin(alloc, head, told, Kept::of(LineList::new(alloc, head)))
     }
 
@@ -74,20 +68,14 @@ impl Player<Told<TextOutput>, Kept<LineText>> {
     /// records.
     pub fn printing(
         alloc: Global,
-        region: u32,
-        partitions: u32,
-        threads: u32,
+        head: Head,
         lines: usize,
     ) -> Result<Player<Told<TextOutput>, Kept<LineText>>, OutOfMemory>
-        requires { IsHeadWithin region partitions threads }
-        ensures { IfOk result (IsNew (record { region = region; partitions = partitions; threads = threads })) }
+        requires version { IsVersionTo last_version head.version }
+        requires within { IsHeadWithin head }
+        ensures { IfOk result (IsNew head) }
     {
-        let head = Head {
-            region,
-            partitions,
-            threads,
-        };
-        let told = Told::new(alloc, TextOutput::new(alloc, partitions, lines)?)?;
+        let told = Told::new(alloc, TextOutput::new(alloc, head.partitions, lines)?)?;
         begin(
             alloc,
             head,
@@ -142,13 +130,14 @@ fn begin<O: Output, K: Keeper>(
     told: Told<O>,
     lines: Kept<K>,
 ) -> Result<Player<Told<O>, Kept<K>>, OutOfMemory>
-    requires within { IsHeadWithin head.region head.partitions head.threads }
+    requires version { IsVersionTo last_version head.version }
+    requires within { IsHeadWithin head }
     requires told { IsUntold head.partitions told }
     requires lines { lines ≡ no_lines head }
     ensures { IfOk result (IsNew head) }
 {
     Ok(Player {
-        inner: LinePlayer::new(alloc, head.region, head.partitions, head.threads, told)?,
+        inner: LinePlayer::new(alloc, head, told)?,
         lines,
         alloc,
     })

@@ -1,4 +1,5 @@
 ghost use Rattle.std.specs.Prelude.{IfOk, IfErr};
+ghost use Rattle.pa_trace.specs.Grammar.{last_version};
 ghost use Rattle.pa_trace.specs.Limits.{IsWithinLimits};
 ghost use Rattle.pa_trace.specs.Faults.{IsFault};
 ghost use Rattle.pa_record.specs.RunText.{IsPrintable};
@@ -10,7 +11,7 @@ ghost use Rattle.pa_model.specs.Played.{IsAllTold, IsInputPlayed};
 use pa_player::{ListOutput, Player, TextOutput, Told};
 use pa_record::Run;
 use pa_slot::OutOfMemory;
-use pa_trace::{Head, LineReader, MOST_LINES, Trace, TraceFault};
+use pa_trace::{LAST_VERSION, LineReader, MOST_LINES, Trace, TraceFault};
 use std::alloc::Global;
 
 // Few bytes for a line: memory for the records is reserved ahead.
@@ -35,17 +36,13 @@ pub fn play(alloc: Global, trace: &Trace) -> Result<Run, OutOfMemory>
 /// which is printed as it is played. Bytes are refused with the fault with which `read_trace` refuses them.
 pub fn play_input(alloc: Global, bytes: &[u8]) -> Result<Vec<u8>, TraceFault>
     ensures text { IfOk result (λ text. IsInputPlayed bytes.now text.items) }
-    ensures fault { IfErr result (λ e. IsFault e bytes.now) }
+    ensures fault { IfErr result (λ e. IsFault last_version e bytes.now) }
 {
-    let mut reader = LineReader::of(bytes)?;
-    let Head {
-        region,
-        partitions,
-        threads,
-    } = reader.head();
+    let mut reader = LineReader::of(LAST_VERSION, bytes)?;
+    let head = reader.head();
     let lines = (bytes.len() / LINE).min(MOST_LINES as usize);
-    let told = Told::new(alloc, TextOutput::new(alloc, partitions, lines)?)?;
-    let mut player = Player::new(alloc, region, partitions, threads, told)?;
+    let told = Told::new(alloc, TextOutput::new(alloc, head.partitions, lines)?)?;
+    let mut player = Player::new(alloc, head, told)?;
     while let Some(line) = reader.next()? {
         player.line(line)?;
     }
@@ -64,7 +61,7 @@ fn told_of(
     ensures { IfOk result (IsAllTold trace.now) }
 {
     let lines = trace.lines.as_slice();
-    let mut player = Player::new(alloc, trace.region, trace.partitions, trace.threads, told)?;
+    let mut player = Player::new(alloc, trace.head(), told)?;
     for line in lines {
         player.line(*line)?;
     }

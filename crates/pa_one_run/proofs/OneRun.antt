@@ -43,7 +43,8 @@ agrees_later a b n m before rest rest' h k here here' up late late' agrees =
 
 -- ---- one line more
 
-agrees_next : (a b : Parts) (before rest rest' : List Played) (x : Played) → IsFiled a → IsFiled b → a.ps ≡ before ++ x ∷ rest → b.ps ≡ before ++ x ∷ rest' → Agrees x.line a b → Agrees (x.line + 1) a b
+agrees_next : (a b : Parts) (before rest rest' : List Played) (x : Played) → IsFiled a → IsFiled b → a.ps ≡ before ++ x ∷ rest
+    → b.ps ≡ before ++ x ∷ rest' → Agrees x.line a b → Agrees (x.line + 1) a b
 agrees_next a b before rest rest' x h k parts parts' agrees =
     let (entries, pool) = lines_alike a b before rest rest' x h k parts parts' agrees in
     let exchanges = exchanges_agree a b before rest rest' x h k parts parts' agrees in
@@ -53,7 +54,8 @@ agrees_next a b before rest rest' x h k parts parts' agrees =
       rules = agrees.rules;
       pool = next_below pool_line x.line a.pools b.pools h.order.pool k.order.pool agrees.pool pool;
       journals = λ p. next_below entry_line x.line (a.roots p) (b.roots p) (h.order.journals p) (k.order.journals p) (agrees.journals p) (entries p);
-      cells = λ c. next_below cell_line x.line (a.cells c) (b.cells c) (rising_strictly cell_line (a.cells c) (h.order.exchanges c)) (rising_strictly cell_line (b.cells c) (k.order.exchanges c)) (agrees.cells c) (exchanges c);
+      cells = λ c. next_below cell_line x.line (a.cells c) (b.cells c) (rising_strictly cell_line (a.cells c) (h.order.exchanges c))
+          (rising_strictly cell_line (b.cells c) (k.order.exchanges c)) (agrees.cells c) (exchanges c);
     }
 
 -- ---- all lines

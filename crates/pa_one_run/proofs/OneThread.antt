@@ -48,7 +48,8 @@ IsAlone ps = (x y : Played) → Contains ps x → Contains ps y → x.thread ≡
 
 -- ---- entries and exchanges
 
-journals_sorted : (partitions : ℕ) (ps : List Played) (pools : List PoolEntry) (roots : Journals) → IsAlone ps → AreRoots partitions ps pools roots → (p : ℕ) → IsNonDecreasingBy (λ (e : RootEntry). e.line) (roots p)
+journals_sorted : (partitions : ℕ) (ps : List Played) (pools : List PoolEntry) (roots : Journals) → IsAlone ps
+    → AreRoots partitions ps pools roots → (p : ℕ) → IsNonDecreasingBy (λ (e : RootEntry). e.line) (roots p)
 journals_sorted partitions ps pools roots alone h p = sorted_by (λ (e : RootEntry). e.line) (roots p) (λ i j e g at at' less.
     let (x, of, makes) = h.lines p i e at in
     let (y, of', makes') = h.lines p j g at' in

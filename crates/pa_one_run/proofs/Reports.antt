@@ -48,7 +48,8 @@ caches_one a (x ∷ xs) all all' after after' h members same (next, row, to) (ne
     caches_one a xs (with_cache all x.thread next) (with_cache all' x.thread next') after after' h (λ y among. members y (later_in x y xs among))
     (ap (λ (z : Caches). with_cache z x.thread next) same ∙ ap (λ (z : Cache). with_cache all' x.thread z) one) to to'
 
-one_cached : (a : Parts) (xs : List Played) (p : ℕ) (t u : Tally) → IsFiled a → ((x : Played) → Contains xs x → Contains a.ps x) → IsCached a.partitions a.threads a.roots xs p t → IsCached a.partitions a.threads a.roots xs p u → t ≡ u
+one_cached : (a : Parts) (xs : List Played) (p : ℕ) (t u : Tally) → IsFiled a → ((x : Played) → Contains xs x → Contains a.ps x)
+    → IsCached a.partitions a.threads a.roots xs p t → IsCached a.partitions a.threads a.roots xs p u → t ≡ u
 one_cached a xs p t u h members (all, to, slots, bytes) (all', to', slots', bytes') =
     let same = caches_one a xs no_caches no_caches all all' h members refl to to' in
     same_tally t u (slots ∙ ap (λ (z : Caches). cached_slots z p a.threads) same ∙ sym slots') (bytes ∙ ap (λ (z : Caches). cached_bytes z p a.threads) same ∙ sym bytes')
@@ -61,7 +62,8 @@ one_census a phase p c d h (before, until', is) (before', until'', is') =
 
 -- ---- the lines
 
-one_line : (a : Parts) (l m : ReportLine) → IsFiled a → l.phase ≡ m.phase → l.partition ≡ m.partition → IsReportLine a.partitions a.threads a.ps a.pools a.roots l → IsReportLine a.partitions a.threads a.ps a.pools a.roots m → l ≡ m
+one_line : (a : Parts) (l m : ReportLine) → IsFiled a → l.phase ≡ m.phase → l.partition ≡ m.partition
+    → IsReportLine a.partitions a.threads a.ps a.pools a.roots l → IsReportLine a.partitions a.threads a.ps a.pools a.roots m → l ≡ m
 one_line a l m h phases places x y =
     let xs = until l.phase a.ps in
     let here : (Q : List Played → ℕ → Type 0) → Q (until m.phase a.ps) m.partition → Q xs l.partition = λ Q z.
@@ -70,7 +72,8 @@ one_line a l m h phases places x y =
     subst (λ k. HasCensus a.ps a.pools a.roots k l.partition (census_of m)) (sym phases) (subst (λ k. HasCensus a.ps a.pools a.roots m.phase k (census_of m)) (sym places) y.root) in
     let live = one_tally a IsLive xs l.partition l.live m.live h x.live (here (λ zs p. IsTally IsLive a.roots zs p m.live) y.live) in
     let quarantined = one_tally a IsQuarantined xs l.partition l.quarantined m.quarantined h x.quarantined (here (λ zs p. IsTally IsQuarantined a.roots zs p m.quarantined) y.quarantined) in
-    let cached = one_cached a xs l.partition l.cached m.cached h (λ z among. (filter_cases (is_until l.phase) a.ps z among).0) x.cached (here (λ zs p. IsCached a.partitions a.threads a.roots zs p m.cached) y.cached) in
+    let cached = one_cached a xs l.partition l.cached m.cached h (λ z among. (filter_cases (is_until l.phase) a.ps z among).0) x.cached
+    (here (λ zs p. IsCached a.partitions a.threads a.roots zs p m.cached) y.cached) in
     let root = one_census a l.phase l.partition (census_of l) (census_of m) h x.root root' in
     same_line l m phases places live quarantined cached
     (ap (λ (c : Census). c.root) root) (ap (λ (c : Census). c.committed) root) (ap (λ (c : Census). c.reserved) root)

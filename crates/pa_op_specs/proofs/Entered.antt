@@ -40,7 +40,7 @@ use Rattle.pa_logs.specs.Indices.{Enters, AskedNone, AskedOnce, IsFullAt}
 use Rattle.pa_logs.specs.Standing.{Unmaps}
 use Rattle.pa_root.specs.Making.{EntersOne, EntersTwo}
 use Rattle.pa_root.specs.Handing.{root_entry}
-use Rattle.pa_op_specs.specs.Outcomes.{Outcome, IsOutcome, IsSeenOf, ActsAreOf}
+use Rattle.pa_op_specs.specs.Outcomes.{Outcome, IsOutcome, IsSeenOf, ActsAreOf, FillsFrom}
 use Rattle.pa_op_specs.specs.Entering.{EntersCells, HasSeenSome}
 use Rattle.pa_op_specs.specs.Owing.{OwesOf, KeepsWords}
 use Rattle.pa_op_specs.specs.Plays.{DoesOp, AnswersIn}
@@ -304,13 +304,13 @@ pub unmaps_next : (roots : Journals) (x : Played) →
 unmaps_next roots x says seen p asked slot e done among on act =
     says p asked slot (subst (λ a. Contains (acts_of roots x.line p) a) act (act_on (roots p) x.line e among on)) seen done
 
--- what it entered in a journal its op makes, if that makes each of these
-pub makes_each : (x : ToldRecord) (it : Enters x) (pools : List PoolEntry) →
-    ((p : ℕ) (e : RootEntry) → p < 4 → Contains (it.roots p) e → MakesEntry pools p e.act x.played) →
-    (p : ℕ) (m : Made) (e : RootEntry) → p < 4 → Contains (entered_in p x.stretch) m → m.numbers ≡ root_numbers e → MakesEntry pools p e.act x.played
-makes_each x it pools each p m e low among says =
+-- what it entered in a journal is so, if each of these is
+entered_each : (x : ToldRecord) (it : Enters x) (P : ℕ → RootAct → Type 0) →
+    ((p : ℕ) (e : RootEntry) → p < 4 → Contains (it.roots p) e → P p e.act) →
+    (p : ℕ) (m : Made) (e : RootEntry) → p < 4 → Contains (entered_in p x.stretch) m → m.numbers ≡ root_numbers e → P p e.act
+entered_each x it P each p m e low among says =
     let (f, there, same) = at_numbers (entered_in p x.stretch) (it.roots p) m (it.roots_are p low) among in
-    subst (λ (g : RootEntry). MakesEntry pools p g.act x.played) {x = f} (one_root f e (sym same ∙ says)) (each p f low there)
+    subst (λ (g : RootEntry). P p g.act) {x = f} (one_root f e (sym same ∙ says)) (each p f low there)
   where
     at_numbers : (ms : List Made) (fs : List RootEntry) (m : Made) → map (λ (n : Made). n.numbers) ms ≡ map root_numbers fs → Contains ms m →
         (f : RootEntry) × Contains fs f × (m.numbers ≡ root_numbers f)
@@ -324,11 +324,18 @@ makes_each x it pools each p m e low among says =
           | inr later ↦ (let (g, there, is) = at_numbers ms fs m tail later in (g, later_in f g fs there, is))
         ]
 
+-- its op makes it, if that makes each of these
+pub makes_each : (x : ToldRecord) (it : Enters x) (pools : List PoolEntry) →
+    ((p : ℕ) (e : RootEntry) → p < 4 → Contains (it.roots p) e → MakesEntry pools p e.act x.played) →
+    (p : ℕ) (m : Made) (e : RootEntry) → p < 4 → Contains (entered_in p x.stretch) m → m.numbers ≡ root_numbers e → MakesEntry pools p e.act x.played
+makes_each x it pools each = entered_each x it (λ p act. MakesEntry pools p act x.played) each
+
 -- ---- the op
 
 -- What is left to say of a record whose log segment is as above.
 --   cells: its op is no exchange
 --   it, asked: what it entered in the lists of the roots and the pool, which it asked at most once
+--   fills: a fill is of a class of its rules' version
 --   refused: a record that is full names its entry
 --   uncuts: a title that was uncut is one that it unmaps
 --   homes: in the journal of a partition past the run's it made no entry, or its seat had seen one there before
@@ -337,6 +344,7 @@ makes_each x it pools each p m e low among says =
 pub record SaysEntered (s after : StockValue) (x : ToldRecord) : Type 0 where
   pub cells : (list : List Made) → entered_in 5 x.stretch ≡ [] → EntersCells x.played.op list x
   pub it : Enters x
+  pub fills : (p : ℕ) (e : RootEntry) → p < 4 → Contains (it.roots p) e → FillsFrom x.played.rules.version e.act
   pub asked : AskedNone x it ⊎ AskedOnce (list_of 4 after.view) x it
   pub refused : (j reg p size : ℕ) → x.played.answer ≡ answers.Full j → x.played.op ≡ ops.Alloc reg p size →
       (p < 4) × IsFullAt (list_of p after.view) x j
@@ -344,21 +352,23 @@ pub record SaysEntered (s after : StockValue) (x : ToldRecord) : Type 0 where
   pub homes : (p : ℕ) → s.partitions ≤ p → (it.roots p ≡ []) ⊎ HasSeenSome s.thread p s.view
   pub owes : OwesOf s.registers x.played.op x.played.answer x.stretch
   pub words : KeepsWords x.played.answer s.view after.view
-  pub answers : (o : Outcome) → IsOutcome o → o.partitions ≡ s.partitions → IsSeenOf o after.view → LineActs o x it → AnswersIn o s after x
+  pub answers : (o : Outcome) → IsOutcome o → o.partitions ≡ s.partitions → x.played.rules ≡ o.rules → IsSeenOf o after.view → LineActs o x it
+      → AnswersIn o s after x
 
 no_entries : (ms : List Made) → map (λ (m : Made). m.numbers) ms ≡ [] → ms ≡ []
 no_entries [] none = refl
 no_entries (m ∷ ms) none = absurd cc
 
 pub entered_does : (s after : StockValue) (line : ℕ) (op : Op) (answer : Answer) (es : List Entry) → after.thread ≡ s.thread →
-    after.partitions ≡ s.partitions → Entering s.thread line es s.view after.view →
+    after.partitions ≡ s.partitions → after.caches.version ≡ s.caches.version → Entering s.thread line es s.view after.view →
     ((phase : ℕ) → SaysEntered s after (quiet_record s after.view line phase op answer es)) → DoesOp line op answer s after
-entered_does s after line op answer es thread partitions entering says phase = (
+entered_does s after line op answer es thread partitions version entering says phase = (
   x,
   refl,
   record {
     thread = refl;
     same = (thread, partitions);
+    version = version;
     stakes = entering.stakes;
     logs = entering.logs;
     lists = entering.lists;
@@ -372,6 +382,7 @@ entered_does s after line op answer es thread partitions entering says phase = (
     };
     enters = record {
       lines = λ q m among. (entering.each (Entered q m) (entered_from q es m among)).1;
+      fills = entered_each x say.it (λ p act. FillsFrom x.played.rules.version act) say.fills;
       asked = (say.it, say.asked);
       refused = say.refused;
       uncuts = say.uncuts;
@@ -383,7 +394,7 @@ entered_does s after line op answer es thread partitions entering says phase = (
     ];
     owes = say.owes;
     words = say.words;
-    answers = λ o fits. say.answers o fits.run fits.many fits.seen (line_acts o x say.it fits.run fits.acts);
+    answers = λ o fits. say.answers o fits.run fits.many fits.rules fits.seen (line_acts o x say.it fits.run fits.acts);
   },
   λ word bytes among. entering.each (Added word bytes) among,
 )

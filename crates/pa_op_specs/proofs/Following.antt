@@ -46,8 +46,20 @@ seen_before o v w begin seen = record {
 first_fits : (o : Outcome) (w next v : WorkerValue) (x : ToldRecord) (xs : List ToldRecord) → PlaysOne w next x → PlaysAll next xs v → FitsAll o w.stock.partitions v.stock.view (x ∷ xs) →
     FitsRun o w.stock.partitions next.stock.view x × FitsAll o next.stock.partitions v.stock.view xs
 first_fits o w next v x xs one more fits = (
-  record { many = fits.many; run = fits.run; seen = seen_before o next.stock.view v.stock.view (begins next v xs more) fits.seen; acts = fits.acts x (first_in x xs) },
-  record { many = fits.many ∙ sym one.does.same.1; run = fits.run; seen = fits.seen; acts = λ y among. fits.acts y (later_in x y xs among) },
+  record {
+    many = fits.many;
+    rules = fits.rules x (first_in x xs);
+    run = fits.run;
+    seen = seen_before o next.stock.view v.stock.view (begins next v xs more) fits.seen;
+    acts = fits.acts x (first_in x xs);
+  },
+  record {
+    many = fits.many ∙ sym one.does.same.1;
+    rules = λ y among. fits.rules y (later_in x y xs among);
+    run = fits.run;
+    seen = fits.seen;
+    acts = λ y among. fits.acts y (later_in x y xs among);
+  },
 )
 
 -- the first op's answer, and that the rest fits

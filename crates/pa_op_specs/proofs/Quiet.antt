@@ -23,10 +23,9 @@ use Rattle.pa_rules.specs.Report.{HasSize}
 use Rattle.pa_logs.specs.Told.{ToldRecord}
 use Rattle.pa_logs.specs.Touches.{IsToldBy}
 use Rattle.pa_logs.specs.Indices.{Enters}
-use Rattle.pa_cache.specs.Caches.{CacheList}
 use Rattle.pa_root.specs.Handing.{at_number_seen}
 use Rattle.pa_logs.specs.Said.{ReadsIts}
-use Rattle.pa_op_specs.specs.Stocks.{StockRegister, StockValue, HoldsLists, titles_in, listed_in, regs_of, rules_at}
+use Rattle.pa_op_specs.specs.Stocks.{StockRegister, StockValue, WorkerLists, HoldsLists, titles_in, listed_in, regs_of, rules_at}
 use Rattle.pa_op_specs.specs.Outcomes.{Outcome, IsOutcome, IsSeenOf, ActsAreOf, row_facts}
 use Rattle.pa_op_specs.specs.Entering.{EntersCells}
 use Rattle.pa_op_specs.specs.Owing.{OwesOf, KeepsWords}
@@ -101,17 +100,18 @@ pub record IsQuiet (op : Op) (answer : Answer) : Type 0 where
   pub no_swap : (j : ℕ) → answer ≡ answers.Swapped j → ⊥
   pub cells : (list : List Made) (x : ToldRecord) → entered_in 5 x.stretch ≡ [] → EntersCells op list x
 
-pub touched_does : (s : StockValue) (w : View) (registers : List StockRegister) (caches : List CacheList) (op : Op) (answer : Answer) (es : List Entry) →
-    Touched s.thread es s.view w → IsQuiet op answer → OwesOf s.registers op answer es → KeepsWords answer s.view w →
+pub touched_does : (s : StockValue) (w : View) (registers : List StockRegister) (caches : WorkerLists) (op : Op) (answer : Answer) (es : List Entry) →
+    caches.version ≡ s.caches.version → Touched s.thread es s.view w → IsQuiet op answer → OwesOf s.registers op answer es → KeepsWords answer s.view w →
     ((line phase : ℕ) (o : Outcome) → IsOutcome o → IsSeenOf o w → NoActs o.roots line →
     Says o s (record s { view = w; registers = registers; caches = caches }) (quiet_record s w line phase op answer es)) →
     (line : ℕ) → DoesOp line op answer s (record s { view = w; registers = registers; caches = caches })
-touched_does s w registers caches op answer es touched quiet owes words says line phase = (
+touched_does s w registers caches op answer es kept touched quiet owes words says line phase = (
   x,
   refl,
   record {
     thread = refl;
     same = (refl, refl);
+    version = kept;
     stakes = touched.stakes;
     logs = touched.logs;
     lists = λ k. ([], ap (list_among k) touched.lists ∙ sym (append-nil (list_of k s.view)));
@@ -125,6 +125,7 @@ touched_does s w registers caches op answer es touched quiet owes words says lin
     };
     enters = record {
       lines = λ q m among. absurd (not_in_none m (subst (λ ms. Contains ms m) (none q) among));
+      fills = λ p m e low among says. absurd (not_in_none m (subst (λ ms. Contains ms m) (none p) among));
       asked = (it, inl (record { pools = refl; roots = λ p. refl }));
       refused = λ j reg p size full asks. absurd (quiet.room j full);
       uncuts = λ t among. absurd (touched.each (Uncut t) among);
@@ -170,6 +171,6 @@ pub quiet_does : (s : StockValue) (w : View) (registers : List StockRegister) (o
     Says o s (record s { view = w; registers = registers }) (quiet_record s w line phase op answer es)) →
     (line : ℕ) → DoesOp line op answer s (record s { view = w; registers = registers })
 quiet_does s w registers op answer es lists touched quiet owes words says =
-    touched_does s w registers s.caches op answer es touched quiet owes words
+    touched_does s w registers s.caches op answer es refl touched quiet owes words
     (λ line phase o run sees none. says line phase o run sees none
     (λ p c. same_titles s.view w (titles_in s.caches p c) (λ t among. touched.numbers t (lists.free p c t among))))

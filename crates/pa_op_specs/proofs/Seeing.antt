@@ -13,12 +13,13 @@ use Rattle.pa_region.specs.Lists.{list_of, list_among}
 use Rattle.pa_rules.specs.Roots.{Journals}
 use Rattle.pa_rules.specs.Caches.{IsOfClass}
 use Rattle.pa_rules.specs.Report.{HasSize}
+use Rattle.pa_rules.specs.Sizes.{HasClass}
 use Rattle.pa_lists.proofs.Parts.{parts_at}
 use Rattle.pa_logs.proofs.Filters.{get_in}
 use Rattle.pa_logs.specs.Touches.{title_of}
 use Rattle.pa_cells.specs.declared.handle.Handle.{Handle}
 use Rattle.pa_cells.specs.Handles.{HandsOut, HasSeenMade}
-use Rattle.pa_op_specs.specs.Outcomes.{Outcome, IsOutcome, IsSeenOf}
+use Rattle.pa_op_specs.specs.Outcomes.{Outcome, IsOutcome, IsSeenOf, FillsFrom}
 use Rattle.pa_op_specs.specs.Stocks.{StockRegister, IsMadeFor}
 use Rattle.pa_rules.specs.declared.register.Register.TheVariants.{Empty, Own, Ref, Freed, Cleared}
 
@@ -43,13 +44,15 @@ size_by : (roots : Journals) (p : ℕ) (e : RootEntry) (class : Option ℕ) (t :
 size_by roots p e (Some c) t among out = inl (c, (e, out.0, out.1, among, out.2, out.3), out.4)
 size_by roots p e None t among out = inr (e, out.0, among, out.1)
 
--- A slot that was seen made has the length of its title, and its handle's partition, in any run that fits.
+-- A slot that was seen made has the length of its title, and its handle's partition and class, which is one of the version's, in any run
+-- that fits.
 pub record IsSlotIn (o : Outcome) (h : Handle) : Type 0 where
   pub length : o.sizes (name_of h.title) ≡ h.title.len
   pub home : o.homes (name_of h.title) ≡ h.partition
   pub title : title_of o.sizes (name_of h.title) ≡ h.title
   pub size : HasSize o.roots h.partition (name_of h.title) (o.sizes (name_of h.title))
   pub class : (c : ℕ) → h.class ≡ Some c → IsOfClass o.roots (name_of h.title) h.partition c
+  pub real : (c : ℕ) → h.class ≡ Some c → HasClass o.rules.version c
 
 title_by : (t : Title) (n : ℕ) → n ≡ t.len → record { start = t.start; len = n; born = t.born } ≡ t
 title_by t n e = ap (λ m. record t { len = m }) e
@@ -60,6 +63,13 @@ class_by : (roots : Journals) (p : ℕ) (e : RootEntry) (class : Option ℕ) (t 
 class_by roots p e class t c among out is =
     let h : HandsOut (Some c) t e.act = subst (λ k. HandsOut k t e.act) is out in
     (e, h.0, h.1, among, h.2, h.3)
+
+-- that class is one of the version's, if each fill is of one
+real_by : (version : ℕ) (e : RootEntry) (class : Option ℕ) (t : Title) (c : ℕ) → FillsFrom version e.act → HandsOut class t e.act → class ≡ Some c →
+    HasClass version c
+real_by version e class t c fills out is =
+    let h : HandsOut (Some c) t e.act = subst (λ k. HandsOut k t e.act) is out in
+    subst (FillsFrom version) h.2 fills
 
 pub slot_in_run : (o : Outcome) (v : View) (h : Handle) → IsOutcome o → IsSeenOf o v → HasSeenMade h v → IsSlotIn o h
 slot_in_run o v h is seen made =
@@ -73,6 +83,7 @@ slot_in_run o v h is seen made =
       title = title_by h.title (o.sizes (name_of h.title)) long;
       size = subst (λ n. HasSize o.roots h.partition (name_of h.title) n) (sym long) (size_by o.roots h.partition e h.class h.title there out);
       class = λ c is_class. class_by o.roots h.partition e h.class h.title c there out is_class;
+      real = λ c is_class. real_by o.rules.version e h.class h.title c (is.fills h.partition e there) out is_class;
     }
 
 -- a number that is the greatest of what was seen and n, for one title, isn't less than what was seen

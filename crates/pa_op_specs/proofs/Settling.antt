@@ -202,6 +202,7 @@ module _ (es : List Entry) (are : AreAdditions es) where
   enters_on : (lists : ℕ → List Made) (x : ToldRecord) → EntersOwn lists x → EntersOwn lists (lengthened es x)
   enters_on lists x own = record {
     lines = λ q m among. own.lines q m (subst (λ (ms : List Made). Contains ms m) (entered q x.stretch) among);
+    fills = λ p m e low among says. own.fills p m e low (subst (λ (ms : List Made). Contains ms m) (entered p x.stretch) among) says;
     asked = (
       it_on x own.asked.0,
       elim own.asked.1 [
@@ -253,6 +254,7 @@ module _ (leaves : SettleAllLeaves) (owed : List Owed) where
   fits_back : (o : Outcome) (n : ℕ) (v : View) (x : ToldRecord) → FitsRun o n (after_settle_all owed v) (lengthened (all_added owed) x) → FitsRun o n v x
   fits_back o n v x fits = record {
     many = fits.many;
+    rules = fits.rules;
     run = fits.run;
     seen = record { roots = fits.seen.roots; pools = fits.seen.pools; exchanges = fits.seen.exchanges };
     acts = acts_back (all_added owed) added o x fits.acts;
@@ -263,6 +265,7 @@ module _ (leaves : SettleAllLeaves) (owed : List Owed) where
   does_on s mid x does mine can = record {
     thread = does.thread;
     same = does.same;
+    version = does.version;
     stakes = λ k. left.stakes k ∙ does.stakes k;
     logs = λ k. logs k (k == s.thread) refl (does.logs k);
     lists = does.lists;

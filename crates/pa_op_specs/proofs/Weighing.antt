@@ -226,7 +226,8 @@ module _ (line : ℕ) (answer : Answer) (before after : StockValue) (cs : List C
 
   pub read_counts : (r place : ℕ) → CountsOp line (ops.Read r place) answer before after cs cs os os
   read_counts r place = counts_by_row line (ops.Read r place) answer before after cs cs os os (λ phase o run seen begins row.
-      read_row o.homes o.sizes line before.thread phase (rules_at before) cs four os also (regs_of before.registers r) (row_facts o) (regs_of before.registers) (regs_of after.registers) r place answer row)
+      read_row o.homes o.sizes line before.thread phase (rules_at before) cs four os also (regs_of before.registers r) (row_facts o)
+      (regs_of before.registers) (regs_of after.registers) r place answer row)
 
   pub swap_counts : (cell r : ℕ) → CountsOp line (ops.Swap cell r) answer before after cs cs os os
   swap_counts cell r = counts_by_row line (ops.Swap cell r) answer before after cs cs os os (λ phase o run seen begins row.

@@ -5,6 +5,8 @@ use Rattle.pa_trace.specs.declared.script.Op.{Op}
 use Rattle.pa_trace.specs.declared.script.Op.TheVariants as ops
 use Rattle.pa_record.specs.declared.entry.Answer.TheVariants as answers
 use Rattle.pa_record.specs.declared.history.CellEntry.{CellEntry}
+use Rattle.pa_record.specs.declared.root.RootEntry.{RootEntry}
+use Rattle.pa_record.specs.Numbers.{root_numbers}
 use Rattle.pa_trace.specs.Limits.{most_partitions}
 use Rattle.pa_region.specs.declared.view.Entry.TheVariants.{Uncut}
 use Rattle.pa_region.specs.declared.view.Made.{Made}
@@ -16,6 +18,7 @@ use Rattle.pa_logs.specs.Told.{ToldRecord}
 use Rattle.pa_logs.specs.Listed.{line_of}
 use Rattle.pa_logs.specs.Indices.{Enters, AskedNone, AskedOnce, IsFullAt}
 use Rattle.pa_logs.specs.Standing.{Unmaps}
+use Rattle.pa_op_specs.specs.Outcomes.{FillsFrom}
 use Rattle.pa_op_specs.specs.Stocks.{StockValue}
 
 -- An exchange with cell k made one entry in the cells' list, which is of its line, and its answer is how many exchanges of the
@@ -44,12 +47,15 @@ EntersCells ops.Purge list x = entered_in 5 x.stretch ≡ []
 
 -- What a record entered. `lists` are those that its seat has seen after it.
 --   lines: all is of its line
+--   fills: a fill is of a class of its rules' version
 --   asked: it asked the pool at most once
 --   refused: if it was full, it names its entry
 --   uncuts: a title that was uncut is one that it unmaps
 --   cells: an exchange is one entry of the cells' list, and no other op enters there
 pub record EntersOwn (lists : ℕ → List Made) (x : ToldRecord) : Type 0 where
   pub lines : (q : ℕ) (m : Made) → Contains (entered_in q x.stretch) m → line_of m ≡ x.played.line
+  pub fills : (p : ℕ) (m : Made) (e : RootEntry) → p < most_partitions → Contains (entered_in p x.stretch) m → m.numbers ≡ root_numbers e
+      → FillsFrom x.played.rules.version e.act
   pub asked : (it : Enters x) × (AskedNone x it ⊎ AskedOnce (lists 4) x it)
   pub refused : (j reg p size : ℕ) → x.played.answer ≡ answers.Full j → x.played.op ≡ ops.Alloc reg p size →
       (p < most_partitions) × IsFullAt (lists p) x j

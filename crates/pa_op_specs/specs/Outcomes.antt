@@ -4,24 +4,28 @@ use Rattle.pa_slot.specs.declared.title.Title.{Title}
 use Rattle.pa_slot.specs.declared.word.SlotName.{SlotName}
 use Rattle.pa_record.specs.declared.history.CellEntry.{CellEntry}
 use Rattle.pa_record.specs.declared.pool.PoolEntry.{PoolEntry}
+use Rattle.pa_record.specs.declared.root.RootAct.{RootAct}
+use Rattle.pa_record.specs.declared.root.RootAct.TheVariants.{Fill, Map, Full, Give, Unmap, Purge}
 use Rattle.pa_record.specs.declared.root.RootEntry.{RootEntry}
 use Rattle.pa_record.specs.Numbers.{root_numbers, pool_numbers}
 use Rattle.pa_record.specs.Spans.{name_of}
 use Rattle.pa_trace.specs.Limits.{most_partitions}
+use Rattle.pa_trace.specs.declared.script.Rules.{Rules}
 use Rattle.pa_region.specs.declared.view.Made.{Made}
 use Rattle.pa_region.specs.declared.view.View.{View}
 use Rattle.pa_region.specs.Lists.{list_of, entered_in}
 use Rattle.pa_rules.specs.Caches.{acts_of}
 use Rattle.pa_rules.specs.Registers.{Facts}
 use Rattle.pa_rules.specs.Roots.{Journals}
-use Rattle.pa_rules.specs.Sizes.{usable_of}
+use Rattle.pa_rules.specs.Sizes.{HasClass, usable_of}
 use Rattle.pa_logs.specs.Told.{ToldRecord}
 use Rattle.pa_cells.specs.Cells.{Exchange, exchange_numbers, made_with_cell}
 use Rattle.pa_cells.specs.Handles.{HandsOut}
 
--- What a run became: how many partitions it has, their journals, the pool's entries, the history of each cell, and the length
--- and the partition of each slot.
+-- What a run became: by which rules it is played, how many partitions it has, their journals, the pool's entries, the history of each
+-- cell, and the length and the partition of each slot.
 pub record Outcome : Type 0 where
+  pub rules : Rules
   pub partitions : ℕ
   pub roots : Journals
   pub pools : List PoolEntry
@@ -29,15 +33,25 @@ pub record Outcome : Type 0 where
   pub sizes : SlotName → ℕ
   pub homes : SlotName → ℕ
 
--- what the transitions of registers need to know of it, by version 1: all bytes of a slot but its count word are usable
+-- what the transitions of registers need to know of it, by its rules: all bytes of a slot but its count word are usable
 abbrev pub row_facts : Outcome → Facts
-row_facts o = record { usable_of = usable_of 1; usable_at = λ s. o.sizes s - 8; cells = o.cells }
+row_facts o = record { usable_of = usable_of o.rules.version; usable_at = λ s. o.sizes s - 8; cells = o.cells }
 
--- The outcome is one of a run. No partition past its own has a journal, and a slot has the length with which a journal hands it out,
--- and that journal's partition.
+-- if the act is a fill, its class is one of the version's
+abbrev pub FillsFrom : ℕ → RootAct → Type 0
+FillsFrom version (Fill class asked slots) = HasClass version class
+FillsFrom version (Map asked slot len) = Unit {0}
+FillsFrom version (Full class asked) = Unit {0}
+FillsFrom version (Give slots) = Unit {0}
+FillsFrom version (Unmap asked slot) = Unit {0}
+FillsFrom version Purge = Unit {0}
+
+-- The outcome is one of a run. No partition past its own has a journal, and journals fill from the classes of its version alone. A slot
+-- has the length with which a journal hands it out, and that journal's partition.
 pub record IsOutcome (o : Outcome) : Type 0 where
   pub few : o.partitions ≤ most_partitions
   pub past : (p : ℕ) → o.partitions ≤ p → o.roots p ≡ []
+  pub fills : (p : ℕ) (e : RootEntry) → Contains (o.roots p) e → FillsFrom o.rules.version e.act
   pub lengths : (p : ℕ) (e : RootEntry) (class : Option ℕ) (t : Title) → Contains (o.roots p) e → HandsOut class t e.act →
       o.sizes (name_of t) ≡ t.len
   pub homes : (p : ℕ) (e : RootEntry) (class : Option ℕ) (t : Title) → Contains (o.roots p) e → HandsOut class t e.act →
@@ -60,9 +74,10 @@ ActsAreOf o x =
     map (λ (m : Made). m.numbers) (entered_in p x.stretch) ≡ map root_numbers entries →
     acts_of o.roots x.played.line p ≡ map (λ (e : RootEntry). e.act) entries
 
--- A run of this many partitions became this, in which the record was made by a seat that had this view then.
+-- A run of this many partitions became this, in which the record was made, by the run's rules, by a seat that had this view then.
 pub record FitsRun (o : Outcome) (partitions : ℕ) (v : View) (x : ToldRecord) : Type 0 where
   pub many : o.partitions ≡ partitions
+  pub rules : x.played.rules ≡ o.rules
   pub run : IsOutcome o
   pub seen : IsSeenOf o v
   pub acts : ActsAreOf o x

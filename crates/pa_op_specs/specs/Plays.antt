@@ -66,7 +66,7 @@ pub record AnswersIn (o : Outcome) (before after : StockValue) (x : ToldRecord) 
   pub signs : HasItsSigns o.partitions o.roots x
 
 -- What an op did with the worker's thread state, and the annotated record that it is.
---   thread, same: the record is of the worker's thread
+--   thread, same, version: the record is of the worker's thread, which goes on by the same rules
 --   stakes: it has the same stakes
 --   logs: the log of its thread's stake has one more log segment, and no other log does
 --   lists: it forgets nothing of any list
@@ -78,6 +78,7 @@ pub record AnswersIn (o : Outcome) (before after : StockValue) (x : ToldRecord) 
 pub record Does (before after : StockValue) (x : ToldRecord) : Type 0 where
   pub thread : x.played.thread ≡ before.thread
   pub same : (after.thread ≡ before.thread) × (after.partitions ≡ before.partitions)
+  pub version : after.caches.version ≡ before.caches.version
   pub stakes : (k : ℕ) → stake_of after.view k ≡ stake_of before.view k
   pub logs : (k : ℕ) → log_of k after.view ≡ log_of k before.view ++ (if k == before.thread then x.stretch else [])
   pub lists : (k : ℕ) → IsBeginning (list_of k before.view) (list_of k after.view)

@@ -1,15 +1,14 @@
 -- What a worker has: a seat, registers, and lists of free slots, as contracts see it, and what is always true of it.
-use Rattle.std.specs.Prelude.{◌≡◌, ℕ, ◌+◌, ◌*◌, ◌%◌, ◌<◌, ◌≤◌, List, [], length, nat_lt, if◌then◌else◌, ◌⊎◌, Some, Contains, slice_index_or}
+use Rattle.std.specs.Prelude.{◌≡◌, ℕ, ◌+◌, ◌-◌, ◌*◌, ◌%◌, ◌<◌, ◌≤◌, List, [], length, if◌then◌else◌, ◌⊎◌, Some, Contains, slice_index_or}
 use Rattle.std.specs.List.{sum_by}
 use Rattle.pa_slot.specs.declared.title.Title.{Title}
 use Rattle.pa_slot.specs.Titles.{same_title, IsWellFormed}
 use Rattle.pa_slot.specs.Holdings.{one}
-use Rattle.pa_buckets.specs.Limits.{sparse_count}
+use Rattle.pa_buckets.specs.Limits.{first_class}
 use Rattle.pa_trace.specs.declared.script.Rules.{Rules}
-use Rattle.pa_trace.specs.Rules.{first_rules}
 use Rattle.pa_record.specs.Spans.{name_of}
 use Rattle.pa_trace.specs.Limits.{register_count, most_partitions, most_threads}
-use Rattle.pa_rules.specs.Limits.{list_count}
+use Rattle.pa_rules.specs.Sizes.{HasClass, is_class, class_total}
 use Rattle.pa_region.specs.declared.view.View.{View}
 use Rattle.pa_region.specs.Views.{free_of, own_of, ref_of, stake_of}
 use Rattle.pa_region.specs.Waiting.{unclean_of}
@@ -28,34 +27,41 @@ use Rattle.pa_rules.specs.declared.register.Register.TheVariants.{Empty, Own, Re
 abbrev pub StockRegister : Type 0
 StockRegister = Register Handle
 
+-- A worker's lists of free slots: the version of the run, and a cache for each of 4 partitions and of the version's classes, those of
+-- partition 0 first.
+pub record WorkerLists : Type 0 where
+  pub version : ℕ
+  pub lists : List CacheList
+
 -- A worker's thread state, as contracts see it: the number of its thread, how many partitions the run has, the view of its seat, its
--- registers, and a cache for each of 4 partitions and of the 59 classes of version 1, those of partition 0 first.
+-- registers, and its lists.
 pub record StockValue : Type 0 where
   pub thread : ℕ
   pub partitions : ℕ
   pub view : View
   pub registers : List StockRegister
-  pub caches : List CacheList
+  pub caches : WorkerLists
 
--- the rules by which a worker plays: those of version 1
+-- the rules by which a worker plays: those of its lists' version, and no partition is plain
 abbrev pub rules_at : StockValue → Rules
-rules_at s = first_rules s.partitions
+rules_at s = record { version = s.caches.version; plain_from = s.partitions }
 
 -- what register number i has, which is nothing if it isn't there
 abbrev pub register_in : List StockRegister → ℕ → StockRegister
 register_in registers i = slice_index_or registers i Empty
 
--- the index of the cache of a partition and a class
-abbrev pub cache_place : ℕ → ℕ → ℕ
-cache_place p class = sparse_count * p + class
+-- the index of the cache of a partition and a class, which is one of the version's
+abbrev pub cache_place : ℕ → ℕ → ℕ → ℕ
+cache_place version p class = p * class_total version + (class - first_class version)
 
 -- the cache to use if there is none: it has no titles
 abbrev pub no_cache : CacheList
 no_cache = record { class = 0; titles = [] }
 
--- the titles in the cache of a partition and a class, front first, or none if there is no such class
-abbrev pub titles_in : List CacheList → ℕ → ℕ → List Title
-titles_in caches p class = if nat_lt class sparse_count then (slice_index_or caches (cache_place p class) no_cache).titles else []
+-- the titles in the cache of a partition and a class, front first, or none if the version has no such class
+abbrev pub titles_in : WorkerLists → ℕ → ℕ → List Title
+titles_in caches p class =
+    if is_class caches.version class then (slice_index_or caches.lists (cache_place caches.version p class) no_cache).titles else []
 
 -- a worker's register, as the rules of a run have it
 abbrev pub as_reg : StockRegister → Reg
@@ -120,11 +126,11 @@ listed_slot p class t = record { title = t; partition = p; class = Some class }
 
 -- What is known of the lists. None is longer than its class's limit. The seat has each listed title free, none is in two lists, and
 -- it has seen the fill that handed the slot out, of its partition and class. Each title is well formed.
-pub record HoldsLists (caches : List CacheList) (v : View) : Type 0 where
-  pub count : length caches ≡ list_count
-  pub sound : (k : ℕ) → IsCache (slice_index_or caches k no_cache)
-  pub classes : (p class : ℕ) → p < most_partitions → class < sparse_count →
-      (slice_index_or caches (cache_place p class) no_cache).class ≡ class
+pub record HoldsLists (caches : WorkerLists) (v : View) : Type 0 where
+  pub count : length caches.lists ≡ most_partitions * class_total caches.version
+  pub sound : (k : ℕ) → IsCache (slice_index_or caches.lists k no_cache)
+  pub classes : (p class : ℕ) → p < most_partitions → HasClass caches.version class →
+      (slice_index_or caches.lists (cache_place caches.version p class) no_cache).class ≡ class
   pub few : (p class : ℕ) → length (titles_in caches p class) ≤ limit_of class
   pub free : (p class : ℕ) (t : Title) → Contains (titles_in caches p class) t → 0 < free_of v t
   pub apart : (p q class other : ℕ) (t : Title) → Contains (titles_in caches p class) t → Contains (titles_in caches q other) t →
@@ -151,14 +157,16 @@ pub record IsForThread (thread : ℕ) (v : View) : Type 0 where
   pub unused : (t : Title) → own_of v t + ref_of v t ≡ 0
 
 -- the worker's thread state at the start: its registers and lists are empty
-pub record IsNewStock (thread partitions : ℕ) (v : View) (s : StockValue) : Type 0 where
+pub record IsNewStock (thread partitions version : ℕ) (v : View) (s : StockValue) : Type 0 where
   pub thread_is : s.thread ≡ thread
   pub partitions_are : s.partitions ≡ partitions
+  pub version_is : s.caches.version ≡ version
   pub view : s.view ≡ v
   pub registers : (i : ℕ) → register_in s.registers i ≡ Empty
   pub lists : (p class : ℕ) → titles_in s.caches p class ≡ []
 
--- these are the first `count` lists of a worker at the start: of each class in turn, without titles
-pub record AreNoLists (count : ℕ) (caches : List CacheList) : Type 0 where
+-- these are the first `count` lists of a worker at the start: of each class of the version in turn, without titles
+pub record AreNoLists (version count : ℕ) (caches : List CacheList) : Type 0 where
   pub count_is : length caches ≡ count
-  pub each : (k : ℕ) → k < count → slice_index_or caches k no_cache ≡ record { class = k % sparse_count; titles = [] }
+  pub each : (k : ℕ) → k < count
+      → slice_index_or caches k no_cache ≡ record { class = first_class version + k % class_total version; titles = [] }

@@ -92,7 +92,8 @@ listed_back (x ∷ xs) from to n low among = elim (in_cases x n (xs ++ numbers f
 ]
 
 -- a span whose list was empty is provisioned
-pub provisioned_is : (v : Span) (xs : List ℕ) (from pages slots made : ℕ) → v.free ≡ xs ++ numbers from (v.provisioned - from) → from ≤ v.provisioned → v.free ≡ [] → pages ≡ more_pages v → slots ≡ more_slots v → made ≡ max v.made slots
+pub provisioned_is : (v : Span) (xs : List ℕ) (from pages slots made : ℕ) → v.free ≡ xs ++ numbers from (v.provisioned - from)
+    → from ≤ v.provisioned → v.free ≡ [] → pages ≡ more_pages v → slots ≡ more_slots v → made ≡ max v.made slots
     → record v { committed = pages; provisioned = slots; made = made; free = xs ++ numbers from (slots - from) } ≡ provisioned_more v
 provisioned_is v xs from pages slots made is low none more all most =
     let back = none_back xs from v.provisioned (sym is ∙ none) in

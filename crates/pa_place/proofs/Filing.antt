@@ -50,7 +50,8 @@ set_length (y ∷ xs) zero x = refl
 set_length (y ∷ xs) (suc i) x = ap (λ n. suc n) (set_length xs i x)
 
 -- a span changed but for its class, state and turn
-pub all_alike : (a : State) (ss : List Span) (i : ℕ) (s t : Span) (lists : List (Vec ℕ Global)) → slice_get ss i ≡ Some s → t.class ≡ s.class → t.state ≡ s.state → t.turn ≡ s.turn → AreListed a ss lists →
+pub all_alike : (a : State) (ss : List Span) (i : ℕ) (s t : Span) (lists : List (Vec ℕ Global)) → slice_get ss i ≡ Some s
+    → t.class ≡ s.class → t.state ≡ s.state → t.turn ≡ s.turn → AreListed a ss lists →
     AreListed a (set ss i t) lists
 all_alike a ss i s t lists e class same turn h = record {
   classes = h.classes;
@@ -61,7 +62,8 @@ all_alike a ss i s t lists e class same turn h = record {
     is_of_with : ℕ → State → ℕ → State → Bool
     is_of_with c a n b = eqb n c && same_state b a
 
-pub filed_alike : (ss : List Span) (i : ℕ) (s t : Span) (lists : Lists) → slice_get ss i ≡ Some s → t.class ≡ s.class → t.state ≡ s.state → t.turn ≡ s.turn → AreFiled ss lists → AreFiled (set ss i t) lists
+pub filed_alike : (ss : List Span) (i : ℕ) (s t : Span) (lists : Lists) → slice_get ss i ≡ Some s → t.class ≡ s.class → t.state ≡ s.state
+    → t.turn ≡ s.turn → AreFiled ss lists → AreFiled (set ss i t) lists
 filed_alike ss i s t lists e class same turn h = record {
   empty = alike (is_in state.Empty) ss lists.empty.items i s t e (ap (λ b. same_state b state.Empty) same) turn h.empty;
   ring = h.ring;
@@ -120,7 +122,8 @@ all_refiled a ss i s t was is lists after c (list, next, there, done, e) h =
     ]
 
 -- the list has room when the span comes on it
-can_refile_at : (a : State) (ss : List Span) (i : ℕ) (s : Span) (was is : Bool) (lists : List (Vec ℕ Global)) → slice_get ss i ≡ Some s → was ≡ is_in a s → AreListed a ss lists → CanRefileAt ss s.class was is lists
+can_refile_at : (a : State) (ss : List Span) (i : ℕ) (s : Span) (was is : Bool) (lists : List (Vec ℕ Global)) → slice_get ss i ≡ Some s
+    → was ≡ is_in a s → AreListed a ss lists → CanRefileAt ss s.class was is lists
 can_refile_at a ss i s was is lists e was_in h = λ list f. record {
   order = listed_in_turn (is_of s.class a) ss list.items (h.listing s.class list f);
   room = λ not_in now.
@@ -131,7 +134,8 @@ can_refile_at a ss i s was is lists e was_in h = λ list f. record {
 }
 
 -- the lists can take the span into another state
-pub can_file : (ss : List Span) (i : ℕ) (s : Span) (to : State) (lists : Lists) → slice_get ss i ≡ Some s → (to ≡ state.Empty → count_by (is_in state.Empty) ss ≤ 16) → AreFiled ss lists → CanFile ss s.class s.state to lists
+pub can_file : (ss : List Span) (i : ℕ) (s : Span) (to : State) (lists : Lists) → slice_get ss i ≡ Some s
+    → (to ≡ state.Empty → count_by (is_in state.Empty) ss ≤ 16) → AreFiled ss lists → CanFile ss s.class s.state to lists
 can_file ss i s to lists e few h = record {
   classes = record { active = h.active.classes; decommitted = h.decommitted.classes };
   empty = record {
@@ -172,7 +176,8 @@ in_change a ss i s to turn used e turns = record {
     not_none b a used same = ap (λ z. same_state z state.None) same ∙ used
 
 -- after a span entered another state and was refiled, the lists say which spans are in which state, if they did before
-pub filed_anew : (ss : List Span) (i : ℕ) (s : Span) (to : State) (turn : ℕ) (lists after : Lists) → slice_get ss i ≡ Some s → HaveTurns ss turn → IsFiledAnew s.class s.state to i lists after → AreFiled ss lists →
+pub filed_anew : (ss : List Span) (i : ℕ) (s : Span) (to : State) (turn : ℕ) (lists after : Lists) → slice_get ss i ≡ Some s
+    → HaveTurns ss turn → IsFiledAnew s.class s.state to i lists after → AreFiled ss lists →
     AreFiled (set ss i (in_state to turn s)) after
 filed_anew ss i s to turn lists after e turns done h =
     let t = in_state to turn s in
@@ -181,8 +186,11 @@ filed_anew ss i s to turn lists after e turns done h =
       empty = subst (λ xs. IsListing (is_in state.Empty) (set ss i t) xs) (sym done.empty.items)
           (refiled_by (is_in state.Empty) ss lists.empty.items i s t (same_state s.state state.Empty) (same_state to state.Empty) e c.was_in c.is_now c.same c.last h.empty);
       ring = let p = h.ring in let q = done.empty.room in omega arith;
-      active = all_refiled state.Active ss i s t (same_state s.state state.Active) (same_state to state.Active) lists.active.items after.active.items (in_change state.Active ss i s to turn refl e turns) done.active h.active;
-      decommitted = all_refiled state.Decommitted ss i s t (same_state s.state state.Decommitted) (same_state to state.Decommitted) lists.decommitted.items after.decommitted.items (in_change state.Decommitted ss i s to turn refl e turns) done.decommitted h.decommitted;
+      active = all_refiled state.Active ss i s t (same_state s.state state.Active) (same_state to state.Active) lists.active.items
+          after.active.items (in_change state.Active ss i s to turn refl e turns) done.active h.active;
+      decommitted = all_refiled state.Decommitted ss i s t (same_state s.state state.Decommitted) (same_state to state.Decommitted)
+          lists.decommitted.items after.decommitted.items (in_change state.Decommitted ss i s to turn refl e turns) done.decommitted
+          h.decommitted;
     }
 
 -- refiling a span leaves room for as many spans as before in the list of each class
@@ -222,7 +230,8 @@ all_reserved a ss class list next lists there same more h = record {
   ];
 }
 
-pub room_reserved : (class most : ℕ) (list next : Vec ℕ Global) (lists : List (Vec ℕ Global)) → slice_get lists class ≡ Some list → most ≤ vec_capacity next → HasListRoom class most (set lists class next)
+pub room_reserved : (class most : ℕ) (list next : Vec ℕ Global) (lists : List (Vec ℕ Global)) → slice_get lists class ≡ Some list
+    → most ≤ vec_capacity next → HasListRoom class most (set lists class next)
 room_reserved class most list next lists there more = λ ids f.
     let same = of_some next ids (sym (set_same lists class list next there) ∙ f) in
     subst (λ z. most ≤ vec_capacity z) same more
@@ -236,7 +245,8 @@ count_most test (s ∷ ss) = let ih = count_most test ss in let a = sum_by-cons 
     one_low true = omega arith
     one_low false = omega arith
 
-all_stay : (a : State) (ss : List Span) (s : Span) (lists : List (Vec ℕ Global)) → is_in a s ≡ false → HasListRoom s.class (length ss + 1) lists → AreListed a ss lists → AreListed a (ss ++ s ∷ []) lists
+all_stay : (a : State) (ss : List Span) (s : Span) (lists : List (Vec ℕ Global)) → is_in a s ≡ false
+    → HasListRoom s.class (length ss + 1) lists → AreListed a ss lists → AreListed a (ss ++ s ∷ []) lists
 all_stay a ss s lists other room h = record {
   classes = h.classes;
   listing = λ class list f. stays (is_of class a) ss list.items s (and_false (eqb s.class class) (is_in a s) other) (h.listing class list f);

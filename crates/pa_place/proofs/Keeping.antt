@@ -174,7 +174,8 @@ mapped_good len entry (Some first) r good few old =
     )
 
 -- a direct map is made in a root
-pub made_step : (first len entry : ℕ) (t : Title) (r after : Root) → IsGood r → length r.maps < 2147483647 → IsBornBelow entry r → t ≡ map_in first len entry → after ≡ mapped t r → IsAfterOpen entry r after
+pub made_step : (first len entry : ℕ) (t : Title) (r after : Root) → IsGood r → length r.maps < 2147483647 → IsBornBelow entry r
+    → t ≡ map_in first len entry → after ≡ mapped t r → IsAfterOpen entry r after
 made_step first len entry t r after good few old is e =
     let (a, b, n) = mapped_good len entry (Some first) r good few old in
     subst (IsAfterOpen entry r) (sym (e ∙ ap (λ z. mapped z r) is))

@@ -76,7 +76,8 @@ ring_latest class r ids k i s sound h at e hit others =
           ];
     }))
 
-none_by : (class : ℕ) (ss : List Span) (ids : List ℕ) (o : Option Span) → IsListing (is_in state.Empty) ss ids → OthersFrom 0 class ids ss → latest (is_of class state.Empty) ss ≡ o → latest (is_of class state.Empty) ss ≡ None
+none_by : (class : ℕ) (ss : List Span) (ids : List ℕ) (o : Option Span) → IsListing (is_in state.Empty) ss ids → OthersFrom 0 class ids ss
+    → latest (is_of class state.Empty) ss ≡ o → latest (is_of class state.Empty) ss ≡ None
 none_by class ss ids None h others e = e
 none_by class ss ids (Some s) h others e =
     let k = latest_is (is_of class state.Empty) ss s e in
@@ -88,7 +89,8 @@ pub ring_none : (class : ℕ) (ss : List Span) (ids : List ℕ) → IsListing (i
 ring_none class ss ids h others = none_by class ss ids (latest (is_of class state.Empty) ss) h others refl
 
 -- a further one isn't of the class
-pub others_from : (class k i : ℕ) (ids : List ℕ) (ss : List Span) (s : Span) → slice_get ids k ≡ Some i → slice_get ss i ≡ Some s → is_class class s ≡ false → OthersFrom (k + 1) class ids ss → OthersFrom k class ids ss
+pub others_from : (class k i : ℕ) (ids : List ℕ) (ss : List Span) (s : Span) → slice_get ids k ≡ Some i → slice_get ss i ≡ Some s
+    → is_class class s ≡ false → OthersFrom (k + 1) class ids ss → OthersFrom k class ids ss
 others_from class k i ids ss s at e miss others = λ m j v from f g. elim (cases_lt k m) [
   | inl later ↦ others m j v (omega arith) f g
   | inr not_later ↦

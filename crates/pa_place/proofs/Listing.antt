@@ -276,7 +276,8 @@ remains test ss ids i s t e passes passes' same h = record {
 }
 
 -- a span changed that passes as before, with the same turn
-pub alike : (test : Span → Bool) (ss : List Span) (ids : List ℕ) (i : ℕ) (s t : Span) → slice_get ss i ≡ Some s → test t ≡ test s → t.turn ≡ s.turn → IsListing test ss ids → IsListing test (set ss i t) ids
+pub alike : (test : Span → Bool) (ss : List Span) (ids : List ℕ) (i : ℕ) (s t : Span) → slice_get ss i ≡ Some s → test t ≡ test s
+    → t.turn ≡ s.turn → IsListing test ss ids → IsListing test (set ss i t) ids
 alike test ss ids i s t e same turn h = elim (cases_Bool (test s)) [
   | inl passes ↦ remains test ss ids i s t e passes (same ∙ passes) turn h
   | inr fails ↦ stands test ss ids i s t e fails (same ∙ fails) h
@@ -360,7 +361,8 @@ empty_by (k ∷ ids) e =
     last_there : (xs : List ℕ) (n : ℕ) → length xs ≡ n + 1 → slice_get xs n ≡ last_of xs
     last_there xs n e = ap (slice_get xs) (let f : n ≡ length xs - 1 = omega arith in f)
 
-pub last_is_latest : (test : Span → Bool) (r : Root) (ids : List ℕ) (o : Option ℕ) → IsSound r → TestsUsed test r → IsListing test r.spans ids → o ≡ last_of ids → span_at r.spans o ≡ latest test r.spans
+pub last_is_latest : (test : Span → Bool) (r : Root) (ids : List ℕ) (o : Option ℕ) → IsSound r → TestsUsed test r
+    → IsListing test r.spans ids → o ≡ last_of ids → span_at r.spans o ≡ latest test r.spans
 last_is_latest test r ids None sound used h e = sym (none_is_latest test r.spans (subst (λ xs. IsListing test r.spans xs) (empty_by ids (sym e)) h))
 last_is_latest test r ids (Some i) sound used h e =
     listed_latest test r ids i sound used h (at_in ids (length ids - 1) i (sym e)) (λ j among. last_pair (IsSooner r.spans) ids j i h.order among (sym e))

@@ -228,7 +228,8 @@ cut_page class r (Some at) ready real now = elim (cases_Bool (leb (r.page + page
   | inr full ↦ rw full (none_made class r)
 ]
 
-cut_by : (class : ℕ) (r : Root) (o : Option Span) → IsReady r → class < 170 → listed class r.spans ≡ o → AreMadeNow class r (taken_from (found_or_new class r o) r).root (cut_in (found_or_new class r o))
+cut_by : (class : ℕ) (r : Root) (o : Option Span) → IsReady r → class < 170 → listed class r.spans ≡ o
+    → AreMadeNow class r (taken_from (found_or_new class r o) r).root (cut_in (found_or_new class r o))
 cut_by class r None ready real e = cut_page class r (current r) ready real refl
 cut_by class r (Some s) ready real e =
     let u = listed_is class r.spans s e in

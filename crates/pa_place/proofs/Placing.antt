@@ -133,7 +133,8 @@ served_root r i s u next title turn sound e served is after =
     let last : Root → Option Title → Took = λ a b. record { root = a; title = b } in
     front
     ∙ ap (λ a. last a (Some (title_at (with_free s) served.number))) there
-    ∙ ap (λ v. last (record r { spans = set r.spans i (in_state (state_in_use v) r.turn v); turn = turn_after (state_in_use v) r.turn v }) (Some (title_at (with_free s) served.number))) (sym served.after)
+    ∙ ap (λ v. last (record r { spans = set r.spans i (in_state (state_in_use v) r.turn v); turn = turn_after (state_in_use v) r.turn v })
+    (Some (title_at (with_free s) served.number))) (sym served.after)
     ∙ ap (λ v. last (record r { spans = set r.spans i v; turn = turn_after (state_in_use u) r.turn u }) (Some (title_at (with_free s) served.number))) (sym is)
     ∙ ap (λ n. last (record r { spans = set r.spans i next; turn = n }) (Some (title_at (with_free s) served.number))) (sym after)
     ∙ ap (λ v. last (record r { spans = set r.spans i next; turn = turn }) (Some v)) (sym served.title)

@@ -18,7 +18,8 @@ no_rooms s blanks = record {
 }
 
 -- a super page was opened
-pub rooms_opened : (s after : Store) (blanks : List Span) (room : Room) → after.spans ≡ s.spans → after.maps ≡ s.maps → after.lists ≡ s.lists → HasRooms s blanks room → HasRooms after blanks (opened_room room)
+pub rooms_opened : (s after : Store) (blanks : List Span) (room : Room) → after.spans ≡ s.spans → after.maps ≡ s.maps
+    → after.lists ≡ s.lists → HasRooms s blanks room → HasRooms after blanks (opened_room room)
 rooms_opened s after blanks room spans maps lists h = record {
   takes = λ some.
       let (a, b) = h.takes some in

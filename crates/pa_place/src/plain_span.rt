@@ -43,7 +43,18 @@ impl Model for PlainSpan {
 
     ghost Value = { Span };
 
-    ghost view = { λ s. record { place = s.place; born = s.born; class = s.class; state = s.state; turn = s.turn; allocated = s.allocated; provisioned = s.provisioned; committed = s.committed; made = s.made; free = s.returned.items ++ numbers s.kept_from (s.provisioned - s.kept_from) } };
+    ghost view = { λ s. record {
+      place = s.place;
+      born = s.born;
+      class = s.class;
+      state = s.state;
+      turn = s.turn;
+      allocated = s.allocated;
+      provisioned = s.provisioned;
+      committed = s.committed;
+      made = s.made;
+      free = s.returned.items ++ numbers s.kept_from (s.provisioned - s.kept_from);
+    } };
 
     ghost invariant = { λ s. AreKept s.class s.provisioned s.kept_from s.returned };
 }

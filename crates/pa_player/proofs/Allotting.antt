@@ -6,8 +6,9 @@ use Rattle.pa_slot.specs.declared.word.SlotName.{SlotName}
 use Rattle.pa_slot.specs.declared.word.Step.TheVariants as steps
 use Rattle.pa_slot.specs.Count.{CanStep}
 use Rattle.pa_buckets.specs.Table.{slot_of}
-use Rattle.pa_buckets.specs.Classes.{IsClassOf}
-use Rattle.pa_direct.specs.Shapes.{shape_of, IsDirectSize, Serves}
+use Rattle.pa_buckets.specs.Classes.{IsClassIn}
+use Rattle.pa_direct.specs.Shapes.{shape_of, Serves}
+use Rattle.pa_rules.specs.Sizes.{IsMapSize}
 use Rattle.pa_direct.proofs.Serving.{Serves-of}
 use Rattle.pa_trace.specs.declared.script.Op.TheVariants as ops
 use Rattle.pa_trace.specs.declared.script.Line.{Line}
@@ -33,6 +34,7 @@ use Rattle.pa_player.proofs.Handling.{issues}
 use Rattle.pa_player.proofs.GoingBack.{entries_are, listed_len, list_counted}
 use Rattle.pa_player.proofs.FromRoot.{taken_len, taken_free}
 use Rattle.pa_player.proofs.Issuable.{IsIssuable, IsFillable, issue_new, front_issued, fillable_put, fillable_asked, table_asked}
+use Rattle.pa_rules.proofs.Versions.{real_in, direct_in}
 
 -- what is reported is no matter
 fillable_acted : (thread q class at k : ℕ) (acts : List RootAct) (s : Player) → IsFillable thread q class at s → IsFillable thread q class at (acted k acts s)
@@ -87,40 +89,41 @@ module _ (region partitions threads : ℕ) (ls : List Line) (p : Player) (thread
       }
 
   -- a slot of a class
-  module _ (class : ℕ) (of : IsClassOf (max size 1 + 8) class) where
-    fillable : IsFillable thread q class (list_place p.partitions thread q class) p
+  module _ (class : ℕ) (of : IsClassIn p.version (max size 1 + 8) class) where
+    fillable : IsFillable thread q class (list_place p.version p.partitions thread q class) p
     fillable =
         let live = live_few region partitions threads ls p h q short low in
-        let counted = list_counted region partitions threads ls p h thread q class can.within.0 low of.real in
+        let counted = list_counted region partitions threads ls p h thread q class can.within.0 low (of.from, of.real) in
         record {
           threads = omega (arith, can.within.0, h.shaped.registers);
           slots = live.0;
           bytes = live.1;
-          room = place_among region partitions threads ls p h thread q class can.within.0 low of.real;
+          room = place_among region partitions threads ls p h thread q class can.within.0 low (of.from, of.real);
           tallies = omega (arith, low, h.shaped.four, h.shaped.cached);
           each = λ i among.
-              let (inside, home, kind) = h.shaped.listed thread q class i can.within.0 low of.real among in
-              let free = listed_free region partitions threads ls p h i thread q class can.within.0 low of.real among in
+              let (inside, home, kind) = h.shaped.listed thread q class i can.within.0 low (of.from, of.real) among in
+              let free = listed_free region partitions threads ls p h i thread q class can.within.0 low (of.from, of.real) among in
               record {
                 inside = inside;
                 step = issues region partitions threads ls p thread (ops.Alloc reg q size) can i inside free.held free.refs;
-                len = listed_len region partitions threads ls p h thread q class i can.within.0 low of.real among;
+                len = listed_len region partitions threads ls p h thread q class i can.within.0 low (of.from, of.real) among;
                 home = home;
               };
           many = counted.0;
           size = counted.1;
         }
 
-    front : CanIssueFront thread reg q (list_place p.partitions thread q class) p
-    front = front_issued thread reg q class (list_place p.partitions thread q class) p can.within.1.0 (omega (arith, low, h.shaped.four)) of.real fillable
+    front : CanIssueFront thread reg q (list_place p.version p.partitions thread q class) p
+    front = front_issued thread reg q class (list_place p.version p.partitions thread q class) p can.within.1.0
+        (omega (arith, low, h.shaped.four)) (real_in p.version class (of.from, of.real)) fillable
 
     slot_len : (i : ℕ) → i < length p.table → (slot_at p.table i).class ≡ Some class → (slot_at p.table i).title.len ≡ slot_of class
-    slot_len i inside kind = (subst (IsLetOut (journals p) (slot_at p.table i)) kind (h.slots.let_out i inside)).2
+    slot_len i inside kind = (subst (IsLetOut p.version (journals p) (slot_at p.table i)) kind (h.slots.let_out i inside)).2
 
-    filled : (r : Player) → list_in p (list_place p.partitions thread q class) ≡ [] → IsFilled q (list_place p.partitions thread q class) class p r
-        → CanIssueFront thread reg q (list_place p.partitions thread q class) r
+    filled : (r : Player) → list_in p (list_place p.version p.partitions thread q class) ≡ [] → IsFilled q (list_place p.version p.partitions thread q class) class p r
+        → CanIssueFront thread reg q (list_place p.version p.partitions thread q class) r
     filled r empty f =
-        let at = list_place p.partitions thread q class in
+        let at = list_place p.version p.partitions thread q class in
         let (first, others, got) = first_of f.placed.titles.items f.some in
         let start = asked_in q 1 f.placed.titles.items f.placed.pool (placed_in q f.after f.plan p) in
         let same : start.table ≡ p.table = table_asked q p f.after f.plan f.placed.titles.items f.placed.pool in
@@ -140,24 +143,25 @@ module _ (region partitions threads : ℕ) (ls : List Line) (p : Player) (thread
         ))
         f.puts in
         subst (CanIssueFront thread reg q at) (sym f.acted)
-        (front_issued thread reg q class at (acted q (Fill class f.placed.pool f.slots ∷ []) f.put) can.within.1.0 (omega (arith, low, h.shaped.four)) of.real
+        (front_issued thread reg q class at (acted q (Fill class f.placed.pool f.slots ∷ []) f.put) can.within.1.0 (omega (arith, low, h.shaped.four)) (real_in p.version class (of.from, of.real))
         (fillable_acted thread q class at q (Fill class f.placed.pool f.slots ∷ []) f.put put))
 
     pub can_slot : CanAllocateSlot thread reg q class p
     can_slot = record {
+      real = (of.from, of.real);
       threads = omega (arith, can.within.0, can.head.2.1);
       four = omega (arith, h.shaped.many, h.shaped.four);
       among = omega (arith, low, h.shaped.many);
-      at = place_among region partitions threads ls p h thread q class can.within.0 low of.real;
+      at = place_among region partitions threads ls p h thread q class can.within.0 low (of.from, of.real);
       place = place;
       front = front;
       filled = filled;
     }
 
   -- a direct map
-  module _ (direct : IsDirectSize size) where
+  module _ (direct : IsMapSize p.version size) where
     serves : Serves (shape_of size) size
-    serves = Serves-of size direct
+    serves = Serves-of size (direct_in p.version size direct)
 
     map_issue : (r : Player) (i : ℕ) → IsMapPlaced q (shape_of size).slot (shape_of size).supers p r i → CanIssue thread reg i r
     map_issue r i m =
@@ -185,7 +189,7 @@ module _ (region partitions threads : ℕ) (ls : List Line) (p : Player) (thread
           regs = can.within.1.0;
           place = here.0;
           step = subst (λ (x : Slot). CanStep steps.Issue x.word.0) (sym here.1) issue_new;
-          long = omega (arith, ap (λ (x : Slot). x.title.len) here.1, titled.1, serves.usable, direct.0);
+          long = omega (arith, ap (λ (x : Slot). x.title.len) here.1, titled.1, serves.usable, (direct_in p.version size direct).0);
           four = omega (arith, home, low, h.shaped.four);
           slots = few.0;
           bytes = few.1;
@@ -194,7 +198,7 @@ module _ (region partitions threads : ℕ) (ls : List Line) (p : Player) (thread
     pub can_map : CanAllocateMap thread reg q (shape_of size).slot (shape_of size).supers p
     can_map = record {
       whole = serves.system_pages;
-      some = omega (arith, serves.usable, direct.0);
+      some = omega (arith, serves.usable, (direct_in p.version size direct).0);
       count = refl;
       few = serves.few_supers;
       place = place;

@@ -72,19 +72,20 @@ after_backs at (m ∷ ms) k n back is =
 
 -- ---- the table
 
-pub let_out_grown : (roots : Journals) (n : ℕ) (acts : Acts) (x : Slot) (class : Option ℕ) → IsLetOut roots x class → IsLetOut (grown roots n acts) x class
-let_out_grown roots n acts x (Some class) (real, of, is) =
+pub let_out_grown : (version : ℕ) (roots : Journals) (n : ℕ) (acts : Acts) (x : Slot) (class : Option ℕ) → IsLetOut version roots x class → IsLetOut version (grown roots n acts) x class
+let_out_grown version roots n acts x (Some class) (real, of, is) =
     let (e, asked, slots, among, act, member) = of in
     (real, (e, asked, slots, grown_old roots n acts x.partition e among, act, member), is)
-let_out_grown roots n acts x None (e, asked, among, act) = (e, asked, grown_old roots n acts x.partition e among, act)
+let_out_grown version roots n acts x None (e, asked, among, act) = (e, asked, grown_old roots n acts x.partition e among, act)
 
-pub slots_back : (partitions : ℕ) (slots : List Slot) (pools more : List PoolEntry) (roots : Journals) (root after : ℕ → Root) (n : ℕ) (acts : Acts) → AreAllSlots partitions slots pools roots root
+pub slots_back : {version : ℕ} (partitions : ℕ) (slots : List Slot) (pools more : List PoolEntry) (roots : Journals)
+    (root after : ℕ → Root) (n : ℕ) (acts : Acts) → AreAllSlots version partitions slots pools roots root
     → ((k : ℕ) → AllComeBack slots (acts k))
     → ((i : ℕ) → i < length slots → IsMappedAs (after (slot_at slots i).partition) (slot_at slots i) (slot_at slots i).class)
-    → AreAllSlots partitions slots (pools ++ more) (grown roots n acts) after
-slots_back partitions slots pools more roots root after n acts h back mapped = record {
+    → AreAllSlots version partitions slots (pools ++ more) (grown roots n acts) after
+slots_back {version} partitions slots pools more roots root after n acts h back mapped = record {
   among = h.among;
-  let_out = λ i low. let_out_grown roots n acts (slot_at slots i) (slot_at slots i).class (h.let_out i low);
+  let_out = λ i low. let_out_grown version roots n acts (slot_at slots i) (slot_at slots i).class (h.let_out i low);
   mapped = mapped;
   at = λ i k low is.
       let q = (slot_at slots i).partition in

@@ -1,5 +1,5 @@
 -- No number of a player passes its type.
-use Rattle.std.proofs.Common.{◌≡◌, ℕ, zero, suc, ◌+◌, ◌*◌, ◌%◌, ◌<◌, ◌≤◌, ◌^◌, Bool, true, false, List, [], ◌∷◌, length, Option, Some, None, ap, subst, arith, inl, inr}
+use Rattle.std.proofs.Common.{◌≡◌, ℕ, zero, suc, ◌+◌, ◌*◌, ◌%◌, ◌<◌, ◌≤◌, ◌^◌, Bool, true, false, List, [], ◌∷◌, length, Option, Some, None, sym, ap, subst, arith, inl, inr}
 use Rattle.std.specs.Prelude.{if◌then◌else◌, ◌==◌}
 use Rattle.std.specs.List.{filter_map, cons_option}
 use Rattle.std.proofs.lemmas.Bool.{cases_lt}
@@ -10,7 +10,7 @@ use Rattle.pa_slot.specs.declared.word.SlotName.{SlotName}
 use Rattle.pa_slot.specs.declared.word.Step.{Step}
 use Rattle.pa_slot.specs.Run.{Mark}
 use Rattle.pa_buckets.specs.Table.{slot_of}
-use Rattle.pa_buckets.proofs.Facts.{IsRow-of, IsRow_1-of}
+use Rattle.pa_buckets.proofs.Facts.{IsRow-of}
 use Rattle.pa_direct.proofs.Serving.{Serves-of}
 use Rattle.pa_trace.specs.declared.script.Line.{Line}
 use Rattle.pa_trace.specs.declared.script.Line.TheVariants.{Phase, Do}
@@ -23,6 +23,7 @@ use Rattle.pa_rules.specs.Roots.{MakesEntry}
 use Rattle.pa_rules.specs.Caches.{Caches, listed_slots}
 use Rattle.pa_rules.specs.Flow.{at_step}
 use Rattle.pa_rules.specs.Report.{listed_bytes, cached_slots, cached_bytes}
+use Rattle.pa_rules.proofs.Sums.{slots_of_none, bytes_of_none}
 use Rattle.pa_rules.proofs.Versions.{direct_in}
 use Rattle.pa_legal.specs.Tallies.{weight_of, one_of, bytes_of, IsLeft}
 use Rattle.pa_player.specs.declared.table.Slot.{Slot}
@@ -32,6 +33,9 @@ use Rattle.pa_player.specs.Tallies.{tally_at}
 use Rattle.pa_player.specs.Playing.{journals, caches, home_in, len_in, list_at, list_place, numbered_at, IsLetOut, IsPlaying, rules_at}
 use Rattle.pa_player.proofs.Slots.{slot_cases, slot_here, slot_nowhere}
 use Rattle.pa_player.proofs.OneList.{caches_here, caches_none, place_below}
+use Rattle.pa_rules.proofs.Versions.{class_cases}
+use Rattle.pa_rules.proofs.Versions.{real_in}
+use Rattle.pa_rules.specs.Sizes.{HasClass}
 
 -- ---- how many records and marks there are
 
@@ -70,12 +74,12 @@ weight_few test weight most (m ∷ ms) low =
 
 pub listed_few : (lists : ℕ → List Numbered) (class n : ℕ) → ((c : ℕ) → length (lists c) ≤ 64) → listed_slots lists class n ≤ 64 * n
 unfolding listed_slots
-listed_few lists class zero short = omega arith
+listed_few lists class zero short = omega (arith, slots_of_none lists class)
 listed_few lists class (suc n) short = omega (arith, short class, listed_few lists (class + 1) n short)
 
 bytes_few : (counts : ℕ → ℕ) (class n : ℕ) → class + n ≤ 170 → ((c : ℕ) → counts c ≤ 64) → listed_bytes counts class n ≤ 62914560 * n
 unfolding listed_bytes
-bytes_few counts class zero low short = omega arith
+bytes_few counts class zero low short = omega (arith, bytes_of_none counts class)
 bytes_few counts class (suc n) low short =
     let great : slot_of class ≤ 983040 = (IsRow-of class (omega (arith, low))).greatest_slot in
     omega (arith, mul-le (slot_of class) (counts class) 983040 64 great (short class), bytes_few counts (class + 1) n (omega (arith, low)) short)
@@ -97,9 +101,9 @@ pub record IsLength (len : ℕ) : Type 0 where
   pub greatest : len < 33554432
 
 module _ (region partitions threads : ℕ) (ls : List Line) (p : Player) (h : IsPlaying region partitions threads ls p) where
-  let_out_length : (x : Slot) (class : Option ℕ) → IsLetOut (journals p) x class → IsLength x.title.len
+  let_out_length : (x : Slot) (class : Option ℕ) → IsLetOut p.version (journals p) x class → IsLength x.title.len
   let_out_length x (Some class) of =
-      let row = IsRow_1-of class of.0 in
+      let row = IsRow-of class (real_in p.version class of.0) in
       record { whole = omega (arith, of.2, row.sixteens); least = omega (arith, of.2, row.least_slot); greatest = omega (arith, of.2, row.greatest_slot) }
   let_out_length x None (e, asked, among, act) =
       let (y, of, makes) = h.placed.lines x.partition e among in
@@ -137,12 +141,12 @@ module _ (region partitions threads : ℕ) (ls : List Line) (p : Player) (h : Is
 
   -- the lists
   pub list_short : (t q class : ℕ) → t < threads → q < partitions → length (caches p t q class) ≤ 64
-  list_short t q class below low = elim (cases_lt class 59) [
+  list_short t q class below low = elim (class_cases p.version class) [
     | inl real ↦
-        let kept = (IsRow_1-of class real).few_kept in
+        let kept = (IsRow-of class (real_in p.version class real)).few_kept in
         let same = ap length (caches_here p t q class (omega (arith, low, h.shaped.many)) real) in
         omega (arith, kept, same, length-map (list_at p t q class) (numbered_at p.table), h.shaped.short t q class below low real)
-    | inr past ↦ omega (arith, ap length (caches_none p t q class (λ a b. omega (arith, past, b))))
+    | inr none ↦ omega (arith, ap length (caches_none p t q class (λ a b. none b)))
   ]
 
   pub cached_few : (q : ℕ) → threads ≤ 16 → q < partitions → ((tally_at p.cached.of q).slots < 2 ^ 31) × ((tally_at p.cached.of q).bytes < 2 ^ 62)
@@ -153,7 +157,8 @@ module _ (region partitions threads : ℕ) (ls : List Line) (p : Player) (h : Is
       )
 
   -- the index of a list
-  pub place_among : (t q class : ℕ) → t < threads → q < partitions → class < 59 → list_place p.partitions t q class < length p.caches
+  pub place_among : (t q class : ℕ) → t < threads → q < partitions → HasClass p.version class → list_place p.version p.partitions t q class < length p.caches
   place_among t q class below low real =
-      let same : list_place p.partitions t q class ≡ list_place partitions t q class = ap (λ n. list_place n t q class) h.shaped.many in
-      omega (arith, same, place_below partitions threads t q class below low real, h.shaped.lists)
+      let same : list_place p.version p.partitions t q class ≡ list_place p.version partitions t q class = ap (λ n. list_place p.version n t q class) h.shaped.many in
+      let there = place_below p.version partitions threads t q class below low real in
+      subst (λ n. n < length p.caches) (sym same) (subst (λ n. list_place p.version partitions t q class < n) (sym h.shaped.lists) there)

@@ -1,5 +1,5 @@
 -- Journals, roots, lists and their tallies after parts of an op.
-use Rattle.std.proofs.Common.{◌≡◌, ℕ, ◌+◌, ◌*◌, ◌<◌, ◌≤◌, inl, inr, List, [], ◌++◌, map, length, set, refl, sym, ap, ◌∙◌, subst, arith}
+use Rattle.std.proofs.Common.{◌≡◌, ℕ, ◌+◌, ◌*◌, ◌<◌, ◌≤◌, inl, inr, List, [], ◌++◌, map, length, set, refl, sym, ap, ◌∙◌, subst, arith, ap₂}
 use Rattle.std.specs.Prelude.{slice_index_or}
 use Rattle.std.proofs.lemmas.Bool.{cases_eq, cases_lt, eq-eqb, ne_eqb}
 use Rattle.std.proofs.lemmas.List.{get_or-set_same, get_or-set_other, append-nil}
@@ -27,6 +27,8 @@ use Rattle.pa_player.specs.Playing.{journals, caches, root_of, numbered_at, list
 use Rattle.pa_player.proofs.OneList.{same_place, caches_here, caches_none, with_cache_here, IsOther, list_cases, with_other}
 use Rattle.pa_player.proofs.Counting.{cached_slots_set, cached_bytes_set, cached_slots_same, cached_bytes_same}
 use Rattle.pa_player.proofs.Shows.{HasHeap}
+use Rattle.pa_rules.proofs.Versions.{class_cases}
+use Rattle.pa_rules.specs.Sizes.{HasClass}
 
 -- ---- journals
 
@@ -76,17 +78,17 @@ heap_called region partitions n x p m more q acts cache next after plan called r
 -- ---- lists
 
 -- One list is another then, and the others show the same.
-pub caches_changed : (p m : Player) (t q class : ℕ) (xs : List ℕ) → m.partitions ≡ p.partitions → q < p.partitions → class < 59
+pub caches_changed : (p m : Player) (t q class : ℕ) (xs : List ℕ) → m.version ≡ p.version → m.partitions ≡ p.partitions → q < p.partitions → HasClass p.version class
     → list_at m t q class ≡ xs
-    → ((u k c : ℕ) → k < p.partitions → c < 59 → IsOther t q class u k c → map (numbered_at m.table) (list_at m u k c) ≡ map (numbered_at p.table) (list_at p u k c))
+    → ((u k c : ℕ) → k < p.partitions → HasClass p.version c → IsOther t q class u k c → map (numbered_at m.table) (list_at m u k c) ≡ map (numbered_at p.table) (list_at p u k c))
     → (u k c : ℕ) → caches m u k c ≡ with_cache (caches p) t (with_list (caches p t) q class (map (numbered_at m.table) xs)) u k c
-caches_changed p m t q class xs same low real here others u k c =
+caches_changed p m t q class xs version same low real here others u k c =
     let new = map (numbered_at m.table) xs in
     let next = with_list (caches p t) q class new in
     elim (list_cases t q class u k c) [
       | inl (a, b, d) ↦
           let P : ℕ → ℕ → ℕ → Type 0 = λ x y z. caches m x y z ≡ with_cache (caches p) t next x y z in
-          let left : caches m t q class ≡ new = caches_here m t q class (subst (λ z. q < z) (sym same) low) real ∙ ap (map (numbered_at m.table)) here in
+          let left : caches m t q class ≡ new = caches_here m t q class (subst (λ z. q < z) (sym same) low) (subst (λ v. HasClass v class) (sym version) real) ∙ ap (map (numbered_at m.table)) here in
           let right : with_cache (caches p) t next t q class ≡ new = with_cache_here (caches p) t next q class ∙ list_changed (caches p t) q class new in
           subst (λ x. P x k c) (sym a) (subst (λ y. P t y c) (sym b) (subst (λ z. P t q z) (sym d) (left ∙ sym right)))
       | inr other ↦ kept other ∙ sym (with_other (caches p) t q class new u k c other)
@@ -94,29 +96,31 @@ caches_changed p m t q class xs same low real here others u k c =
   where
     kept : IsOther t q class u k c → caches m u k c ≡ caches p u k c
     kept other = elim (cases_lt k p.partitions) [
-      | inl inside ↦ elim (cases_lt c 59) [
-        | inl within ↦ caches_here m u k c (subst (λ z. k < z) (sym same) inside) within ∙ others u k c inside within other ∙ sym (caches_here p u k c inside within)
-        | inr past ↦ caches_none m u k c (λ _ b. omega arith) ∙ sym (caches_none p u k c (λ _ b. omega arith))
+      | inl inside ↦ elim (class_cases p.version c) [
+        | inl within ↦ caches_here m u k c (subst (λ z. k < z) (sym same) inside) (subst (λ v. HasClass v c) (sym version) within)
+            ∙ others u k c inside within other ∙ sym (caches_here p u k c inside within)
+        | inr none ↦ caches_none m u k c (λ _ b. none (subst (λ v. HasClass v c) version b)) ∙ sym (caches_none p u k c (λ _ b. none b))
       ]
       | inr past ↦ caches_none m u k c (λ a _. omega arith) ∙ sym (caches_none p u k c (λ a _. omega arith))
     ]
 
 -- a place of the caches that was set is that of no other list
-pub other_list : (p m : Player) (t q class u k c : ℕ) (xs : List ℕ) → m.partitions ≡ p.partitions → m.caches ≡ set p.caches (list_place p.partitions t q class) xs → q < p.partitions → class < 59
-    → k < p.partitions → c < 59 → IsOther t q class u k c → list_at m u k c ≡ list_at p u k c
-other_list p m t q class u k c xs same is low real inside within other =
-    let at = list_place p.partitions t q class in
-    let apart : list_place p.partitions u k c ≡ at → ⊥ = λ e. let (x, y, z) = same_place p.partitions u k c t q class inside low within real e in other x y z in
-    ap (λ n. slice_index_or m.caches (list_place n u k c) []) same
-    ∙ ap (λ zs. slice_index_or zs (list_place p.partitions u k c) []) is
-    ∙ get_or-set_other p.caches at (list_place p.partitions u k c) xs [] apart
+pub other_list : (p m : Player) (t q class u k c : ℕ) (xs : List ℕ) → m.version ≡ p.version → m.partitions ≡ p.partitions
+    → m.caches ≡ set p.caches (list_place p.version p.partitions t q class) xs → q < p.partitions → HasClass p.version class
+    → k < p.partitions → HasClass p.version c → IsOther t q class u k c → list_at m u k c ≡ list_at p u k c
+other_list p m t q class u k c xs version same is low real inside within other =
+    let at = list_place p.version p.partitions t q class in
+    let apart : list_place p.version p.partitions u k c ≡ at → ⊥ = λ e. let (x, y, z) = same_place p.version p.partitions u k c t q class inside low within real e in other x y z in
+    ap₂ (λ v n. slice_index_or m.caches (list_place v n u k c) []) version same
+    ∙ ap (λ zs. slice_index_or zs (list_place p.version p.partitions u k c) []) is
+    ∙ get_or-set_other p.caches at (list_place p.version p.partitions u k c) xs [] apart
 
-pub this_list : (p m : Player) (t q class : ℕ) (xs : List ℕ) → m.partitions ≡ p.partitions → m.caches ≡ set p.caches (list_place p.partitions t q class) xs
-    → list_place p.partitions t q class < length p.caches → list_at m t q class ≡ xs
-this_list p m t q class xs same is room =
-    ap (λ n. slice_index_or m.caches (list_place n t q class) []) same
-    ∙ ap (λ zs. slice_index_or zs (list_place p.partitions t q class) []) is
-    ∙ get_or-set_same p.caches (list_place p.partitions t q class) xs [] room
+pub this_list : (p m : Player) (t q class : ℕ) (xs : List ℕ) → m.version ≡ p.version → m.partitions ≡ p.partitions → m.caches ≡ set p.caches (list_place p.version p.partitions t q class) xs
+    → list_place p.version p.partitions t q class < length p.caches → list_at m t q class ≡ xs
+this_list p m t q class xs version same is room =
+    ap₂ (λ v n. slice_index_or m.caches (list_place v n t q class) []) version same
+    ∙ ap (λ zs. slice_index_or zs (list_place p.version p.partitions t q class) []) is
+    ∙ get_or-set_same p.caches (list_place p.version p.partitions t q class) xs [] room
 
 -- ---- what is cached
 
@@ -126,7 +130,8 @@ pub record AreCounted (partitions threads : ℕ) (p : Player) : Type 0 where
   pub bytes : (k : ℕ) → k < partitions → (tally_at p.cached.of k).bytes ≡ cached_bytes (caches p) k threads
 
 -- a list is no longer than all are together
-pub list_within : (all : Caches) (threads t q class : ℕ) → t < threads → class < 59 → (length (all t q class) ≤ cached_slots all q threads) × (slot_of class * length (all t q class) ≤ cached_bytes all q threads)
+pub list_within : (all : Caches) (threads t q class : ℕ) → t < threads → class < 170
+    → (length (all t q class) ≤ cached_slots all q threads) × (slot_of class * length (all t q class) ≤ cached_bytes all q threads)
 list_within all threads t q class below real =
     let a = cached_slots_set all threads t q class q [] below real in
     let b = cached_bytes_set all threads t q class q [] below real in
@@ -139,7 +144,7 @@ pub record IsRetallied (q was now was_bytes now_bytes : ℕ) (before after : Lis
   pub others : (k : ℕ) → (k ≡ q → ⊥) → tally_at after k ≡ tally_at before k
 
 -- One list was changed, and the tally of its partition by as much.
-pub counted_changed : (partitions threads t q class : ℕ) (p m : Player) (new : List Numbered) → t < threads → class < 59 → AreCounted partitions threads p
+pub counted_changed : (partitions threads t q class : ℕ) (p m : Player) (new : List Numbered) → t < threads → class < 170 → AreCounted partitions threads p
     → ((u k c : ℕ) → caches m u k c ≡ with_cache (caches p) t (with_list (caches p t) q class new) u k c)
     → IsRetallied q (length (caches p t q class)) (length new) (slot_of class * length (caches p t q class)) (slot_of class * length new) p.cached.of m.cached.of
     → AreCounted partitions threads m

@@ -64,8 +64,11 @@ module _ (p : Player) (thread from to i : ℕ) (points : Points (register_at p t
         content = λ s is_held. content_stays p.table i y s h.slots.apart low same refl;
         usable = λ s some. shows.usable s;
       })
-      (shaped_registered partitions threads (record p { table = set p.table i y }) (shaped_table partitions threads p h.shaped (set p.table i y) keeps) thread to (Ref i) (omega (arith, low, length-set p.table i y)))
-      (counts_still region partitions threads ls p (registered thread to (Ref i) (stepped_at steps.Copy i p)) (Some (mark_at (length ls + 2) seen (Some steps.Copy))) h (copy_adds (length ls + 2) seen) refl refl refl
+      (shaped_registered partitions threads (record p { table = set p.table i y })
+      (shaped_table partitions threads p h.shaped (set p.table i y) keeps) thread to (Ref i)
+      (omega (arith, low, length-set p.table i y)))
+      (counts_still region partitions threads ls p (registered thread to (Ref i) (stepped_at steps.Copy i p))
+      (Some (mark_at (length ls + 2) seen (Some steps.Copy))) h (copy_adds (length ls + 2) seen) refl refl refl
       (λ t k class. lists_kept region partitions threads ls p thread (ops.Copy from to) can from i can.within.1.0 points y t k class)))
 
 -- ---- a reset that returns nothing

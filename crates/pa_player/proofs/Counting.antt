@@ -117,7 +117,7 @@ totals_same : (w : ℕ → List Numbered → ℕ) (all others : Caches) (k n : �
 totals_same w all others k n same = totals_past w all others k n n (omega arith) (λ u c ne. same u c)
 
 -- the total over the threads changes by as much as the one list that is set
-totals_set : (w : ℕ → List Numbered → ℕ) (all : Caches) (n t q class k : ℕ) (xs : List Numbered) → t < n → class < 59
+totals_set : (w : ℕ → List Numbered → ℕ) (all : Caches) (n t q class k : ℕ) (xs : List Numbered) → t < n → class < 170
     → totals w (with_cache all t (with_list (all t) q class xs)) k n + (if q == k then w class (all t q class) else 0)
     ≡ totals w all k n + (if q == k then w class xs else 0)
 totals_set w all n t q class k xs below real =
@@ -173,7 +173,7 @@ totals_bytes all k zero = refl
 totals_bytes all k (suc n) = let a = levels_bytes (all n k) 0 170 in let b = totals_bytes all k n in omega arith
 
 -- what the lists of all threads have, if one list is changed
-pub cached_slots_set : (all : Caches) (threads t q class k : ℕ) (xs : List Numbered) → t < threads → class < 59
+pub cached_slots_set : (all : Caches) (threads t q class k : ℕ) (xs : List Numbered) → t < threads → class < 170
     → cached_slots (with_cache all t (with_list (all t) q class xs)) k threads + (if q == k then length (all t q class) else 0)
     ≡ cached_slots all k threads + (if q == k then length xs else 0)
 unfolding slots_by
@@ -183,7 +183,7 @@ cached_slots_set all threads t q class k xs below real =
     let whole = totals_set slots_by all threads t q class k xs below real in
     omega arith
 
-pub cached_bytes_set : (all : Caches) (threads t q class k : ℕ) (xs : List Numbered) → t < threads → class < 59
+pub cached_bytes_set : (all : Caches) (threads t q class k : ℕ) (xs : List Numbered) → t < threads → class < 170
     → cached_bytes (with_cache all t (with_list (all t) q class xs)) k threads + (if q == k then slot_of class * length (all t q class) else 0)
     ≡ cached_bytes all k threads + (if q == k then slot_of class * length xs else 0)
 unfolding bytes_by

@@ -1,5 +1,5 @@
 -- The lists of a thread in some classes, in a partition and in some partitions went back.
-use Rattle.std.proofs.Common.{◌≡◌, ℕ, zero, suc, ◌+◌, ◌<◌, ◌≤◌, inl, inr, List, [], ◌∷◌, ◌++◌, length, refl, sym, ap, ◌∙◌, arith, length-set, append_assoc}
+use Rattle.std.proofs.Common.{◌≡◌, ℕ, zero, suc, ◌+◌, ◌<◌, ◌≤◌, inl, inr, List, [], ◌∷◌, ◌++◌, length, refl, sym, ap, subst, ◌∙◌, arith, length-set, append_assoc}
 use Rattle.std.proofs.lemmas.Bool.{cases_eq, cases_lt}
 use Rattle.std.proofs.lemmas.List.{append-nil, map-append}
 use Rattle.pa_record.specs.declared.root.RootEntry.{RootEntry}
@@ -15,12 +15,19 @@ use Rattle.pa_heap_effects.proofs.Acting.{only_here, only_else}
 use Rattle.pa_heap_effects.proofs.Lists.{names_append, parts_are_out}
 use Rattle.pa_player.specs.Player.{Player}
 use Rattle.pa_player.specs.Playing.{journals, caches, list_place, root_of, AreShaped}
-use Rattle.pa_player.specs.Changes.{given, given_from, purged_with}
+use Rattle.pa_player.specs.Changes.{given, given_from, purged_with, given_all}
 use Rattle.pa_player.proofs.OneList.{with_cache_here, with_other, caches_none}
 use Rattle.pa_player.proofs.Shaping.{shaped_told, shaped_heap}
 use Rattle.pa_player.proofs.Changing.{journals_acted, root_here, root_there, AreCounted}
 use Rattle.pa_player.proofs.Returning.{none_back}
 use Rattle.pa_player.proofs.Purges.{IsGiving, AreLong, list_given, all_gives, gives_same, all_same, gives_purge, giving_then}
+use Rattle.pa_buckets.specs.Limits.{first_class}
+use Rattle.pa_buckets.specs.Limits.{past_class}
+use Rattle.pa_player.proofs.Purging.{given_version}
+use Rattle.pa_rules.proofs.Versions.{class_cases}
+use Rattle.pa_rules.proofs.Versions.{class_end}
+use Rattle.pa_rules.specs.Sizes.{HasClass}
+use Rattle.pa_rules.specs.Sizes.{class_total}
 
 -- acts of one partition after others of it
 pub grown_twice : (base : Journals) (line q : ℕ) (a b : List RootAct) (j : ℕ) → grown base line (only_in q a) j ++ entries_at line (only_in q b j) ≡ grown base line (only_in q (a ++ b)) j
@@ -51,6 +58,7 @@ giving_none partitions threads m can = record {
   cells = refl;
   live = refl;
   quarantined = refl;
+  version = refl;
   phase = refl;
   many = refl;
   entries = refl;
@@ -73,10 +81,11 @@ pub record AreGiven (partitions threads thread q class k : ℕ) (m r : Player) :
   pub long : AreLong partitions threads r
   pub journals : (j : ℕ) → journals r j ≡ grown (journals m) m.told.line (only_in q (all_gives (caches m thread q) class k)) j
 
-pub are_given : (partitions threads thread q class k : ℕ) (m : Player) → thread < threads → q < partitions → class + k ≤ 59 → CanGiveBack partitions threads m
+pub are_given : (partitions threads thread q class k : ℕ) (m : Player) → thread < threads → q < partitions → first_class m.version ≤ class
+    → class + k ≤ past_class m.version → CanGiveBack partitions threads m
     → AreGiven partitions threads thread q class k m (given_from thread q class k m)
 unfolding given_from
-are_given partitions threads thread q class zero m below low fits can = record {
+are_given partitions threads thread q class zero m below low from fits can = record {
   giving = giving_none partitions threads m can;
   here = refl;
   there = λ j ne. refl;
@@ -85,10 +94,10 @@ are_given partitions threads thread q class zero m below low fits can = record {
   long = can.long;
   journals = (none_back m m.told.line q).journals;
 }
-are_given partitions threads thread q class (suc k) m below low fits can =
-    let m1 = given q (list_place m.partitions thread q class) 0 m in
-    let one = list_given partitions threads thread q class m below low (omega arith) can.shaped can.counted can.long in
-    let rest = are_given partitions threads thread q (class + 1) k m1 below low (omega arith) (record { shaped = one.giving.shaped; counted = one.giving.counted; long = one.long }) in
+are_given partitions threads thread q class (suc k) m below low from fits can =
+    let m1 = given q (list_place m.version m.partitions thread q class) 0 m in
+    let one = list_given partitions threads thread q class m below low (from, omega arith) can.shaped can.counted can.long in
+    let rest = are_given partitions threads thread q (class + 1) k m1 below low (omega arith) (omega arith) (record { shaped = one.giving.shaped; counted = one.giving.counted; long = one.long }) in
     let list_there : (c : ℕ) → (c ≡ class → ⊥) → caches m1 thread q c ≡ caches m thread q c = λ c ne.
     one.lists thread q c ∙ with_cache_here (caches m) thread (with_list (caches m thread) q class []) q c ∙ list_of_another_class (caches m thread) q class [] c ne in
     let same : (c : ℕ) → class + 1 ≤ c → caches m1 thread q c ≡ caches m thread q c = λ c past. list_there c (λ e. omega arith) in
@@ -104,7 +113,9 @@ are_given partitions threads thread q class (suc k) m below low fits can =
       gone = λ c past more. elim (cases_eq c class) [
         | inl e ↦
             let first : caches (given_from thread q (class + 1) k m1) thread q c ≡ caches m1 thread q c = rest.kept thread q c (λ _ _ a _. omega arith) in
-            let none : caches m1 thread q class ≡ [] = one.lists thread q class ∙ with_cache_here (caches m) thread (with_list (caches m thread) q class []) q class ∙ list_changed (caches m thread) q class [] in
+            let none : caches m1 thread q class ≡ [] = one.lists thread q class
+            ∙ with_cache_here (caches m) thread (with_list (caches m thread) q class []) q class
+            ∙ list_changed (caches m thread) q class [] in
             first ∙ ap (caches m1 thread q) e ∙ none
         | inr ne ↦ rest.gone c (omega arith) (omega arith)
       ];
@@ -122,18 +133,22 @@ are_given partitions threads thread q class (suc k) m below low fits can =
 -- A partition was purged.
 pub record IsPurged (partitions threads thread q : ℕ) (m r : Player) : Type 0 where
   pub giving : IsGiving partitions threads m r
-  pub here : root_of r q ≡ purged (all_returned (names (all_of (caches m thread q) 0 59)) (root_of m q))
+  pub here : root_of r q ≡ purged (all_returned (names (all_of (caches m thread q) (first_class m.version) (class_total m.version))) (root_of m q))
   pub there : (j : ℕ) → (j ≡ q → ⊥) → root_of r j ≡ root_of m j
   pub gone : (c : ℕ) → caches r thread q c ≡ []
   pub kept : (t j c : ℕ) → (t ≡ thread → j ≡ q → ⊥) → caches r t j c ≡ caches m t j c
   pub long : AreLong partitions threads r
-  pub journals : (j : ℕ) → journals r j ≡ grown (journals m) m.told.line (only_in q (purge_acts (caches m thread q) 0 59)) j
+  pub journals : (j : ℕ) → journals r j ≡ grown (journals m) m.told.line (only_in q (purge_acts (caches m thread q) (first_class m.version) (class_total m.version))) j
 
 pub is_purged : (partitions threads thread q : ℕ) (m : Player) → thread < threads → q < partitions → CanGiveBack partitions threads m
-    → IsPurged partitions threads thread q m (purged_with q (given_from thread q 0 59 m))
+    → IsPurged partitions threads thread q m (purged_with q (given_all thread q m))
 is_purged partitions threads thread q m below low can =
-    let g = are_given partitions threads thread q 0 59 m below low (omega arith) can in
-    let m1 = given_from thread q 0 59 m in
+    let first = first_class m.version in
+    let total = class_total m.version in
+    let end = class_end m.version in
+    let g = are_given partitions threads thread q first total m below low (omega arith) (omega arith) can in
+    let m1 = given_all thread q m in
+    let version : m1.version ≡ m.version = given_version thread q first total m in
     let r = purged_with q m1 in
     let journals_low : q < length m1.told.journals = let a = g.giving.shaped.journals in omega arith in
     let roots_low : q < length m1.heap.roots = let a = g.giving.shaped.roots in omega arith in
@@ -145,6 +160,7 @@ is_purged partitions threads thread q m below low can =
         cells = g.giving.cells;
         live = g.giving.live;
         quarantined = g.giving.quarantined;
+        version = g.giving.version;
         phase = g.giving.phase;
         many = g.giving.many;
         entries = g.giving.entries;
@@ -159,9 +175,9 @@ is_purged partitions threads thread q m below low can =
       };
       here = root_here m1.heap.roots q (purged (root_of m1 q)) roots_low ∙ ap purged g.here;
       there = λ j ne. root_there m1.heap.roots q j (purged (root_of m1 q)) ne ∙ g.there j ne;
-      gone = λ c. elim (cases_lt c 59) [
-        | inl real ↦ g.gone c (omega arith) (omega arith)
-        | inr past ↦ caches_none m1 thread q c (λ _ b. omega arith)
+      gone = λ c. elim (class_cases m.version c) [
+        | inl real ↦ g.gone c real.0 (let past = real.1 in omega arith)
+        | inr none ↦ caches_none m1 thread q c (λ _ b. none (subst (λ v. HasClass v c) version b))
       ];
       kept = λ t j c other. g.kept t j c (λ a b _ _. other a b);
       long = g.long;
@@ -169,6 +185,6 @@ is_purged partitions threads thread q m below low can =
           journals_acted m1.told.journals q m1.told.line (Purge ∷ []) journals_low j
           ∙ ap (λ line. grown (journals m1) line (only_in q (Purge ∷ [])) j) g.giving.line
           ∙ ap (λ es. es ++ entries_at m.told.line (only_in q (Purge ∷ []) j)) (g.journals j)
-          ∙ grown_twice (journals m) m.told.line q (all_gives lists 0 59) (Purge ∷ []) j
-          ∙ ap (λ acts. grown (journals m) m.told.line (only_in q acts) j) (gives_purge lists 0 59);
+          ∙ grown_twice (journals m) m.told.line q (all_gives lists first total) (Purge ∷ []) j
+          ∙ ap (λ acts. grown (journals m) m.told.line (only_in q acts) j) (gives_purge lists first total);
     }

@@ -6,16 +6,13 @@ use Rattle.std.proofs.lemmas.List.{get_or_past}
 use Rattle.pa_record.specs.Root.{Root, new_root}
 use Rattle.pa_rules.specs.declared.register.Register.{Register}
 use Rattle.pa_rules.specs.declared.register.Register.TheVariants.{Empty}
-use Rattle.pa_player.specs.Begun.{AreEmpty, AreClear, AreNew}
+use Rattle.pa_player.specs.Begun.{AreClear, AreNew}
 
 pub empties : {X : Type 0} (xs : List (List X)) → All (λ h. h ≡ []) xs → (i : ℕ) → get_or xs i [] ≡ []
 empties xs h i = elim (cases_lt i (length xs)) [
   | inl lt ↦ h i [] lt
   | inr le ↦ get_or_past xs i [] le
 ]
-
-pub are_empty : {X : Type 0} (n : ℕ) (xs : List (List X)) → length xs ≡ n → All (λ h. h ≡ []) xs → AreEmpty n xs
-are_empty n xs many h = record { count = many; empty = empties xs h }
 
 -- that many roots without a span
 pub are_new : (n : ℕ) (xs : List Root) → length xs ≡ n → All (λ r. r ≡ new_root) xs → AreNew n xs

@@ -83,6 +83,6 @@ fill_lets class asked xs = record {
 }
 
 -- what a fill gives and one of them leaves fits its list
-pub fill_within : (class : ℕ) → class < 59 → fill_of class ≤ limit_of class + 1
+pub fill_within : (class : ℕ) → class < 170 → fill_of class ≤ limit_of class + 1
 unfolding rows row_of fill_of limit_of
-fill_within class real = at_most_below fill_of (λ c. limit_of c + 1) 59 refl class real
+fill_within class real = at_most_below fill_of (λ c. limit_of c + 1) 170 refl class real

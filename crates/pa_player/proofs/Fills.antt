@@ -10,8 +10,8 @@ use Rattle.pa_slot.specs.declared.word.Step.TheVariants as steps
 use Rattle.pa_slot.specs.Count.{stepped}
 use Rattle.pa_buckets.specs.Table.{slot_of}
 use Rattle.pa_buckets.specs.Bands.{fill_of, limit_of}
-use Rattle.pa_buckets.specs.Classes.{IsClassOf}
-use Rattle.pa_buckets.proofs.Facts.{IsRow_1-of}
+use Rattle.pa_buckets.specs.Classes.{IsClassIn}
+use Rattle.pa_buckets.proofs.Facts.{IsRow-of}
 use Rattle.pa_trace.specs.declared.script.Op.TheVariants as ops
 use Rattle.pa_trace.specs.declared.script.Line.{Line}
 use Rattle.pa_trace.specs.declared.script.Line.TheVariants.{Do}
@@ -28,7 +28,7 @@ use Rattle.pa_lists.proofs.Members.{first_in, later_in}
 use Rattle.pa_lists.proofs.Joined.{map_cases, map_in}
 use Rattle.pa_lists.proofs.Pairs.{pairs_head}
 use Rattle.pa_rules.specs.Caches.{with_list, with_cache}
-use Rattle.pa_rules.specs.Sizes.{usable_of}
+use Rattle.pa_rules.specs.Sizes.{usable_of, HasClass}
 use Rattle.pa_rules.proofs.Sizes.{sizes_fit}
 use Rattle.pa_legal.specs.Numbers.{moves_of, at_end}
 use Rattle.pa_heap_effects.specs.Deeds.{grown}
@@ -62,10 +62,11 @@ use Rattle.pa_player.proofs.Puts.{IsPutIn}
 use Rattle.pa_player.proofs.Filled.{IsFillOf, fill_lets, fill_within}
 use Rattle.pa_player.proofs.Refilled.{put_so, inside as inside_of, inner as inner_of, room as room_of, taken as taken_of, grown_by as grown_by_of, list_is as list_is_of, numbers as numbers_of, low_of as low_of_of, name_among as name_among_of, no_cached as no_cached_of, kind_of as kind_of_of, length_of as length_of_of, called as called_of}
 use Rattle.pa_record.proofs.Leaving.{map_once}
+use Rattle.pa_rules.proofs.Versions.{real_in}
 
-module _ (p : Player) (thread reg q size class : ℕ) (none : HasNone (register_at p thread reg)) (of : IsClassOf (max size 1 + 8) class) (filled : Player)
-    (empty : list_in p (list_place p.partitions thread q class) ≡ []) (f : IsFilled q (list_place p.partitions thread q class) class p filled) (i : ℕ) (rest : List ℕ)
-    (front : list_in filled (list_place p.partitions thread q class) ≡ i ∷ rest) (region partitions threads : ℕ) (ls : List Line)
+module _ (p : Player) (thread reg q size class : ℕ) (none : HasNone (register_at p thread reg)) (of : IsClassIn p.version (max size 1 + 8) class) (filled : Player)
+    (empty : list_in p (list_place p.version p.partitions thread q class) ≡ []) (f : IsFilled q (list_place p.version p.partitions thread q class) class p filled) (i : ℕ) (rest : List ℕ)
+    (front : list_in filled (list_place p.version p.partitions thread q class) ≡ i ∷ rest) (region partitions threads : ℕ) (ls : List Line)
     (can : CanGoOn region partitions threads ls (Do thread (ops.Alloc reg q size)) p) where
   abbrev h : IsPlaying region partitions threads ls p
   h = can.playing
@@ -74,7 +75,7 @@ module _ (p : Player) (thread reg q size class : ℕ) (none : HasNone (register_
   n = length ls + 2
 
   abbrev at : ℕ
-  at = list_place p.partitions thread q class
+  at = list_place p.version p.partitions thread q class
 
   abbrev titles : List Title
   titles = f.placed.titles.items
@@ -132,17 +133,19 @@ module _ (p : Player) (thread reg q size class : ℕ) (none : HasNone (register_
     length_of : (j : ℕ) → Contains (i ∷ rest) j → (slot_at table j).title.len ≡ slot_of class
     length_of = length_of_of p thread reg q size class none of filled empty f i rest front region partitions threads ls can u
 
-    called : IsCalled region partitions n (played_at (rules_at p) ls thread (ops.Alloc reg q size) (answers.Made (seen_at table i) (usable_of (rules_at p).version size))) p.told.pools more (journals p) q (act ∷ []) (caches p thread)
+    called : IsCalled region partitions n (played_at (rules_at p) ls thread (ops.Alloc reg q size)
+        (answers.Made (seen_at table i) (usable_of (rules_at p).version size))) p.told.pools more (journals p) q (act ∷ [])
+        (caches p thread)
         (with_list (caches p thread) q class (map (numbered_at table) rest)) f.after f.plan
     called = called_of p thread reg q size class none of filled empty f i rest front region partitions threads ls can u
 
     -- ---- after the op
 
     fits : size ≤ 33521656
-    fits = omega (arith, of.fits, (IsRow_1-of class of.real).greatest_slot)
+    fits = omega (arith, of.fits, (IsRow-of class (real_in p.version class (of.from, of.real))).greatest_slot)
 
     few_news : length u.news ≤ 8
-    few_news = omega (arith, u.few, taken.many, (IsRow_1-of class of.real).few_fill)
+    few_news = omega (arith, u.few, taken.many, (IsRow-of class (real_in p.version class (of.from, of.real))).few_fill)
 
     serves : (slot_at table i).title.len - 8 ≡ usable_of (rules_at p).version size
     serves = ap (λ z. z - 8) (length_of i (first_in i rest) ∙ sym (sizes_fit.class (rules_at p).version size class of))
@@ -161,12 +164,12 @@ module _ (p : Player) (thread reg q size class : ℕ) (none : HasNone (register_
         let (t, member, e) = u.new_is x among in
         subst (λ ss. Contains ss (name_of x.title)) u.named (subst (λ (z : Slot). Contains (map name_of titles) (name_of z.title)) (sym e) (map_in name_of titles t member))
 
-    new_let : (x : Slot) → Contains u.news x → IsLetOut (grown (journals p) n (only_in q (act ∷ []))) x x.class
+    new_let : (x : Slot) → Contains u.news x → IsLetOut p.version (grown (journals p) n (only_in q (act ∷ []))) x x.class
     new_let x among =
         let (t, member, e) = u.new_is x among in
         let name : Contains (names f.slots) (name_of t) = subst (λ (z : Slot). Contains (names f.slots) (name_of z.title)) e (new_name x among) in
-        let made : IsLetOut (grown (journals p) n (only_in q (act ∷ []))) (new_slot t q (Some class)) (Some class) = (
-          of.real,
+        let made : IsLetOut p.version (grown (journals p) n (only_in q (act ∷ []))) (new_slot t q (Some class)) (Some class) = (
+          (of.from, of.real),
           (
             record { line = n; act = act },
             asked,
@@ -177,14 +180,15 @@ module _ (p : Player) (thread reg q size class : ℕ) (none : HasNone (register_
           ),
           taken.len t member,
         ) in
-        subst (λ (z : Slot). IsLetOut (grown (journals p) n (only_in q (act ∷ []))) z z.class) (sym e) made
+        subst (λ (z : Slot). IsLetOut p.version (grown (journals p) n (only_in q (act ∷ []))) z z.class) (sym e) made
 
     born_then : (s : SlotName) → Contains (names f.slots) s → s.born < length (p.told.pools ++ more)
     born_then s among =
         let x = played_at (rules_at p) ls thread (ops.Alloc reg q size) (answers.Made (seen_at table i) (usable_of (rules_at p).version size)) in
         let next = with_list (caches p thread) q class (map (numbered_at table) rest) in
         let placed = line_extends partitions n h.ps x p.told.pools more (journals p) (only_in q (act ∷ [])) (caches p) next h.placed called.done.deed in
-        left_born region partitions (n + 1) (h.ps ++ x ∷ []) (p.told.pools ++ more) (grown (journals p) n (only_in q (act ∷ []))) (with_cache (caches p) thread next) placed q (record { line = n; act = act }) s
+        left_born region partitions (n + 1) (h.ps ++ x ∷ []) (p.told.pools ++ more) (grown (journals p) n (only_in q (act ∷ [])))
+        (with_cache (caches p) thread next) placed q (record { line = n; act = act }) s
         (grown_new (journals p) n (only_in q (act ∷ [])) q act (subst (λ z. Contains z act) (sym (only_here q (act ∷ []))) (first_in act []))) among
 
     abbrev len : ℕ
@@ -210,13 +214,16 @@ module _ (p : Player) (thread reg q size class : ℕ) (none : HasNone (register_
         pairs_head R (named_at table i) (named_at table i) (names (map (numbered_at table) rest)) differ
         (map_in (λ (z : Numbered). z.slot) (map (numbered_at table) rest) (numbered_at table i) (map_in (numbered_at table) rest i among)) refl
 
-    other_slot : (t k c j : ℕ) → t < threads → k < partitions → c < 59 → Contains (list_at p t k c) j → j ≡ i → ⊥
+    other_slot : (t k c j : ℕ) → t < threads → k < partitions → HasClass p.version c → Contains (list_at p t k c) j → j ≡ i → ⊥
     other_slot t k c j below low real among e =
         let old = (h.shaped.listed t k c j below low real among).0 in
         let away = (listed_away region partitions threads ls p h j t k c below low real among).none in
         let is : slot_at table i ≡ slot_at p.table j = ap (slot_at table) (sym e) ∙ old_at p.table table u.news grown_by j old in
-        let root_had = had region partitions threads ls p thread reg q size can none fits table u.news grown_by few_news i (low_of i (first_in i rest)) (kind_of i (first_in i rest)).0 serves act (names f.slots)
-        (fill_lets class asked f.slots) some_slots more f.after f.plan (with_list (caches p thread) q class (map (numbered_at table) rest)) called (named_at table i) (name_among i (first_in i rest)) in
+        let root_had = had region partitions threads ls p thread reg q size can none fits table u.news grown_by few_news i
+        (low_of i (first_in i rest)) (kind_of i (first_in i rest)).0 serves act (names f.slots)
+        (fill_lets class asked f.slots) some_slots more f.after f.plan
+        (with_list (caches p thread) q class (map (numbered_at table) rest)) called (named_at table i)
+        (name_among i (first_in i rest)) in
         let home : q ≡ (slot_at p.table j).partition = sym (kind_of i (first_in i rest)).0 ∙ ap (λ (z : Slot). z.partition) is in
         let back : at_end (Some 0) (moves_of (journals p (slot_at p.table j).partition) (named_at p.table j)) ≡ Some root_had.0 =
         subst (λ z. at_end (Some 0) (moves_of (journals p z) (named_at p.table j)) ≡ Some root_had.0) home
@@ -242,7 +249,7 @@ module _ (p : Player) (thread reg q size class : ℕ) (none : HasNone (register_
     same_numbers xs apart = map_on (numbered_at table) (numbered_at (set table i issued_it)) xs
         (λ j among. ap (λ (z : Slot). numbered_at (z ∷ []) 0) (get_or-set_other table i j issued_it no_slot (apart j among)))
 
-    old_numbers : (t k c : ℕ) → k < partitions → c < 59 → map (numbered_at (set table i issued_it)) (list_at p t k c) ≡ map (numbered_at p.table) (list_at p t k c)
+    old_numbers : (t k c : ℕ) → k < partitions → HasClass p.version c → map (numbered_at (set table i issued_it)) (list_at p t k c) ≡ map (numbered_at p.table) (list_at p t k c)
     old_numbers t k c low real = elim (cases_lt t threads) [
       | inl below ↦
           same_numbers (list_at p t k c) (λ j among. other_slot t k c j below low real among)
@@ -255,9 +262,9 @@ module _ (p : Player) (thread reg q size class : ℕ) (none : HasNone (register_
 
     lists_then : (t k c : ℕ) → caches final t k c ≡ with_cache (caches p) thread (with_list (caches p thread) q class (map (numbered_at table) rest)) t k c
     lists_then t k c =
-        caches_changed p final thread q class rest refl inner of.real (this_list p final thread q class rest refl lists_are room)
+        caches_changed p final thread q class rest refl refl inner (of.from, of.real) (this_list p final thread q class rest refl refl lists_are room)
         (λ v l d low real other.
-        ap (map (numbered_at (set table i issued_it))) (other_list p final thread q class v l d rest refl lists_are inner of.real low real other)
+        ap (map (numbered_at (set table i issued_it))) (other_list p final thread q class v l d rest refl refl lists_are inner (of.from, of.real) low real other)
         ∙ old_numbers v l d (subst (λ z. l < z) h.shaped.many low) real)
         t k c
         ∙ ap (λ ys. with_cache (caches p) thread (with_list (caches p thread) q class ys) t k c) (same_numbers rest (λ j among e. once (subst (λ z. Contains rest z) e among)))
@@ -281,7 +288,8 @@ module _ (p : Player) (thread reg q size class : ℕ) (none : HasNone (register_
         let none_then : length (caches p thread q class) ≡ 0 = ap length no_cached in
         let none_bytes : slot_of class * length (caches p thread q class) ≡ 0 = ap (λ k. slot_of class * k) none_then ∙ mul-zero (slot_of class) in
         let all_bytes : slot_of class * length titles ≡ slot_of class * length (map (numbered_at table) rest) + slot_of class =
-        ap (λ k. slot_of class * k) (sym c ∙ ap (λ k. k + 1) (sym d)) ∙ mul-add (slot_of class) (length (map (numbered_at table) rest)) 1 ∙ ap (λ k. slot_of class * length (map (numbered_at table) rest) + k) (mul-one (slot_of class)) in
+        ap (λ k. slot_of class * k) (sym c ∙ ap (λ k. k + 1) (sym d)) ∙ mul-add (slot_of class) (length (map (numbered_at table) rest)) 1
+        ∙ ap (λ k. slot_of class * length (map (numbered_at table) rest) + k) (mul-one (slot_of class)) in
         let e = length_of i (first_in i rest) in
         let less : Tally = record { slots = (tally_at u.cached q).slots - 1; bytes = (tally_at u.cached q).bytes - len } in
         let here : tally_at (set u.cached q less) q ≡ less = get_or-set_same u.cached q less no_tally long_tallies in
@@ -297,8 +305,8 @@ module _ (p : Player) (thread reg q size class : ℕ) (none : HasNone (register_
     shaped =
         let p1 : Player = record p { table = table } in
         let s1 : AreShaped partitions threads p1 = shaped_table partitions threads p h.shaped table (keeps_grown p.table table u.news grown_by) in
-        let few : length rest ≤ limit_of class = let a = length_rest in let b = taken.many in let c = fill_within class of.real in omega arith in
-        let s2 = shaped_listed partitions threads p1 s1 thread q class rest can.within.0 inside of.real
+        let few : length rest ≤ limit_of class = let a = length_rest in let b = taken.many in let c = fill_within class (real_in p.version class (of.from, of.real)) in omega arith in
+        let s2 = shaped_listed partitions threads p1 s1 thread q class rest can.within.0 inside (of.from, of.real)
         (λ j among. let kind = kind_of j (later_in i j rest among) in (low_of j (later_in i j rest among), kind.0, kind.1)) few in
         let s3 : AreShaped partitions threads (record p1 { caches = lists }) = subst (λ z. AreShaped partitions threads (record p1 { caches = z })) (sym lists_are) s2 in
         shaped_cached partitions threads (record p1 { caches = lists }) s3 cached.of (length-set u.cached q _ ∙ four_long)
@@ -318,15 +326,17 @@ module _ (p : Player) (thread reg q size class : ℕ) (none : HasNone (register_
 
     pub fill_played : IsPlayed region partitions threads ls p final can.playing thread (ops.Alloc reg q size) (answers.Made (seen_at table i) (usable_of (rules_at p).version size))
     fill_played =
-        issued_played region partitions threads ls p thread reg q size can none fits table u.news grown_by few_news i (low_of i (first_in i rest)) (kind_of i (first_in i rest)).0 serves act (names f.slots)
+        issued_played region partitions threads ls p thread reg q size can none fits table u.news grown_by few_news i
+        (low_of i (first_in i rest)) (kind_of i (first_in i rest)).0 serves act (names f.slots)
         (fill_lets class asked f.slots) some_slots more f.after f.plan (with_list (caches p thread) q class (map (numbered_at table) rest)) called
-        (name_among i (first_in i rest)) new_name (λ x among. let (t, member, e) = u.new_is x among in ap (λ (z : Slot). z.partition) e) new_let (λ x among. born_then (name_of x.title) (new_name x among))
+        (name_among i (first_in i rest)) new_name (λ x among. let (t, member, e) = u.new_is x among in ap (λ (z : Slot). z.partition) e)
+        new_let (λ x among. born_then (name_of x.title) (new_name x among))
         stays_after (λ t among. subst (λ ts. Contains ts t) (sym taken.maps) among)
         (λ e. absurd (some_none (sym (kind_of i (first_in i rest)).1 ∙ e)))
         base.heap (with_acts q (act ∷ []) base.told) lists cached told_on refl refl
-        (let a = taken.turn in let b = (IsRow_1-of class of.real).few_fill in omega arith)
+        (let a = taken.turn in let b = (IsRow-of class (real_in p.version class (of.from, of.real))).few_fill in omega arith)
         shaped
-        (counted_changed partitions threads thread q class p final (map (numbered_at table) rest) can.within.0 of.real
+        (counted_changed partitions threads thread q class p final (map (numbered_at table) rest) can.within.0 (real_in p.version class (of.from, of.real))
         (record { many = λ k fit. (h.tallied k fit).many; bytes = λ k fit. (h.tallied k fit).bytes }) lists_then retallied)
         lists_then
 
@@ -345,8 +355,8 @@ module _ (p : Player) (thread reg q size class : ℕ) (none : HasNone (register_
         (playing_more region partitions threads ls p final can.playing thread (ops.Alloc reg q size) (answers.Made (seen_at table i) (usable_of (rules_at p).version size)) can.short fill_played))
 
 -- a list that is empty is filled, and its front is issued
-pub fill_plays : (p r : Player) (thread reg q size class : ℕ) (answer : Answer) → HasNone (register_at p thread reg) → IsClassOf (max size 1 + 8) class
-    → IsFilledFirst thread reg q (list_place p.partitions thread q class) class p r answer → Plays p thread (ops.Alloc reg q size) r answer
+pub fill_plays : (p r : Player) (thread reg q size class : ℕ) (answer : Answer) → HasNone (register_at p thread reg) → IsClassIn p.version (max size 1 + 8) class
+    → IsFilledFirst thread reg q (list_place p.version p.partitions thread q class) class p r answer → Plays p thread (ops.Alloc reg q size) r answer
 fill_plays p r thread reg q size class answer none of x region partitions threads ls can =
     fill_goes p thread reg q size class none of x.filled x.empty x.fills x.front.place x.front.rest x.front.front region partitions threads ls can
     (put_so p thread reg q size class none of x.filled x.empty x.fills x.front.place x.front.rest x.front.front region partitions threads ls can) r answer (x.front.issued, x.front.says)

@@ -63,7 +63,8 @@ module _ (p : Player) (thread reg i : ℕ) (own : register_at p thread reg ≡ O
       let lists = lists_kept region partitions threads ls p thread (ops.Free reg) can reg i can.within.1 points_own y in
       let registered_shape = shaped_registered partitions threads (record p { table = set p.table i y }) (shaped_table partitions threads p h.shaped (set p.table i y) keeps) thread reg Freed tt in
       let live_shape = shaped_live partitions threads (registered thread reg Freed (stepped_at steps.Free i p)) registered_shape live (length-set p.live.of x.partition _ ∙ h.shaped.live) in
-      step_quiet region partitions threads ls p thread (ops.Free reg) can reg i can.within.1 points_own (answers.Done seen) y (registered thread reg Freed p).registers (record { of = live }) (record { of = away })
+      step_quiet region partitions threads ls p thread (ops.Free reg) can reg i can.within.1 points_own (answers.Done seen) y
+      (registered thread reg Freed p).registers (record { of = live }) (record { of = away })
       (after_free (shown p) thread reg seen) (Some steps.Free) same (keeps_lists (ops.Free reg) seen steps.Free refl (λ bad. omega (arith, bad.1, refs))) refl
       (free_goes_on threads ls h.ps (shown p) thread reg seen (can_play region partitions threads ls thread (ops.Free reg) p can) can.within.1 (ap (reg_of p.table) own) (sym is))
       (record {
@@ -81,7 +82,8 @@ module _ (p : Player) (thread reg i : ℕ) (own : register_at p thread reg ≡ O
             tally_out issues frees (set p.table i y) k x.partition x.title.len seen.slot (Some (mark_at (length ls + 2) seen (Some steps.Free))) (tally_at p.live.of k) (tally_at live k) home.0 home.1
             (λ w. refl) (λ w. refl) (tally_less x.partition 1 x.title.len k p.live.of (omega (arith, among, h.shaped.four, h.shaped.live)) some many);
         quarantined = λ k inside.
-            tally_in enters leaves (set p.table i y) k x.partition x.title.len seen.slot (Some (mark_at (length ls + 2) seen (Some steps.Free))) (tally_at p.quarantined.of k) (tally_at away k) home.0 home.1
+            tally_in enters leaves (set p.table i y) k x.partition x.title.len seen.slot
+            (Some (mark_at (length ls + 2) seen (Some steps.Free))) (tally_at p.quarantined.of k) (tally_at away k) home.0 home.1
             (free_enters (length ls + 2) seen refs) (λ w. refl) (tally_more x.partition 1 x.title.len k p.quarantined.of (omega (arith, among, h.shaped.four, h.shaped.quarantined)));
         many = λ k inside. (h.tallied k inside).many ∙ sym (cached_slots_same (caches p) (caches quarantined) threads k lists);
         bytes = λ k inside. (h.tallied k inside).bytes ∙ sym (cached_bytes_same (caches p) (caches quarantined) threads k lists);
@@ -126,7 +128,8 @@ module _ (p : Player) (thread reg i value : ℕ) (own : register_at p thread reg
         usable = λ s stepped_on. usable_stays p.table i written s h.slots.apart low same;
       })
       (shaped_table partitions threads p h.shaped (set p.table i written) keeps)
-      (counts_still region partitions threads ls p (record p { table = set p.table i written }) (Some (mark_at (length ls + 2) seen (Some steps.Write))) h (write_adds (length ls + 2) seen) refl refl refl
+      (counts_still region partitions threads ls p (record p { table = set p.table i written })
+      (Some (mark_at (length ls + 2) seen (Some steps.Write))) h (write_adds (length ls + 2) seen) refl refl refl
       (λ t k class. lists_kept region partitions threads ls p thread (ops.Write reg value) can reg i can.within.1 owns_it written t k class)))
 
   pub was_written : Plays p thread (ops.Write reg value) (filled_at value i (stepped_at steps.Write i p)) (answers.Done (seen_at p.table i))

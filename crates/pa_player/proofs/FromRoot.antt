@@ -8,7 +8,7 @@ use Rattle.pa_slot.specs.declared.word.SlotName.{SlotName}
 use Rattle.pa_slot.specs.Count.{held_of, refs_of}
 use Rattle.pa_buckets.specs.Table.{slot_of}
 use Rattle.pa_buckets.specs.Bands.{fill_of}
-use Rattle.pa_buckets.specs.Classes.{IsClassOf}
+use Rattle.pa_buckets.specs.Classes.{IsClassIn}
 use Rattle.pa_trace.specs.declared.script.Op.TheVariants as ops
 use Rattle.pa_trace.specs.declared.script.Line.{Line}
 use Rattle.pa_trace.specs.declared.script.Line.TheVariants.{Do}
@@ -56,6 +56,7 @@ use Rattle.pa_player.proofs.OneList.{caches_here}
 use Rattle.pa_player.proofs.Backs.{let_out_grown}
 use Rattle.pa_player.proofs.Alone.{so_far, has_word, not_busy}
 use Rattle.pa_player.proofs.GoingBack.{root_sound}
+use Rattle.pa_rules.proofs.Versions.{real_in}
 
 -- ---- what a fill took, of the root or with a super page more
 
@@ -119,7 +120,7 @@ pub record IsFreeOf (p : Player) (q class i : ℕ) : Type 0 where
   pub refs : refs_of (slot_at p.table i).word.0 ≡ 0
 
 module _ (region partitions threads : ℕ) (ls : List Line) (p : Player) (thread reg q size class : ℕ) (can : CanGoOn region partitions threads ls (Do thread (ops.Alloc reg q size)) p)
-    (of : IsClassOf (max size 1 + 8) class) (empty : list_at p thread q class ≡ []) (plan : PoolState) (after : Root) (placed : Placed)
+    (of : IsClassIn p.version (max size 1 + 8) class) (empty : list_at p thread q class ≡ []) (plan : PoolState) (after : Root) (placed : Placed)
     (did : FillDid class (fill_of class) p.heap.pool plan (root_of p q) after placed) (first : Title) (others : List Title) (got : placed.titles.items ≡ first ∷ others) where
   abbrev h : IsPlaying region partitions threads ls p
   h = can.playing
@@ -146,7 +147,7 @@ module _ (region partitions threads : ℕ) (ls : List Line) (p : Player) (thread
   more = asked_for (length ls + 2) q 1 placed.titles.items placed.pool
 
   no_cache : caches p thread q class ≡ []
-  no_cache = caches_here p thread q class (omega (arith, low, h.shaped.many)) of.real ∙ ap (map (numbered_at p.table)) empty
+  no_cache = caches_here p thread q class (omega (arith, low, h.shaped.many)) (of.from, of.real) ∙ ap (map (numbered_at p.table)) empty
 
   called : IsCalled region partitions (length ls + 2) x p.told.pools more (journals p) q (Fill class placed.pool slots ∷ []) (caches p thread) (with_list (caches p thread) q class rest) after plan
   called =
@@ -161,7 +162,8 @@ module _ (region partitions threads : ℕ) (ls : List Line) (p : Player) (thread
   run_then =
       let then_placed = line_extends partitions (length ls + 2) h.ps x p.told.pools more (journals p) acts (caches p) (with_list (caches p thread) q class rest) h.placed called.done.deed in
       let then_pooled = pool_extends region (length ls + 2) p.told.pools more (journals p) acts h.pooled called.done.asks in
-      placed_are_roots region partitions (length ls + 2 + 1) (rules_at p) (ls ++ Do thread (ops.Alloc reg q size) ∷ []) (h.ps ++ x ∷ []) (p.told.pools ++ more) (grown (journals p) (length ls + 2) acts)
+      placed_are_roots region partitions (length ls + 2 + 1) (rules_at p) (ls ++ Do thread (ops.Alloc reg q size) ∷ []) (h.ps ++ x ∷ [])
+      (p.told.pools ++ more) (grown (journals p) (length ls + 2) acts)
       (with_cache (caches p) thread (with_list (caches p thread) q class rest)) (lines_more (rules_at p) ls h.ps thread (ops.Alloc reg q size) (Made seen 0) h.told.lines) then_placed then_pooled
 
   one : (s : SlotName) → HasOneKind (h.ps ++ x ∷ []) (grown (journals p) (length ls + 2) acts) s
@@ -177,7 +179,7 @@ module _ (region partitions threads : ℕ) (ls : List Line) (p : Player) (thread
 
   taken : IsTaken class (fill_of class) (root_of p q) (record { root = after; titles = placed.titles.items })
   taken = fill_takes class (fill_of class) p.heap.pool plan (root_of p q) (record { root = after; titles = placed.titles.items }) placed.pool (root_sound region partitions threads ls p h q)
-      (h.bounded.born q) (omega (arith, of.real)) did (λ none. not_cons (sym got ∙ none))
+      (h.bounded.born q) (real_in p.version class (of.from, of.real)) did (λ none. not_cons (sym got ∙ none))
     where
       not_cons : first ∷ others ≡ [] → ⊥
       not_cons e = cc
@@ -187,13 +189,13 @@ module _ (region partitions threads : ℕ) (ls : List Line) (p : Player) (thread
 
   -- one that is in the table
   module _ (t : Title) (among : Contains placed.titles.items t) (i : ℕ) (inside : i < length p.table) (is : named_at p.table i ≡ name_of t) where
-    same_kind : (o : Option ℕ) → IsLetOut (journals p) (slot_at p.table i) o → ((slot_at p.table i).partition ≡ q) × (o ≡ Some class)
-    same_kind o out = by_class o (let_out_grown (journals p) (length ls + 2) acts (slot_at p.table i) o out)
+    same_kind : (o : Option ℕ) → IsLetOut p.version (journals p) (slot_at p.table i) o → ((slot_at p.table i).partition ≡ q) × (o ≡ Some class)
+    same_kind o out = by_class o (let_out_grown p.version (journals p) (length ls + 2) acts (slot_at p.table i) o out)
       where
         filled : IsOfClass (grown (journals p) (length ls + 2) acts) (named_at p.table i) q class
         filled = subst (λ s. IsOfClass (grown (journals p) (length ls + 2) acts) s q class) (sym is) (filled_class t among)
 
-        by_class : (o : Option ℕ) → IsLetOut (grown (journals p) (length ls + 2) acts) (slot_at p.table i) o → ((slot_at p.table i).partition ≡ q) × (o ≡ Some class)
+        by_class : (o : Option ℕ) → IsLetOut p.version (grown (journals p) (length ls + 2) acts) (slot_at p.table i) o → ((slot_at p.table i).partition ≡ q) × (o ≡ Some class)
         by_class (Some c) out = let k = (one (named_at p.table i)).class (slot_at p.table i).partition q c class out.1 filled in (k.0, ap (λ z. Some z) k.1)
         by_class None (e, asked, there, act) =
             absurd ((one (named_at p.table i)).either q (slot_at p.table i).partition class filled (e, asked, (slot_at p.table i).title.len, there, act))
@@ -202,7 +204,7 @@ module _ (region partitions threads : ℕ) (ls : List Line) (p : Player) (thread
     of_class =
         let out = h.slots.let_out i inside in
         let k = same_kind (slot_at p.table i).class out in
-        let there = subst (IsLetOut (journals p) (slot_at p.table i)) k.1 out in
+        let there = subst (IsLetOut p.version (journals p) (slot_at p.table i)) k.1 out in
         subst (λ z. IsOfClass (journals p) (named_at p.table i) z class) k.0 there.1
 
     not_out : IsNameOut (root_at p.told.pools (journals p) q) (named_at p.table i) → ⊥

@@ -8,8 +8,8 @@ use Rattle.pa_slot.specs.declared.word.Step.TheVariants as steps
 use Rattle.pa_slot.specs.Count.{number_of, stepped}
 use Rattle.pa_slot.specs.Run.{Mark}
 use Rattle.pa_buckets.specs.Table.{slot_of}
-use Rattle.pa_buckets.specs.Classes.{IsClassOf}
-use Rattle.pa_buckets.proofs.Facts.{IsRow_1-of}
+use Rattle.pa_buckets.specs.Classes.{IsClassIn}
+use Rattle.pa_buckets.proofs.Facts.{IsRow-of}
 use Rattle.pa_trace.specs.declared.script.Op.TheVariants as ops
 use Rattle.pa_trace.specs.declared.script.Line.{Line}
 use Rattle.pa_trace.specs.declared.script.Line.TheVariants.{Do}
@@ -23,7 +23,7 @@ use Rattle.pa_rules.specs.Played.{mark_at}
 use Rattle.pa_rules.specs.Roots.{Journals}
 use Rattle.pa_rules.specs.Caches.{with_list, with_cache}
 use Rattle.pa_rules.specs.Report.{cached_slots, cached_bytes}
-use Rattle.pa_rules.specs.Sizes.{usable_of}
+use Rattle.pa_rules.specs.Sizes.{usable_of, HasClass, class_total}
 use Rattle.pa_rules.proofs.Sizes.{sizes_fit}
 use Rattle.pa_slot.specs.Kinds.{issues, frees, enters, leaves}
 use Rattle.pa_heap_effects.proofs.Acting.{front_leaves}
@@ -52,14 +52,15 @@ use Rattle.pa_player.proofs.Weighing.{tally_in}
 use Rattle.pa_player.proofs.Stepping.{caches_kept, shows_step}
 use Rattle.pa_player.proofs.Copies.{word_as}
 use Rattle.pa_player.proofs.Frees.{home_at, set_both}
+use Rattle.pa_rules.proofs.Versions.{real_in}
 
 -- the length of a slot of a class
-let_out_class : (roots : Journals) (x : Slot) (o : Option ℕ) (class : ℕ) → o ≡ Some class → IsLetOut roots x o → x.title.len ≡ slot_of class
-let_out_class roots x (Some c) class is of = of.2 ∙ ap slot_of (same_class c class is)
+let_out_class : (version : ℕ) (roots : Journals) (x : Slot) (o : Option ℕ) (class : ℕ) → o ≡ Some class → IsLetOut version roots x o → x.title.len ≡ slot_of class
+let_out_class version roots x (Some c) class is of = of.2 ∙ ap slot_of (same_class c class is)
   where
     same_class : (a b : ℕ) → Some a ≡ Some b → a ≡ b
     same_class a b e = cc
-let_out_class roots x None class is of = absurd (none_some class is)
+let_out_class version roots x None class is of = absurd (none_some class is)
   where
     none_some : (n : ℕ) → None ≡ Some n → ⊥
     none_some n e = cc
@@ -78,10 +79,10 @@ less_by q k a before after was now n m step lists less is = elim (cases_eq q k) 
       omega (arith, one, two, is)
 ]
 
-module _ (p : Player) (thread reg q size class i : ℕ) (rest : List ℕ) (none : HasNone (register_at p thread reg)) (of : IsClassOf (max size 1 + 8) class)
+module _ (p : Player) (thread reg q size class i : ℕ) (rest : List ℕ) (none : HasNone (register_at p thread reg)) (of : IsClassIn p.version (max size 1 + 8) class)
     (front : list_at p thread q class ≡ i ∷ rest) where
   abbrev at : ℕ
-  at = list_place p.partitions thread q class
+  at = list_place p.version p.partitions thread q class
 
   abbrev x : Slot
   x = slot_at p.table i
@@ -113,53 +114,62 @@ module _ (p : Player) (thread reg q size class i : ℕ) (rest : List ℕ) (none 
     there = subst (λ z. Contains z i) (sym front) (first_in i rest)
 
     here : (i < length p.table) × (x.partition ≡ q) × (x.class ≡ Some class)
-    here = h.shaped.listed thread q class i can.within.0 can.within.1.1 of.real there
+    here = h.shaped.listed thread q class i can.within.0 can.within.1.1 (of.from, of.real) there
 
     length_is : x.title.len ≡ slot_of class
-    length_is = let_out_class (journals p) x x.class class here.2 (h.slots.let_out i here.0)
+    length_is = let_out_class p.version (journals p) x x.class class here.2 (h.slots.let_out i here.0)
 
     usable_is : x.title.len - 8 ≡ usable_of (rules_at p).version size
     usable_is = ap (λ z. z - 8) (length_is ∙ sym (sizes_fit.class (rules_at p).version size class of))
 
     -- the list, by names
     front_is : caches p thread q class ≡ numbered_at p.table i ∷ map (numbered_at p.table) rest
-    front_is = caches_here p thread q class inside of.real ∙ ap (map (numbered_at p.table)) front
+    front_is = caches_here p thread q class inside (of.from, of.real) ∙ ap (map (numbered_at p.table)) front
 
     shape_listed : AreShaped partitions threads (listed at rest p)
     shape_listed =
-        shaped_listed partitions threads p h.shaped thread q class rest can.within.0 can.within.1.1 of.real
-        (λ j among. h.shaped.listed thread q class j can.within.0 can.within.1.1 of.real (subst (λ z. Contains z j) (sym front) (later_in i j rest among)))
+        shaped_listed partitions threads p h.shaped thread q class rest can.within.0 can.within.1.1 (of.from, of.real)
+        (λ j among. h.shaped.listed thread q class j can.within.0 can.within.1.1 (of.from, of.real) (subst (λ z. Contains z j) (sym front) (later_in i j rest among)))
         (let long : length (list_at p thread q class) ≡ length (i ∷ rest) = ap length front in
-        let short = h.shaped.short thread q class can.within.0 can.within.1.1 of.real in
+        let short = h.shaped.short thread q class can.within.0 can.within.1.1 (of.from, of.real) in
         omega (arith, long, short))
 
     -- what is listed then is another slot
-    unmoved : (t k c j : ℕ) → t < threads → k < partitions → c < 59 → Contains (list_at (listed at rest p) t k c) j → numbered_at (set p.table i y) j ≡ numbered_at p.table j
+    unmoved : (t k c j : ℕ) → t < threads → k < partitions → HasClass p.version c → Contains (list_at (listed at rest p) t k c) j → numbered_at (set p.table i y) j ≡ numbered_at p.table j
     unmoved t k c j below low real among =
-        let apart : j ≡ i → ⊥ = λ e. elim (cases_eq (list_place p.partitions t k c) at) [
+        let apart : j ≡ i → ⊥ = λ e. elim (cases_eq (list_place p.version p.partitions t k c) at) [
           | inl is ↦
-              let room : at < length p.caches = omega (arith, place_below p.partitions threads thread q class can.within.0 inside of.real, h.shaped.lists, same_room) in
+              let room : at < length p.caches = omega (arith, place_below p.version p.partitions threads thread q class can.within.0 inside (of.from, of.real), h.shaped.lists, same_room) in
               let now : list_at (listed at rest p) t k c ≡ rest = ap (λ z. get_or (set p.caches at rest) z []) is ∙ get_or-set_same p.caches at rest [] room in
-              front_once region partitions threads ls p h i thread q class rest can.within.0 can.within.1.1 of.real front (subst (λ z. Contains rest z) e (subst (λ z. Contains z j) now among))
+              front_once region partitions threads ls p h i thread q class rest can.within.0 can.within.1.1 (of.from, of.real) front
+              (subst (λ z. Contains rest z) e (subst (λ z. Contains z j) now among))
           | inr ne ↦
-              let old : list_at (listed at rest p) t k c ≡ list_at p t k c = get_or-set_other p.caches at (list_place p.partitions t k c) rest [] ne in
-              let (a, b, d) = listed_once region partitions threads ls p h i thread q class t k c can.within.0 can.within.1.1 of.real below low real there
+              let old : list_at (listed at rest p) t k c ≡ list_at p t k c = get_or-set_other p.caches at (list_place p.version p.partitions t k c) rest [] ne in
+              let (a, b, d) = listed_once region partitions threads ls p h i thread q class t k c can.within.0 can.within.1.1 (of.from, of.real) below low real there
               (subst (λ z. Contains (list_at p t k c) z) e (subst (λ z. Contains z j) old among)) in
-              ne (ap (λ z. list_place p.partitions z k c) (sym a) ∙ ap (λ z. list_place p.partitions thread z c) (sym b) ∙ ap (λ z. list_place p.partitions thread q z) (sym d))
+              ne (ap (λ z. list_place p.version p.partitions z k c) (sym a)
+              ∙ ap (λ z. list_place p.version p.partitions thread z c) (sym b)
+              ∙ ap (λ z. list_place p.version p.partitions thread q z) (sym d))
         ] in
         let f : Slot → Numbered = λ z. record { slot = name_of z.title; number = number_of z.word.0 } in
         ap f (get_or-set_other p.table i j y no_slot apart)
       where
-        same_room : threads * p.partitions * 59 ≡ threads * partitions * 59
-        same_room = ap (λ z. threads * z * 59) h.shaped.many
+        same_room : threads * p.partitions * class_total p.version ≡ threads * partitions * class_total p.version
+        same_room = ap (λ z. threads * z * class_total p.version) h.shaped.many
 
     lists : (t k c : ℕ) → caches after t k c ≡ with_cache (caches p) thread (with_list (caches p thread) q class (map (numbered_at p.table) rest)) t k c
     lists t k c =
         caches_kept partitions threads (listed at rest p) (set p.table i y) shape_listed unmoved t k c
-        ∙ caches_listed p thread q class rest inside of.real (omega (arith, place_below p.partitions threads thread q class can.within.0 inside of.real, h.shaped.lists, same_room)) t k c
+        ∙ caches_listed p thread q class rest inside (of.from, of.real)
+        (omega (
+          arith,
+          place_below p.version p.partitions threads thread q class can.within.0 inside (of.from, of.real),
+          h.shaped.lists,
+          same_room,
+        )) t k c
       where
-        same_room : threads * p.partitions * 59 ≡ threads * partitions * 59
-        same_room = ap (λ z. threads * z * 59) h.shaped.many
+        same_room : threads * p.partitions * class_total p.version ≡ threads * partitions * class_total p.version
+        same_room = ap (λ z. threads * z * class_total p.version) h.shaped.many
 
     shaped : AreShaped partitions threads after
     shaped =
@@ -185,8 +195,9 @@ module _ (p : Player) (thread reg q size class i : ℕ) (rest : List ℕ) (none 
     fewer : (k : ℕ) → IsMoreBy q 1 x.title.len k (tally_at cached k) (tally_at p.cached.of k)
     fewer k =
         let known = h.tallied q can.within.1.1 in
-        let within = list_within (caches p) threads thread q class can.within.0 of.real in
-        tally_less q 1 x.title.len k p.cached.of (omega (arith, can.within.1.1, h.shaped.four, h.shaped.cached)) (omega (arith, known.many, within.0, long)) (omega (arith, known.bytes, within.1, heavy))
+        let within = list_within (caches p) threads thread q class can.within.0 (real_in p.version class (of.from, of.real)) in
+        tally_less q 1 x.title.len k p.cached.of (omega (arith, can.within.1.1, h.shaped.four, h.shaped.cached))
+        (omega (arith, known.many, within.0, long)) (omega (arith, known.bytes, within.1, heavy))
 
     counts : CountsMore partitions threads p after (Some (mark_at (length ls + 2) (seen_at p.table i) (Some steps.Issue)))
     counts =
@@ -201,12 +212,12 @@ module _ (p : Player) (thread reg q size class i : ℕ) (rest : List ℕ) (none 
           many = λ k low.
               less_by q k 1 (tally_at p.cached.of k).slots (tally_at cached k).slots (cached_slots (caches p) k threads) (cached_slots new k threads)
               (length (caches p thread q class)) (length (map (numbered_at p.table) rest)) (λ e. long)
-              (cached_slots_set (caches p) threads thread q class k (map (numbered_at p.table) rest) can.within.0 of.real) (fewer k).slots (h.tallied k low).many
+              (cached_slots_set (caches p) threads thread q class k (map (numbered_at p.table) rest) can.within.0 (real_in p.version class (of.from, of.real))) (fewer k).slots (h.tallied k low).many
               ∙ sym (cached_slots_same new (caches after) threads k lists);
           bytes = λ k low.
               less_by q k x.title.len (tally_at p.cached.of k).bytes (tally_at cached k).bytes (cached_bytes (caches p) k threads) (cached_bytes new k threads)
               (slot_of class * length (caches p thread q class)) (slot_of class * length (map (numbered_at p.table) rest)) (λ e. heavy)
-              (cached_bytes_set (caches p) threads thread q class k (map (numbered_at p.table) rest) can.within.0 of.real) (fewer k).bytes (h.tallied k low).bytes
+              (cached_bytes_set (caches p) threads thread q class k (map (numbered_at p.table) rest) can.within.0 (real_in p.version class (of.from, of.real))) (fewer k).bytes (h.tallied k low).bytes
               ∙ sym (cached_bytes_same new (caches after) threads k lists);
         }
 
@@ -214,20 +225,22 @@ module _ (p : Player) (thread reg q size class i : ℕ) (rest : List ℕ) (none 
     quiet =
         let low = here.0 in
         let seen = seen_at p.table i in
-        let free = listed_free region partitions threads ls p h i thread q class can.within.0 can.within.1.1 of.real there in
-        let away = listed_away region partitions threads ls p h i thread q class can.within.0 can.within.1.1 of.real there in
+        let free = listed_free region partitions threads ls p h i thread q class can.within.0 can.within.1.1 (of.from, of.real) there in
+        let away = listed_away region partitions threads ls p h i thread q class can.within.0 can.within.1.1 (of.from, of.real) there in
         let shows = shows_step region partitions threads ls p i thread reg (Own i) y (record { of = live }) p.quarantined h low can.within.0 can.within.1.0 low same in
         let keeps = keeps_set p.table i y low same in
         record {
           next = with_list (caches p thread) q class (map (numbered_at p.table) rest);
           after = after_made (shown p) thread reg seen;
           done =
-              front_leaves region partitions (length ls + 2) q class (x.title.len - 8) h.ps (played_at (rules_at p) ls thread (ops.Alloc reg q size) (answers.Made seen (x.title.len - 8))) p.told.pools (journals p) (caches p) seen
+              front_leaves region partitions (length ls + 2) q class (x.title.len - 8) h.ps
+              (played_at (rules_at p) ls thread (ops.Alloc reg q size) (answers.Made seen (x.title.len - 8))) p.told.pools
+              (journals p) (caches p) seen
               (map (numbered_at p.table) rest) h.placed refl refl (reg, size, refl, of) front_is;
           turn =
               subst (λ n. LeadsTo threads ls h.ps thread (ops.Alloc reg q size) (answers.Made seen n) (after_made (shown p) thread reg seen)) (sym usable_is)
               (made_goes_on threads ls h.ps (shown p) thread reg q size seen (can_play region partitions threads ls thread (ops.Alloc reg q size) p can) can.within.1.0
-              (none_holds p.table (register_at p thread reg) none) (omega (arith, of.fits, (IsRow_1-of class of.real).greatest_slot))
+              (none_holds p.table (register_at p thread reg) none) (omega (arith, of.fits, (IsRow-of class (real_in p.version class (of.from, of.real))).greatest_slot))
               (sym (at_name (λ z. z.word.0) p.table i h.slots.apart low)) free.held free.refs (at_name (λ z. z.title.len - 8) p.table i h.slots.apart low ∙ usable_is));
           like = record {
             rules = refl;
@@ -243,6 +256,7 @@ module _ (p : Player) (thread reg q size class i : ℕ) (rest : List ℕ) (none 
             entries = refl;
             report = refl;
             line = refl;
+            version = refl;
             phase = refl;
             pools = refl;
             journals = refl;
@@ -268,9 +282,11 @@ module _ (p : Player) (thread reg q size class i : ℕ) (rest : List ℕ) (none 
       (sym (set_both p.table i 0 (stepped steps.Issue x.word.0) (here region partitions threads ls can).0)) made
 
 -- an allocation is played if its list has a front
-pub front_plays : (p r : Player) (thread reg q size class : ℕ) (answer : Answer) → HasNone (register_at p thread reg) → IsClassOf (max size 1 + 8) class
-    → IsFrontIssued thread reg q (list_place p.partitions thread q class) p r answer → Plays p thread (ops.Alloc reg q size) r answer
+pub front_plays : (p r : Player) (thread reg q size class : ℕ) (answer : Answer) → HasNone (register_at p thread reg) → IsClassIn p.version (max size 1 + 8) class
+    → IsFrontIssued thread reg q (list_place p.version p.partitions thread q class) p r answer → Plays p thread (ops.Alloc reg q size) r answer
 front_plays p r thread reg q size class answer none of h =
     let made = front_issued p thread reg q size class h.place h.rest none of h.front in
     subst (λ z. Plays p thread (ops.Alloc reg q size) z answer) (sym h.issued)
-    (subst (λ a. Plays p thread (ops.Alloc reg q size) (issued thread reg h.place (cached_less q 1 (slot_at p.table h.place).title.len (listed (list_place p.partitions thread q class) h.rest p))) a) (sym h.says) made)
+    (subst (λ a. Plays p thread (ops.Alloc reg q size) (issued thread reg h.place
+    (cached_less q 1 (slot_at p.table h.place).title.len (listed (list_place p.version p.partitions thread q class) h.rest p))) a)
+    (sym h.says) made)

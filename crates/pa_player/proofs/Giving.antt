@@ -145,7 +145,8 @@ gave_parts q xs ys p batch root journal tally =
     let ea = length-append xs ys in
     let eb = bytes_append p.table xs ys in
     let e3 : tally_of (t.slots - length (xs ++ ys)) (t.bytes - bytes_at p.table (xs ++ ys)) ≡ tally_of (t1.slots - length ys) (t1.bytes - bytes_at p.table ys) =
-    tally_same (t.slots - length (xs ++ ys)) (t.bytes - bytes_at p.table (xs ++ ys)) (t.slots - length xs - length ys) (t.bytes - bytes_at p.table xs - bytes_at p.table ys) (omega arith) (omega arith) in
+    tally_same (t.slots - length (xs ++ ys)) (t.bytes - bytes_at p.table (xs ++ ys)) (t.slots - length xs - length ys)
+    (t.bytes - bytes_at p.table xs - bytes_at p.table ys) (omega arith) (omega arith) in
     let less : Tally → Tally = λ z. tally_of (z.slots - length ys) (z.bytes - bytes_at p.table ys) in
     let cached : set p.cached.of q (tally_of (t.slots - length (xs ++ ys)) (t.bytes - bytes_at p.table (xs ++ ys))) ≡ set (set p.cached.of q t1) q (less (get_or (set p.cached.of q t1) q no_tally)) =
     ap (set p.cached.of q) e3 ∙ sym (set-set p.cached.of q t1 (less t1)) ∙ ap (λ z. set (set p.cached.of q t1) q (less z)) (sym (get_or-set_same p.cached.of q t1 no_tally tally)) in

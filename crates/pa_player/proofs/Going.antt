@@ -35,9 +35,9 @@ use Rattle.pa_player.proofs.Shows.{gain, IsTallyMore}
 
 -- ---- sizes, and where a slot that has one is
 
-pub let_out_sized : (roots : Journals) (x : Slot) (class : Option ℕ) → IsLetOut roots x class → HasSize roots x.partition (name_of x.title) x.title.len
-let_out_sized roots x (Some class) of = inl (class, of.1, of.2)
-let_out_sized roots x None of = inr of
+pub let_out_sized : (version : ℕ) (roots : Journals) (x : Slot) (class : Option ℕ) → IsLetOut version roots x class → HasSize roots x.partition (name_of x.title) x.title.len
+let_out_sized version roots x (Some class) of = inl (class, of.1, of.2)
+let_out_sized version roots x None of = inr of
 
 pub moves_not_none : (journal : List RootEntry) (s : SlotName) (e : RootEntry) (m : Move) → Contains journal e → Contains (moves_by e.line e.act) m → m.slot ≡ s → moves_of journal s ≡ [] → ⊥
 moves_not_none journal s e m among moves is none =
@@ -54,8 +54,8 @@ size_moves roots k s len (inr (e, asked, among, act)) none =
     let m : Move = record { line = e.line; slot = s; number = 0; way = Out } in
     moves_not_none (roots k) s e m among (subst (λ a. Contains (moves_by e.line a) m) (sym act) (first_in m [])) refl none
 
-pub sized_place : (partitions : ℕ) (slots : List Slot) (pools : List PoolEntry) (roots : Journals) (root : ℕ → Root) (k : ℕ) (s : SlotName) (len : ℕ)
-    → AreAllSlots partitions slots pools roots root → HasSize roots k s len → (i : ℕ) × IsPlaceOf slots s i
+pub sized_place : {version : ℕ} (partitions : ℕ) (slots : List Slot) (pools : List PoolEntry) (roots : Journals) (root : ℕ → Root) (k : ℕ) (s : SlotName) (len : ℕ)
+    → AreAllSlots version partitions slots pools roots root → HasSize roots k s len → (i : ℕ) × IsPlaceOf slots s i
 sized_place partitions slots pools roots root k s len h sized = elim (slot_cases slots s) [
   | inl there ↦ there
   | inr none ↦ absurd (size_moves roots k s len sized (h.others k s none))

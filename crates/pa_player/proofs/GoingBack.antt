@@ -11,7 +11,7 @@ use Rattle.pa_slot.specs.Count.{held_of, refs_of}
 use Rattle.pa_slot.specs.Run.{IsReturning}
 use Rattle.pa_layout.specs.Pages.{super_page_at, supers_for}
 use Rattle.pa_buckets.specs.Table.{slot_of}
-use Rattle.pa_buckets.proofs.Facts.{IsRow_1-of}
+use Rattle.pa_buckets.proofs.Facts.{IsRow-of}
 use Rattle.pa_trace.specs.declared.script.Op.{Op}
 use Rattle.pa_trace.specs.declared.script.Line.{Line}
 use Rattle.pa_record.specs.declared.entry.Answer.TheVariants as answers
@@ -44,6 +44,8 @@ use Rattle.pa_player.proofs.Changing.{list_within}
 use Rattle.pa_player.proofs.Alone.{so_far, has_word}
 use Rattle.pa_player.proofs.Bounds.{cached_few, place_among}
 use Rattle.pa_lists.proofs.Elements.{all_from_members}
+use Rattle.pa_rules.proofs.Versions.{real_in}
+use Rattle.pa_rules.specs.Sizes.{HasClass}
 
 -- slots of one length
 pub bytes_of_one : (slots : List Slot) (len : ℕ) (xs : List ℕ) → ((i : ℕ) → Contains xs i → (slot_at slots i).title.len ≡ len) → bytes_at slots xs ≡ len * length xs
@@ -75,20 +77,20 @@ module _ (region partitions threads : ℕ) (ls : List Line) (p : Player) (h : Is
   entries_are = ap (λ (s : PoolState). s.entries) h.plan ∙ pool_is_sound.counted region p.told.pools
 
   -- a slot of a list
-  pub listed_len : (t q class i : ℕ) → t < threads → q < partitions → class < 59 → Contains (list_at p t q class) i → (slot_at p.table i).title.len ≡ slot_of class
+  pub listed_len : (t q class i : ℕ) → t < threads → q < partitions → HasClass p.version class → Contains (list_at p t q class) i → (slot_at p.table i).title.len ≡ slot_of class
   listed_len t q class i below low real among =
       let (inside, home, of) = h.shaped.listed t q class i below low real among in
-      (subst (IsLetOut (journals p) (slot_at p.table i)) of (h.slots.let_out i inside)).2
+      (subst (IsLetOut p.version (journals p) (slot_at p.table i)) of (h.slots.let_out i inside)).2
 
-  pub list_length : (t q class : ℕ) → q < partitions → class < 59 → length (caches p t q class) ≡ length (list_at p t q class)
+  pub list_length : (t q class : ℕ) → q < partitions → HasClass p.version class → length (caches p t q class) ≡ length (list_at p t q class)
   list_length t q class low real = ap length (caches_here p t q class (omega (arith, low, h.shaped.many)) real) ∙ length-map (list_at p t q class) (numbered_at p.table)
 
   -- a list is counted
-  pub list_counted : (t q class : ℕ) → t < threads → q < partitions → class < 59
+  pub list_counted : (t q class : ℕ) → t < threads → q < partitions → HasClass p.version class
       → (length (list_at p t q class) ≤ (tally_at p.cached.of q).slots) × (slot_of class * length (list_at p t q class) ≤ (tally_at p.cached.of q).bytes)
   list_counted t q class below low real =
       let same = list_length t q class low real in
-      let (slots, bytes) = list_within (caches p) threads t q class below real in
+      let (slots, bytes) = list_within (caches p) threads t q class below (real_in p.version class real) in
       let product : slot_of class * length (caches p t q class) ≡ slot_of class * length (list_at p t q class) = ap (λ n. slot_of class * n) same in
       (omega (arith, same, slots, (h.tallied q low).many), omega (arith, product, bytes, (h.tallied q low).bytes))
 
@@ -105,8 +107,8 @@ module _ (region partitions threads : ℕ) (ls : List Line) (p : Player) (h : Is
 
   -- to its list
   module _ (class : ℕ) (of : (slot_at p.table i).class ≡ Some class) where
-    let_out : IsLetOut (journals p) (slot_at p.table i) (Some class)
-    let_out = subst (IsLetOut (journals p) (slot_at p.table i)) of (h.slots.let_out i inside)
+    let_out : IsLetOut p.version (journals p) (slot_at p.table i) (Some class)
+    let_out = subst (IsLetOut p.version (journals p) (slot_at p.table i)) of (h.slots.let_out i inside)
 
     member : (j : ℕ) → Contains (i ∷ list_at p thread (slot_at p.table i).partition class) j → j < length p.table
     member j among = elim (in_cases i j (list_at p thread (slot_at p.table i).partition class) among) [
@@ -130,11 +132,12 @@ module _ (region partitions threads : ℕ) (ls : List Line) (p : Player) (h : Is
         subst (AreNamesOut (root_of p q)) (sym (names_kept p.table table (i ∷ list_at p thread q class) keeps member)) a
 
     gives : CanGive (slot_at p.table i).partition (i ∷ list_at p thread (slot_at p.table i).partition class)
-        (put_front (slot_at p.table i).partition (list_place p.partitions thread (slot_at p.table i).partition class) i (record p { table = table; registers = registers; live = live; quarantined = quarantined }))
+        (put_front (slot_at p.table i).partition (list_place p.version p.partitions thread (slot_at p.table i).partition class) i
+        (record p { table = table; registers = registers; live = live; quarantined = quarantined }))
     gives =
         let q = (slot_at p.table i).partition in
         let xs = list_at p thread q class in
-        let kept = (IsRow_1-of class let_out.0).few_kept in
+        let kept = (IsRow-of class (real_in p.version class let_out.0)).few_kept in
         let shorter = h.shaped.short thread q class below low let_out.0 in
         let room : q < length p.cached.of = omega (arith, low, h.shaped.four, h.shaped.cached) in
         let more = tally_more q 1 (slot_at table i).title.len q p.cached.of room in
@@ -160,6 +163,7 @@ module _ (region partitions threads : ℕ) (ls : List Line) (p : Player) (h : Is
         let q = (slot_at p.table i).partition in
         let cached = cached_few region partitions threads ls p h q few low in
         record {
+          real = let_out.0;
           threads = omega (arith, below, few);
           four = omega (arith, h.shaped.many, h.shaped.four);
           among = omega (arith, low, h.shaped.many);
@@ -196,6 +200,8 @@ module _ (region partitions threads : ℕ) (ls : List Line) (p : Player) (h : Is
       → CanTakeBack thread i (slot_at p.table i).partition (slot_at p.table i).class (record p { table = table; registers = registers; live = live; quarantined = quarantined })
   take_back used = by_class (slot_at p.table i).class refl
     where
-      by_class : (o : Option ℕ) → (slot_at p.table i).class ≡ o → CanTakeBack thread i (slot_at p.table i).partition o (record p { table = table; registers = registers; live = live; quarantined = quarantined })
+      by_class : (o : Option ℕ) → (slot_at p.table i).class ≡ o
+          → CanTakeBack thread i (slot_at p.table i).partition o
+          (record p { table = table; registers = registers; live = live; quarantined = quarantined })
       by_class (Some class) of = put_back class of
       by_class None of = unmap of used

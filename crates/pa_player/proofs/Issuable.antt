@@ -8,7 +8,7 @@ use Rattle.pa_slot.specs.declared.title.Title.{Title}
 use Rattle.pa_slot.specs.declared.word.Step.TheVariants as steps
 use Rattle.pa_slot.specs.Count.{CanStep}
 use Rattle.pa_buckets.specs.Table.{slot_of}
-use Rattle.pa_buckets.proofs.Facts.{IsRow_1-of}
+use Rattle.pa_buckets.proofs.Facts.{IsRow-of}
 use Rattle.pa_record.specs.declared.numbered.Numbered.{Numbered}
 use Rattle.pa_record.specs.Pool.{PoolState}
 use Rattle.pa_record.specs.Root.{Root}
@@ -45,7 +45,7 @@ pub record IsFillable (thread q class at : ℕ) (s : Player) : Type 0 where
   pub many : length (list_in s at) ≤ (tally_at s.cached.of q).slots
   pub size : slot_of class * length (list_in s at) ≤ (tally_at s.cached.of q).bytes
 
-pub front_issued : (thread reg q class at : ℕ) (s : Player) → reg < 64 → q < 4 → class < 59 → IsFillable thread q class at s → CanIssueFront thread reg q at s
+pub front_issued : (thread reg q class at : ℕ) (s : Player) → reg < 64 → q < 4 → class < 170 → IsFillable thread q class at s → CanIssueFront thread reg q at s
 front_issued thread reg q class at s regs four real h = record {
   four = four;
   issue = λ i rest is.
@@ -57,7 +57,7 @@ front_issued thread reg q class at s regs four real h = record {
         regs = regs;
         place = one.inside;
         step = one.step;
-        long = omega (arith, one.len, (IsRow_1-of class real).least_slot);
+        long = omega (arith, one.len, (IsRow-of class real).least_slot);
         four = omega (arith, one.home, four);
         slots = few.0;
         bytes = few.1;

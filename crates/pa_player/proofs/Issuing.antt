@@ -77,7 +77,9 @@ module _ (region partitions threads : ℕ) (ls : List Line) (p : Player) (thread
     (none : HasNone (register_at p thread reg)) (fits : size ≤ 33521656) (table news : List Slot) (grown_by : IsGrown p.table table news) (few : length news ≤ 8)
     (i : ℕ) (low : i < length table) (here : (slot_at table i).partition ≡ q) (serves : (slot_at table i).title.len - 8 ≡ usable_of (rules_at p).version size)
     (act : RootAct) (outs : List SlotName) (lets_out : LetsOut act outs) (names_slots : NamesSlots act) (more : List PoolEntry) (after : Root) (plan : PoolState) (next : Cache)
-    (called : IsCalled region partitions (length ls + 2) (played_at (rules_at p) ls thread (ops.Alloc reg q size) (answers.Made (seen_at table i) (usable_of (rules_at p).version size))) p.told.pools more (journals p) q (act ∷ []) (caches p thread)
+    (called : IsCalled region partitions (length ls + 2) (played_at (rules_at p) ls thread (ops.Alloc reg q size)
+    (answers.Made (seen_at table i) (usable_of (rules_at p).version size))) p.told.pools more (journals p) q (act ∷ [])
+    (caches p thread)
     next after plan) where
   abbrev pub h : IsPlaying region partitions threads ls p
   h = can.playing
@@ -108,7 +110,8 @@ module _ (region partitions threads : ℕ) (ls : List Line) (p : Player) (thread
   out_moves : (s : SlotName) → Contains outs s → (m : Move) × Contains (moves_of (entries_at n (only_in q (act ∷ []) q)) s) m
   out_moves s out =
       let (m, member, is) = lets_out.each n s out in
-      let all : Contains (all_moves (entries_at n (act ∷ []))) m = flat_in (λ (e : RootEntry). moves_by e.line e.act) (entries_at n (act ∷ [])) (record { line = n; act = act }) m (first_in _ []) member in
+      let all : Contains (all_moves (entries_at n (act ∷ []))) m = flat_in (λ (e : RootEntry). moves_by e.line e.act)
+      (entries_at n (act ∷ [])) (record { line = n; act = act }) m (first_in _ []) member in
       (m, subst (λ bs. Contains (moves_of (entries_at n bs) s) m) (sym (only_here q (act ∷ []))) (filter_in (is_of s) (all_moves (entries_at n (act ∷ []))) m all (same_slot_yes m.slot s is)))
 
   -- the root had what it let out, and doesn't have it then
@@ -143,7 +146,7 @@ module _ (region partitions threads : ℕ) (ls : List Line) (p : Player) (thread
   root_then k = slice_index_or (set p.heap.roots q after) k new_root
 
   module _ (out_here : Contains outs (named_at table i)) (new_out : (x : Slot) → Contains news x → Contains outs (name_of x.title)) (new_here : (x : Slot) → Contains news x → x.partition ≡ q)
-      (new_let : (x : Slot) → Contains news x → IsLetOut roots x x.class) (new_born : (x : Slot) → Contains news x → (name_of x.title).born < length pools)
+      (new_let : (x : Slot) → Contains news x → IsLetOut p.version roots x x.class) (new_born : (x : Slot) → Contains news x → (name_of x.title).born < length pools)
       (outs_in : (s : SlotName) → Contains outs s → (j : ℕ) × IsPlaceOf table s j) (maps_stay : (t : Title) → Contains (root_of p q).maps t → Contains after.maps t)
       (mapped_now : (slot_at table i).class ≡ None → Contains after.maps (slot_at table i).title) where
     roots_low : q < length p.heap.roots
@@ -163,19 +166,19 @@ module _ (region partitions threads : ℕ) (ls : List Line) (p : Player) (thread
     unused_mapped x r None e = λ used.
         let idle : held_of x.word.0 + refs_of x.word.0 ≡ 0 = ap (λ w. held_of w + refs_of w) e in absurd (omega arith)
 
-    old_known : (j : ℕ) → j < length p.table → IsKnownSlot partitions pools roots root_then (slot_at p.table j)
+    old_known : (j : ℕ) → j < length p.table → IsKnownSlot p.version partitions pools roots root_then (slot_at p.table j)
     old_known j there =
         let k = known_at partitions p.table p.told.pools (journals p) (root_of p) j h.slots there in
         let x = slot_at p.table j in
         record {
           among = k.among;
-          let_out = let_out_grown (journals p) n (only_in q (act ∷ [])) x x.class k.let_out;
+          let_out = let_out_grown p.version (journals p) n (only_in q (act ∷ [])) x x.class k.let_out;
           mapped = mapped_more x x.class k.mapped;
           at = λ number e. k.at number (still_at x.partition number (name_of x.title) e);
           born = let b = k.born in let e = length-append p.told.pools more in omega arith;
         }
 
-    new_known : (x : Slot) → Contains news x → IsKnownSlot partitions pools roots root_then x
+    new_known : (x : Slot) → Contains news x → IsKnownSlot p.version partitions pools roots root_then x
     new_known x among = record {
       among = let e = new_here x among in let b = inside in omega arith;
       let_out = new_let x among;
@@ -186,11 +189,11 @@ module _ (region partitions threads : ℕ) (ls : List Line) (p : Player) (thread
       born = new_born x among;
     }
 
-    pub placed_slots : AreAllSlots partitions table pools roots root_then
+    pub placed_slots : AreAllSlots p.version partitions table pools roots root_then
     placed_slots =
         all_known partitions table pools roots root_then
         (λ j there. elim (cases_lt j (length p.table)) [
-          | inl old ↦ subst (IsKnownSlot partitions pools roots root_then) (sym (old_at p.table table news grown_by j old)) (old_known j old)
+          | inl old ↦ subst (IsKnownSlot p.version partitions pools roots root_then) (sym (old_at p.table table news grown_by j old)) (old_known j old)
           | inr past ↦ new_known (slot_at table j) (new_at p.table table news grown_by j past there)
         ])
         grown_by.apart
@@ -272,25 +275,29 @@ module _ (region partitions threads : ℕ) (ls : List Line) (p : Player) (thread
       keeps_it : KeepsSlots table slots_then
       keeps_it = keeps_set table i issued_slot low same
 
-      slots_final : AreAllSlots partitions slots_then pools roots (root_of final)
+      slots_final : AreAllSlots p.version partitions slots_then pools roots (root_of final)
       slots_final =
-          let issued_then : AreAllSlots partitions slots_then pools roots root_then =
+          let issued_then : AreAllSlots p.version partitions slots_then pools roots root_then =
           all_slots_set partitions table pools roots root_then i issued_slot placed_slots low same
           (subst (λ k. at_end (Some 0) (moves_of (roots k) (named_at table i)) ≡ None) (sym here) (gone (named_at table i) out_here))
           (issued_mapped it.class refl) in
-          subst (λ rs. AreAllSlots partitions slots_then pools roots (λ k. slice_index_or rs k new_root)) (sym heap_roots) issued_then
+          subst (λ rs. AreAllSlots p.version partitions slots_then pools roots (λ k. slice_index_or rs k new_root)) (sym heap_roots) issued_then
         where
           issued_mapped : (c : Option ℕ) → it.class ≡ c → IsMappedAs (root_then it.partition) issued_slot c
           issued_mapped (Some class) e = tt
-          issued_mapped None e = λ used. subst (λ k. Contains (root_then k).maps it.title) (sym here) (subst (λ (r : Root). Contains r.maps it.title) (sym (root_here p.heap.roots q after roots_low)) (mapped_now e))
+          issued_mapped None e = λ used. subst (λ k. Contains (root_then k).maps it.title) (sym here)
+              (subst (λ (r : Root). Contains r.maps it.title) (sym (root_here p.heap.roots q after roots_low)) (mapped_now e))
 
       shows_final : IsLike (after_made (shown grown_player) thread reg (seen_at table i)) (shown final)
       shows_final = record {
         rules = refl;
         regs = λ u k.
-            regs_registered p slots_then thread reg (Own i) u k (let a = h.shaped.registers in let b = can.within.0 in omega arith) (let a = h.shaped.sixty_four thread can.within.0 in let b = can.within.1.0 in omega arith)
+            regs_registered p slots_then thread reg (Own i) u k (let a = h.shaped.registers in let b = can.within.0 in omega arith)
+            (let a = h.shaped.sixty_four thread can.within.0 in let b = can.within.1.0 in omega arith)
             ∙ with_reg_same (shown grown_player).regs (λ v j. reg_of slots_then (register_at p v j)) thread reg (reg_of table (Own i)) (reg_of slots_then (Own i)) u k
-            (λ v j. reg_kept table slots_then (register_at p v j) keeps_it (in_longer (length p.table) (length table) (register_at p v j) (keeps_grown p.table table news grown_by).longer (h.shaped.held v j)))
+            (λ v j. reg_kept table slots_then (register_at p v j) keeps_it
+            (in_longer (length p.table) (length table) (register_at p v j) (keeps_grown p.table table news grown_by).longer
+            (h.shaped.held v j)))
             (reg_kept table slots_then (Own i) keeps_it low);
         held = λ k. told_kept table slots_then (cell_at p k) keeps_it (in_longer (length p.table) (length table) (cell_at p k) (keeps_grown p.table table news grown_by).longer (h.shaped.celled k));
         cells = λ k. ap (λ (hs : List (List CellEntry)). slice_index_or hs k []) told_on.histories;
@@ -300,9 +307,12 @@ module _ (region partitions threads : ℕ) (ls : List Line) (p : Player) (thread
       }
 
       -- what the pool's entries and the root are then
-      placed_then : IsPlacedTo partitions (n + 1) (h.ps ++ played_at (rules_at p) ls thread (ops.Alloc reg q size) (answers.Made (seen_at table i) (usable_of (rules_at p).version size)) ∷ []) pools roots (with_cache (caches p) thread next)
+      placed_then : IsPlacedTo partitions (n + 1) (h.ps ++ played_at (rules_at p) ls thread (ops.Alloc reg q size)
+          (answers.Made (seen_at table i) (usable_of (rules_at p).version size)) ∷ []) pools roots (with_cache (caches p) thread next)
       placed_then =
-          line_extends partitions n h.ps (played_at (rules_at p) ls thread (ops.Alloc reg q size) (answers.Made (seen_at table i) (usable_of (rules_at p).version size))) p.told.pools more (journals p) (only_in q (act ∷ [])) (caches p) next h.placed
+          line_extends partitions n h.ps (played_at (rules_at p) ls thread (ops.Alloc reg q size)
+          (answers.Made (seen_at table i) (usable_of (rules_at p).version size))) p.told.pools more (journals p)
+          (only_in q (act ∷ [])) (caches p) next h.placed
           called.done.deed
 
       entries_then : plan.entries ≡ length pools
@@ -311,7 +321,9 @@ module _ (region partitions threads : ℕ) (ls : List Line) (p : Player) (thread
       born_then : IsBornBelow plan.entries after
       born_then =
           let left = journal_leaves pools (roots q) (placed_then.journals q) in
-          let below = next_low region partitions (n + 1) (h.ps ++ played_at (rules_at p) ls thread (ops.Alloc reg q size) (answers.Made (seen_at table i) (usable_of (rules_at p).version size)) ∷ []) pools roots (with_cache (caches p) thread next) placed_then q in
+          let below = next_low region partitions (n + 1) (h.ps ++ played_at (rules_at p) ls thread (ops.Alloc reg q size)
+          (answers.Made (seen_at table i) (usable_of (rules_at p).version size)) ∷ []) pools roots
+          (with_cache (caches p) thread next) placed_then q in
           let e = entries_then in
           subst (λ r. IsBornBelow plan.entries r) called.root (born_more (least_after_all 0 (roots q)) plan.entries (root_at pools roots q) (omega arith) left.born)
 
@@ -320,7 +332,9 @@ module _ (region partitions threads : ℕ) (ls : List Line) (p : Player) (thread
           let before : p.heap.pool.entries ≡ length p.told.pools = ap (λ (z : PoolState). z.entries) h.plan ∙ pool_is_sound.counted region p.told.pools in
           let e = entries_then in
           let l = length-append p.told.pools more in
-          heap_called region partitions n (played_at (rules_at p) ls thread (ops.Alloc reg q size) (answers.Made (seen_at table i) (usable_of (rules_at p).version size))) p final more q (act ∷ []) (caches p thread) next after plan called h.roots
+          heap_called region partitions n (played_at (rules_at p) ls thread (ops.Alloc reg q size)
+          (answers.Made (seen_at table i) (usable_of (rules_at p).version size))) p final more q (act ∷ []) (caches p thread) next
+          after plan called h.roots
           (ap (λ rs. slice_index_or rs q new_root) heap_roots ∙ root_here p.heap.roots q after roots_low)
           (λ k ne. ap (λ rs. slice_index_or rs k new_root) heap_roots ∙ root_there p.heap.roots q k after ne) heap_pool turns (omega arith) born_then h.bounded.born
 
@@ -329,6 +343,7 @@ module _ (region partitions threads : ℕ) (ls : List Line) (p : Player) (thread
         entries = told_on.entries;
         report = told_on.report;
         line = told_on.line;
+        version = refl;
         phase = refl;
         pools = told_on.pools;
         journals = λ k.

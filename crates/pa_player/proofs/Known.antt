@@ -15,6 +15,7 @@ use Rattle.pa_record.specs.Root.{Root}
 use Rattle.pa_rules.specs.Roots.{Journals}
 use Rattle.pa_rules.specs.Caches.{IsOfClass}
 use Rattle.pa_legal.specs.Numbers.{moves_of, at_end}
+use Rattle.pa_rules.specs.Sizes.{HasClass}
 use Rattle.pa_player.specs.declared.table.Slot.{Slot}
 use Rattle.pa_player.specs.Tables.{no_slot, slot_at, named_at, AreNamed, NoneNamed}
 use Rattle.pa_player.specs.Playing.{IsLetOut, IsMappedAs, AreAllSlots}
@@ -22,20 +23,21 @@ use Rattle.pa_player.proofs.Homes.{named_set}
 use Rattle.pa_player.proofs.Slots.{IsSame, named_as}
 
 -- what is known of each slot of the table
-pub record IsKnownSlot (partitions : ℕ) (pools : List PoolEntry) (roots : Journals) (root : ℕ → Root) (x : Slot) : Type 0 where
+pub record IsKnownSlot (version partitions : ℕ) (pools : List PoolEntry) (roots : Journals) (root : ℕ → Root) (x : Slot) : Type 0 where
   pub among : x.partition < partitions
-  pub let_out : IsLetOut roots x x.class
+  pub let_out : IsLetOut version roots x x.class
   pub mapped : IsMappedAs (root x.partition) x x.class
   pub at : (n : ℕ) → at_end (Some 0) (moves_of (roots x.partition) (name_of x.title)) ≡ Some n → n ≡ number_of x.word.0
   pub born : (name_of x.title).born < length pools
 
-pub known_at : (partitions : ℕ) (slots : List Slot) (pools : List PoolEntry) (roots : Journals) (root : ℕ → Root) (i : ℕ) → AreAllSlots partitions slots pools roots root → i < length slots
-    → IsKnownSlot partitions pools roots root (slot_at slots i)
+pub known_at : {version : ℕ} (partitions : ℕ) (slots : List Slot) (pools : List PoolEntry) (roots : Journals) (root : ℕ → Root) (i : ℕ)
+    → AreAllSlots version partitions slots pools roots root → i < length slots
+    → IsKnownSlot version partitions pools roots root (slot_at slots i)
 known_at partitions slots pools roots root i h l = record { among = h.among i l; let_out = h.let_out i l; mapped = h.mapped i l; at = λ n e. h.at i n l e; born = h.born i l }
 
-pub all_known : (partitions : ℕ) (slots : List Slot) (pools : List PoolEntry) (roots : Journals) (root : ℕ → Root)
-    → ((i : ℕ) → i < length slots → IsKnownSlot partitions pools roots root (slot_at slots i)) → AreNamed slots
-    → ((q : ℕ) (s : SlotName) → NoneNamed slots s → moves_of (roots q) s ≡ []) → AreAllSlots partitions slots pools roots root
+pub all_known : {version : ℕ} (partitions : ℕ) (slots : List Slot) (pools : List PoolEntry) (roots : Journals) (root : ℕ → Root)
+    → ((i : ℕ) → i < length slots → IsKnownSlot version partitions pools roots root (slot_at slots i)) → AreNamed slots
+    → ((q : ℕ) (s : SlotName) → NoneNamed slots s → moves_of (roots q) s ≡ []) → AreAllSlots version partitions slots pools roots root
 all_known partitions slots pools roots root each named others = record {
   among = λ i l. (each i l).among;
   let_out = λ i l. (each i l).let_out;
@@ -48,11 +50,11 @@ all_known partitions slots pools roots root each named others = record {
 
 -- ---- a slot with another word or content
 
-pub let_out_same : (roots : Journals) (x y : Slot) (class : Option ℕ) → IsSame x y → IsLetOut roots x class → IsLetOut roots y class
-let_out_same roots x y (Some class) same h =
-    let P : Title → ℕ → Type 0 = λ t q. (class < 59) × IsOfClass roots (name_of t) q class × (t.len ≡ slot_of class) in
+pub let_out_same : (version : ℕ) (roots : Journals) (x y : Slot) (class : Option ℕ) → IsSame x y → IsLetOut version roots x class → IsLetOut version roots y class
+let_out_same version roots x y (Some class) same h =
+    let P : Title → ℕ → Type 0 = λ t q. HasClass version class × IsOfClass roots (name_of t) q class × (t.len ≡ slot_of class) in
     subst (λ q. P y.title q) (sym same.partition) (subst (λ t. P t x.partition) (sym same.title) h)
-let_out_same roots x y None same h =
+let_out_same version roots x y None same h =
     let P : Title → ℕ → Type 0 = λ t q. (e : RootEntry) × (asked : ℕ) × Contains (roots q) e × (e.act ≡ Map asked (name_of t) t.len) in
     subst (λ q. P y.title q) (sym same.partition) (subst (λ t. P t x.partition) (sym same.title) h)
 
@@ -64,11 +66,11 @@ mapped_used r x y None same used h = λ still. subst (λ t. Contains r.maps t) (
 pub mapped_class : (r : Root) (y : Slot) (o : Option ℕ) (class : ℕ) → o ≡ Some class → IsMappedAs r y o
 mapped_class r y o class e = subst (λ c. IsMappedAs r y c) (sym e) tt
 
-pub known_again : (partitions : ℕ) (pools : List PoolEntry) (roots : Journals) (root : ℕ → Root) (x y : Slot) → IsKnownSlot partitions pools roots root x → IsSame x y
-    → at_end (Some 0) (moves_of (roots x.partition) (name_of x.title)) ≡ None → IsMappedAs (root x.partition) y y.class → IsKnownSlot partitions pools roots root y
-known_again partitions pools roots root x y h same none mapped = record {
+pub known_again : {version : ℕ} (partitions : ℕ) (pools : List PoolEntry) (roots : Journals) (root : ℕ → Root) (x y : Slot) → IsKnownSlot version partitions pools roots root x → IsSame x y
+    → at_end (Some 0) (moves_of (roots x.partition) (name_of x.title)) ≡ None → IsMappedAs (root x.partition) y y.class → IsKnownSlot version partitions pools roots root y
+known_again {version} partitions pools roots root x y h same none mapped = record {
   among = subst (λ q. q < partitions) (sym same.partition) h.among;
-  let_out = subst (λ c. IsLetOut roots y c) (sym same.class) (let_out_same roots x y x.class same h.let_out);
+  let_out = subst (λ c. IsLetOut version roots y c) (sym same.class) (let_out_same version roots x y x.class same h.let_out);
   mapped = subst (λ q. IsMappedAs (root q) y y.class) (sym same.partition) mapped;
   at = λ n e.
       let P : ℕ → Title → Type 0 = λ q t. at_end (Some 0) (moves_of (roots q) (name_of t)) ≡ None in
@@ -81,12 +83,12 @@ known_again partitions pools roots root x y h same none mapped = record {
     none_some n e = cc
 
 -- one slot is changed that no root has
-pub all_slots_set : (partitions : ℕ) (slots : List Slot) (pools : List PoolEntry) (roots : Journals) (root : ℕ → Root) (i : ℕ) (y : Slot)
-    → AreAllSlots partitions slots pools roots root → i < length slots → IsSame (slot_at slots i) y
+pub all_slots_set : {version : ℕ} (partitions : ℕ) (slots : List Slot) (pools : List PoolEntry) (roots : Journals) (root : ℕ → Root) (i : ℕ) (y : Slot)
+    → AreAllSlots version partitions slots pools roots root → i < length slots → IsSame (slot_at slots i) y
     → at_end (Some 0) (moves_of (roots (slot_at slots i).partition) (named_at slots i)) ≡ None → IsMappedAs (root (slot_at slots i).partition) y y.class
-    → AreAllSlots partitions (set slots i y) pools roots root
-all_slots_set partitions slots pools roots root i y h l same none mapped =
-    let K : Slot → Type 0 = IsKnownSlot partitions pools roots root in
+    → AreAllSlots version partitions (set slots i y) pools roots root
+all_slots_set {version} partitions slots pools roots root i y h l same none mapped =
+    let K : Slot → Type 0 = IsKnownSlot version partitions pools roots root in
     let known = known_again partitions pools roots root (slot_at slots i) y (known_at partitions slots pools roots root i h l) same none mapped in
     all_known partitions (set slots i y) pools roots root
     (λ j lj. elim (cases_eq j i) [

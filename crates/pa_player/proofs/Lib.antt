@@ -50,6 +50,7 @@ pub mod Reporting
 mod Requests
 mod Returned
 mod Returning
+mod Rows
 mod Settling
 mod Shaping
 pub mod Showing

@@ -120,7 +120,8 @@ read_past p thread reg place i points past =
 read_in : (p : Player) (thread reg place i value : ℕ) (answer : Answer) → Points (register_at p thread reg) i → place < ((slot_at p.table i).title.len - 8) / 8
     → ((region partitions threads : ℕ) (ls : List Line) → IsPlaying region partitions threads ls p → i < length p.table
     → Looks (shown p) (seen_at p.table i) answer
-    × (((held_of (slot_at p.table i).word.0 ≡ 1) × (answer ≡ answers.Value (seen_at p.table i) value)) ⊎ ((held_of (slot_at p.table i).word.0 ≡ 0) × (answer ≡ answers.Dangling (seen_at p.table i) value))))
+    × (((held_of (slot_at p.table i).word.0 ≡ 1) × (answer ≡ answers.Value (seen_at p.table i) value))
+    ⊎ ((held_of (slot_at p.table i).word.0 ≡ 0) × (answer ≡ answers.Dangling (seen_at p.table i) value))))
     → KeepsLists (ops.Read reg place) answer → Plays p thread (ops.Read reg place) p answer
 read_in p thread reg place i value answer points low says keeps =
     look_plays_by p thread reg i (ops.Read reg place) answer (λ n w. w.0) points keeps (λ cell r e. cc) (λ region partitions threads ls h.

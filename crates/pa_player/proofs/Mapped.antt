@@ -7,7 +7,8 @@ use Rattle.pa_slot.specs.declared.title.Title.{Title}
 use Rattle.pa_slot.specs.declared.word.SlotName.{SlotName}
 use Rattle.pa_slot.specs.declared.word.Step.TheVariants as steps
 use Rattle.pa_slot.specs.Count.{stepped}
-use Rattle.pa_direct.specs.Shapes.{shape_of, IsDirectSize}
+use Rattle.pa_direct.specs.Shapes.{shape_of}
+use Rattle.pa_rules.specs.Sizes.{IsMapSize}
 use Rattle.pa_trace.specs.declared.script.Op.TheVariants as ops
 use Rattle.pa_trace.specs.declared.script.Line.{Line}
 use Rattle.pa_trace.specs.declared.script.Line.TheVariants.{Do}
@@ -82,7 +83,7 @@ map_of len before next r after titles (Some asked) entry title (Some first, ask,
     some_same : (a b : ℕ) → Some a ≡ Some b → a ≡ b
     some_same a b e = cc
 
-module _ (p : Player) (thread reg q size : ℕ) (none : HasNone (register_at p thread reg)) (direct : IsDirectSize size) (mapped_to : Player) (i : ℕ)
+module _ (p : Player) (thread reg q size : ℕ) (none : HasNone (register_at p thread reg)) (direct : IsMapSize p.version size) (mapped_to : Player) (i : ℕ)
     (m : IsMapPlaced q (shape_of size).slot (shape_of size).supers p mapped_to i) (region partitions threads : ℕ) (ls : List Line)
     (can : CanGoOn region partitions threads ls (Do thread (ops.Alloc reg q size)) p) where
   abbrev h : IsPlaying region partitions threads ls p
@@ -143,7 +144,9 @@ module _ (p : Player) (thread reg q size : ℕ) (none : HasNone (register_at p t
   serves : (slot_at m.table i).title.len - 8 ≡ usable_of (rules_at p).version size
   serves = ap (λ (z : Slot). z.title.len - 8) slot_is ∙ ap (λ k. k - 8) (is_map.long ∙ sym (sizes_fit.direct (rules_at p).version size direct))
 
-  called : IsCalled region partitions n (played_at (rules_at p) ls thread (ops.Alloc reg q size) (answers.Made (seen_at m.table i) (usable_of (rules_at p).version size))) p.told.pools more (journals p) q (act ∷ []) (caches p thread) (caches p thread)
+  called : IsCalled region partitions n (played_at (rules_at p) ls thread (ops.Alloc reg q size)
+      (answers.Made (seen_at m.table i) (usable_of (rules_at p).version size))) p.told.pools more (journals p) q (act ∷ [])
+      (caches p thread) (caches p thread)
       m.after m.plan
   called =
       let x = played_at (rules_at p) ls thread (ops.Alloc reg q size) (answers.Made (seen_at m.table i) (usable_of (rules_at p).version size)) in
@@ -152,7 +155,8 @@ module _ (p : Player) (thread reg q size : ℕ) (none : HasNone (register_at p t
       (subst (λ z. MapDid (shape_of size).slot z m.plan (root_of p q) m.after m.placed) h.plan m.did) in
       let C : RootAct → Type 0 = λ a. IsCalled region partitions n x p.told.pools more (journals p) q (a ∷ []) (caches p thread) (caches p thread) m.after m.plan in
       subst C (ap (λ s. Map m.asked s (shape_of size).slot) place.1 ∙ ap (λ k. Map m.asked (name_of title) k) (sym is_map.long))
-      (map_is_done region partitions n q size (usable_of (rules_at p).version size) m.asked h.ps x p.told.pools (journals p) (caches p) (seen_at m.table i) title m.plan m.after m.placed h.placed refl refl (reg, refl, direct) inside did m.asks m.some (sym place.1))
+      (map_is_done region partitions n q size (usable_of (rules_at p).version size) m.asked h.ps x p.told.pools (journals p) (caches p)
+      (seen_at m.table i) title m.plan m.after m.placed h.placed refl refl (reg, refl, direct) inside did m.asks m.some (sym place.1))
 
   lets_out : LetsOut act (name_of title ∷ [])
   lets_out = record {
@@ -176,7 +180,7 @@ module _ (p : Player) (thread reg q size : ℕ) (none : HasNone (register_at p t
     | inr nothing ↦ absurd (not_in_none x nothing)
   ]
 
-  let_out : IsLetOut (grown (journals p) n (only_in q (act ∷ []))) new None
+  let_out : IsLetOut p.version (grown (journals p) n (only_in q (act ∷ []))) new None
   let_out = (
     record { line = n; act = act },
     m.asked,
@@ -221,7 +225,7 @@ module _ (p : Player) (thread reg q size : ℕ) (none : HasNone (register_at p t
       (subst (λ s. Contains (name_of title ∷ []) s) (sym place.1) (first_in (name_of title) []))
       (only_new (λ x. Contains (name_of title ∷ []) (name_of x.title)) (first_in (name_of title) []))
       (only_new (λ x. x.partition ≡ q) refl)
-      (only_new (λ x. IsLetOut (grown (journals p) n (only_in q (act ∷ []))) x x.class) let_out)
+      (only_new (λ x. IsLetOut p.version (grown (journals p) n (only_in q (act ∷ []))) x x.class) let_out)
       (only_new (λ x. (name_of x.title).born < length (p.told.pools ++ more))
       (let a = is_map.born in let b = next_entry in let c = length-append p.told.pools more in omega arith))
       (λ s among. elim (in_cases (name_of title) s [] among) [
@@ -243,7 +247,7 @@ module _ (p : Player) (thread reg q size : ℕ) (none : HasNone (register_at p t
       (sym (set_both m.table i 0 (stepped steps.Issue (slot_at m.table i).word.0) place.0)) made
 
 -- a direct map is made and issued
-pub map_plays : (p r : Player) (thread reg q size : ℕ) (answer : Answer) → HasNone (register_at p thread reg) → IsDirectSize size
+pub map_plays : (p r : Player) (thread reg q size : ℕ) (answer : Answer) → HasNone (register_at p thread reg) → IsMapSize p.version size
     → IsMapIssued thread reg q (shape_of size).slot (shape_of size).supers p r answer → Plays p thread (ops.Alloc reg q size) r answer
 map_plays p r thread reg q size answer none direct u region partitions threads ls can =
     let m = u.placed in
@@ -253,5 +257,7 @@ map_plays p r thread reg q size answer none direct u region partitions threads l
     let after : r ≡ issued thread reg u.place (base p thread reg q size none direct u.mapped u.place m region partitions threads ls can) = u.issued ∙ ap (issued thread reg u.place) m.acted in
     subst (λ a. PlaysAfter region partitions threads ls p thread (ops.Alloc reg q size) r a) (sym said)
     (subst (λ z. PlaysAfter region partitions threads ls p thread (ops.Alloc reg q size) z (answers.Made (seen_at m.table u.place) (usable_of (rules_at p).version size))) (sym after)
-    (playing_more region partitions threads ls p (issued thread reg u.place (base p thread reg q size none direct u.mapped u.place m region partitions threads ls can)) can.playing thread (ops.Alloc reg q size)
+    (playing_more region partitions threads ls p (issued thread reg u.place
+    (base p thread reg q size none direct u.mapped u.place m region partitions threads ls can)) can.playing thread
+    (ops.Alloc reg q size)
     (answers.Made (seen_at m.table u.place) (usable_of (rules_at p).version size)) can.short played))

@@ -93,8 +93,8 @@ module _ (region partitions threads : ℕ) (ls : List Line) (p q : Player) (h : 
       let made = pool_extends region (length ls + 2) p.told.pools m.more (journals p) m.acts h.pooled m.done.asks in
       subst (λ n. IsPooledTo region n q.told.pools (journals q)) next_line (told_then (λ pools roots. IsPooledTo region (length ls + 2 + 1) pools roots) made)
 
-  slots : AreAllSlots partitions q.table q.told.pools (journals q) (root_of q)
-  slots = told_then (λ pools roots. AreAllSlots partitions q.table pools roots (root_of q)) m.table.slots
+  slots : AreAllSlots q.version partitions q.table q.told.pools (journals q) (root_of q)
+  slots = told_then (λ pools roots. AreAllSlots q.version partitions q.table pools roots (root_of q)) m.table.slots
 
   entries : map entry_of (h.ps ++ x ∷ []) ≡ (answered thread answer q).told.entries
   entries =
@@ -120,7 +120,7 @@ module _ (region partitions threads : ℕ) (ls : List Line) (p q : Player) (h : 
     | inr new ↦
         let (i, at) = m.table.marked mark new in
         let here = slot_here q.table mark.slot i m.table.slots.apart at in
-        let sized = let_out_sized (journals q) (slot_at q.table i) (slot_at q.table i).class (slots.let_out i at.0) in
+        let sized = let_out_sized q.version (journals q) (slot_at q.table i) (slot_at q.table i).class (slots.let_out i at.0) in
         let named = subst (λ s. HasSize (journals q) (slot_at q.table i).partition s (slot_at q.table i).title.len) at.1 sized in
         subst (λ z. HasSize (journals q) z.partition mark.slot z.title.len) (sym here) named
   ]
@@ -148,7 +148,8 @@ module _ (region partitions threads : ℕ) (ls : List Line) (p q : Player) (h : 
       let old = h.tallied k low in
       record {
         is_live = rw (marks_push h.ps x) (left_more _ _ p.table q.table k (marks_of h.ps) (mark_of x) (tally_at p.live.of k) (tally_at q.live.of k) same_homes old.is_live (m.counts.live k low));
-        is_quarantined = rw (marks_push h.ps x) (left_more _ _ p.table q.table k (marks_of h.ps) (mark_of x) (tally_at p.quarantined.of k) (tally_at q.quarantined.of k) same_homes old.is_quarantined (m.counts.quarantined k low));
+        is_quarantined = rw (marks_push h.ps x) (left_more _ _ p.table q.table k (marks_of h.ps) (mark_of x) (tally_at p.quarantined.of k)
+            (tally_at q.quarantined.of k) same_homes old.is_quarantined (m.counts.quarantined k low));
         many = m.counts.many k low;
         bytes = m.counts.bytes k low;
       }
@@ -197,6 +198,7 @@ module _ (region partitions threads : ℕ) (ls : List Line) (p q : Player) (h : 
 
   tells_on : TellsOn (record_of p thread answer ∷ []) p (answered thread answer q)
   tells_on = record {
+    version = m.told.version;
     entries =
         let e : List Entry → ℕ → List Entry = λ es line. es ++ record { line = line; thread = thread; answer = answer } ∷ [] in
         ap (λ es. e es q.told.line) m.told.entries ∙ ap (e p.told.entries) m.told.line;

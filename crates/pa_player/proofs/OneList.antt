@@ -1,11 +1,15 @@
 -- The lists of the caches after one of them was changed.
-use Rattle.std.proofs.Common.{◌≡◌, ℕ, suc, ◌+◌, ◌*◌, ◌<◌, ◌≤◌, ◌⊎◌, inl, inr, List, [], map, length, refl, sym, ap, ◌∙◌, subst, arith}
+use Rattle.std.proofs.Common.{◌≡◌, ℕ, suc, ◌+◌, ◌-◌, ◌*◌, ◌<◌, ◌≤◌, ◌⊎◌, inl, inr, List, [], map, length, refl, sym, ap, ◌∙◌, subst, arith}
 use Rattle.std.proofs.Math.Nat.{mul-le-mul_right}
+use Rattle.std.proofs.lemmas.Nat.{mul-le}
 use Rattle.std.proofs.lemmas.Bool.{cases_eq, cases_lt, ne_eqb, eq-eqb, lt-ltb, le-ltb, and_left, and_right}
 use Rattle.std.proofs.lemmas.List.{get_or-set_same, get_or-set_other}
 use Rattle.std.specs.Prelude.{nat_lt}
+use Rattle.pa_buckets.specs.Limits.{first_class}
 use Rattle.pa_record.specs.declared.numbered.Numbered.{Numbered}
 use Rattle.pa_rules.specs.Caches.{Cache, Caches, with_list, with_cache}
+use Rattle.pa_rules.specs.Sizes.{HasClass, is_class, class_total}
+use Rattle.pa_rules.proofs.Versions.{class_cases, class_yes, class_no, class_among, class_row}
 use Rattle.pa_rules.proofs.Counted.{list_changed, list_of_another_class, list_of_another}
 use Rattle.pa_player.specs.Player.{Player}
 use Rattle.pa_player.specs.Playing.{numbered_at, list_place, list_at, caches}
@@ -22,34 +26,43 @@ same_row partitions t u q r low high e = elim (cases_eq t u) [
   ]
 ]
 
-row_class : (a b c d : ℕ) → c < 59 → d < 59 → a * 59 + c ≡ b * 59 + d → (a ≡ b) × (c ≡ d)
-row_class a b c d low high e = (omega (arith, low, high, e), omega (arith, low, high, e))
-
-pub same_place : (partitions t q class u k c : ℕ) → q < partitions → k < partitions → class < 59 → c < 59 → list_place partitions t q class ≡ list_place partitions u k c
-    → (t ≡ u) × (q ≡ k) × (class ≡ c)
-same_place partitions t q class u k c low high real within e =
-    let (rows, classes) = row_class (t * partitions + q) (u * partitions + k) class c real within e in
+pub same_place : (version partitions t q class u k c : ℕ) → q < partitions → k < partitions → HasClass version class → HasClass version c
+    → list_place version partitions t q class ≡ list_place version partitions u k c → (t ≡ u) × (q ≡ k) × (class ≡ c)
+same_place version partitions t q class u k c low high real within e =
+    let (rows, classes) = class_row version (t * partitions + q) (u * partitions + k) class c real within e in
     let (threads, partition) = same_row partitions t u q k low high rows in
     (threads, partition, classes)
 
+-- a place of one of so many rows
+row_below : (rows row total place : ℕ) → row < rows → place < total → row * total + place < rows * total
+row_below rows row total place low among = let more : suc row * total ≤ rows * total = mul-le-mul_right total low in omega arith
+
+-- a row of so few places begins early
+pub few_places : (t partitions q total : ℕ) → t < 16 → partitions ≤ 4 → q < partitions → total ≤ 111 → (t * partitions + q) * total ≤ 7104
+few_places t partitions q total few four low most =
+    let rows : t * partitions ≤ 15 * 4 = mul-le t partitions 15 4 (omega arith) four in
+    omega (arith, mul-le (t * partitions + q) total 64 111 (omega (arith, rows)) most)
+
 -- a list is among all
-pub place_below : (partitions threads t q class : ℕ) → t < threads → q < partitions → class < 59 → list_place partitions t q class < threads * partitions * 59
-place_below partitions threads t q class below low real =
+pub place_below : (version partitions threads t q class : ℕ) → t < threads → q < partitions → HasClass version class
+    → list_place version partitions t q class < threads * partitions * class_total version
+place_below version partitions threads t q class below low real =
     let more : suc t * partitions ≤ threads * partitions = mul-le-mul_right partitions below in
-    omega arith
+    let row : t * partitions + q < threads * partitions = omega arith in
+    row_below (threads * partitions) (t * partitions + q) (class_total version) (class - first_class version) row (class_among version class real)
 
 -- ---- what the lists have
 
-pub caches_here : (p : Player) (u k c : ℕ) → k < p.partitions → c < 59 → caches p u k c ≡ map (numbered_at p.table) (list_at p u k c)
-caches_here p u k c inside real = rw (lt-ltb k p.partitions inside, lt-ltb c 59 real) refl
+pub caches_here : (p : Player) (u k c : ℕ) → k < p.partitions → HasClass p.version c → caches p u k c ≡ map (numbered_at p.table) (list_at p u k c)
+caches_here p u k c inside real = rw (lt-ltb k p.partitions inside, class_yes p.version c real) refl
 
-pub caches_none : (p : Player) (u k c : ℕ) → (k < p.partitions → c < 59 → ⊥) → caches p u k c ≡ []
+pub caches_none : (p : Player) (u k c : ℕ) → (k < p.partitions → HasClass p.version c → ⊥) → caches p u k c ≡ []
 caches_none p u k c out = elim (cases_lt k p.partitions) [
-  | inl inside ↦ elim (cases_lt c 59) [
+  | inl inside ↦ elim (class_cases p.version c) [
     | inl real ↦ absurd (out inside real)
-    | inr past ↦ rw (and_right (nat_lt k p.partitions) (nat_lt c 59) (le-ltb c 59 past)) refl
+    | inr none ↦ rw (and_right (nat_lt k p.partitions) (is_class p.version c) (class_no p.version c none)) refl
   ]
-  | inr past ↦ rw (and_left (nat_lt k p.partitions) (nat_lt c 59) (le-ltb k p.partitions past)) refl
+  | inr past ↦ rw (and_left (nat_lt k p.partitions) (is_class p.version c) (le-ltb k p.partitions past)) refl
 ]
 
 -- a thread's lists were changed
@@ -89,10 +102,10 @@ with_other all t q class xs u k c other = elim (cases_eq u t) [
 ]
 
 -- one list was set
-pub caches_listed : (p : Player) (t q class : ℕ) (xs : List ℕ) → q < p.partitions → class < 59 → list_place p.partitions t q class < length p.caches → (u k c : ℕ)
-    → caches (listed (list_place p.partitions t q class) xs p) u k c ≡ with_cache (caches p) t (with_list (caches p t) q class (map (numbered_at p.table) xs)) u k c
+pub caches_listed : (p : Player) (t q class : ℕ) (xs : List ℕ) → q < p.partitions → HasClass p.version class → list_place p.version p.partitions t q class < length p.caches → (u k c : ℕ)
+    → caches (listed (list_place p.version p.partitions t q class) xs p) u k c ≡ with_cache (caches p) t (with_list (caches p t) q class (map (numbered_at p.table) xs)) u k c
 caches_listed p t q class xs low real room u k c =
-    let at = list_place p.partitions t q class in
+    let at = list_place p.version p.partitions t q class in
     let new = map (numbered_at p.table) xs in
     let next = with_list (caches p t) q class new in
     elim (list_cases t q class u k c) [
@@ -104,18 +117,21 @@ caches_listed p t q class xs low real room u k c =
       | inr other ↦ kept other ∙ sym (with_other (caches p) t q class new u k c other)
     ]
   where
-    kept : IsOther t q class u k c → caches (listed (list_place p.partitions t q class) xs p) u k c ≡ caches p u k c
+    kept : IsOther t q class u k c → caches (listed (list_place p.version p.partitions t q class) xs p) u k c ≡ caches p u k c
     kept other = elim (cases_lt k p.partitions) [
-      | inl inside ↦ elim (cases_lt c 59) [
+      | inl inside ↦ elim (class_cases p.version c) [
         | inl within ↦
-            let at = list_place p.partitions t q class in
-            let apart : list_place p.partitions u k c ≡ at → ⊥ = λ e. let (x, y, z) = same_place p.partitions u k c t q class inside low within real e in other x y z in
-            caches_here (listed at xs p) u k c inside within ∙ ap (map (numbered_at p.table)) (get_or-set_other p.caches at (list_place p.partitions u k c) xs [] apart) ∙ sym (caches_here p u k c inside within)
-        | inr past ↦ caches_none (listed (list_place p.partitions t q class) xs p) u k c (λ _ b. omega arith) ∙ sym (caches_none p u k c (λ _ b. omega arith))
+            let at = list_place p.version p.partitions t q class in
+            let apart : list_place p.version p.partitions u k c ≡ at → ⊥ = λ e. let (x, y, z) = same_place p.version p.partitions u k c t q class inside low within real e in other x y z in
+            caches_here (listed at xs p) u k c inside within ∙ ap (map (numbered_at p.table))
+            (get_or-set_other p.caches at (list_place p.version p.partitions u k c) xs [] apart)
+            ∙ sym (caches_here p u k c inside within)
+        | inr none ↦ caches_none (listed (list_place p.version p.partitions t q class) xs p) u k c (λ _ b. none b) ∙ sym (caches_none p u k c (λ _ b. none b))
       ]
-      | inr past ↦ caches_none (listed (list_place p.partitions t q class) xs p) u k c (λ a _. omega arith) ∙ sym (caches_none p u k c (λ a _. omega arith))
+      | inr past ↦ caches_none (listed (list_place p.version p.partitions t q class) xs p) u k c (λ a _. omega arith) ∙ sym (caches_none p u k c (λ a _. omega arith))
     ]
 
 -- a list by its place
-pub list_by_place : (p : Player) (t q class : ℕ) → q < p.partitions → class < 59 → caches p t q class ≡ map (numbered_at p.table) (list_in p (list_place p.partitions t q class))
+pub list_by_place : (p : Player) (t q class : ℕ) → q < p.partitions → HasClass p.version class
+    → caches p t q class ≡ map (numbered_at p.table) (list_in p (list_place p.version p.partitions t q class))
 list_by_place p t q class low real = caches_here p t q class low real

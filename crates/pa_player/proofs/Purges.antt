@@ -21,6 +21,8 @@ use Rattle.pa_player.proofs.Shaping.{shaped_listed, shaped_cached, shaped_told, 
 use Rattle.pa_player.proofs.Changing.{AreCounted, retallied_set, counted_changed, list_within}
 use Rattle.pa_player.proofs.Returning.{IsBackIn, gave_back_in}
 use Rattle.pa_player.proofs.Spilling.{bytes_alike}
+use Rattle.pa_rules.proofs.Versions.{real_in}
+use Rattle.pa_rules.specs.Sizes.{HasClass}
 
 -- What gives back leaves as it is, and what holds of the lists then.
 pub record IsGiving (partitions threads : ℕ) (p m : Player) : Type 0 where
@@ -29,6 +31,7 @@ pub record IsGiving (partitions threads : ℕ) (p m : Player) : Type 0 where
   pub cells : m.cells ≡ p.cells
   pub live : m.live ≡ p.live
   pub quarantined : m.quarantined ≡ p.quarantined
+  pub version : m.version ≡ p.version
   pub phase : m.phase ≡ p.phase
   pub many : m.partitions ≡ p.partitions
   pub entries : m.told.entries ≡ p.told.entries
@@ -42,7 +45,7 @@ pub record IsGiving (partitions threads : ℕ) (p m : Player) : Type 0 where
 
 -- each slot of a list has the length of its class
 abbrev pub AreLong : ℕ → ℕ → Player → Type 0
-AreLong partitions threads p = (t q class i : ℕ) → t < threads → q < partitions → class < 59 → Contains (list_at p t q class) i → (slot_at p.table i).title.len ≡ slot_of class
+AreLong partitions threads p = (t q class i : ℕ) → t < threads → q < partitions → HasClass p.version class → Contains (list_at p t q class) i → (slot_at p.table i).title.len ≡ slot_of class
 
 -- One list of a thread went back: the player was m, and is r.
 pub record IsListGiven (partitions threads thread q class : ℕ) (m r : Player) : Type 0 where
@@ -51,10 +54,10 @@ pub record IsListGiven (partitions threads thread q class : ℕ) (m r : Player) 
   pub lists : (t k c : ℕ) → caches r t k c ≡ with_cache (caches m) thread (with_list (caches m thread) q class []) t k c
   pub long : AreLong partitions threads r
 
-module _ (partitions threads thread q class : ℕ) (m : Player) (below : thread < threads) (low : q < partitions) (real : class < 59) (shaped : AreShaped partitions threads m)
+module _ (partitions threads thread q class : ℕ) (m : Player) (below : thread < threads) (low : q < partitions) (real : HasClass m.version class) (shaped : AreShaped partitions threads m)
     (counted : AreCounted partitions threads m) (long : AreLong partitions threads m) where
   abbrev at : ℕ
-  at = list_place m.partitions thread q class
+  at = list_place m.version m.partitions thread q class
 
   abbrev list : List ℕ
   list = list_in m at
@@ -67,8 +70,8 @@ module _ (partitions threads thread q class : ℕ) (m : Player) (below : thread 
 
   room : at < length m.caches
   room =
-      subst (λ z. list_place z thread q class < length m.caches) (sym shaped.many)
-      (let b = place_below partitions threads thread q class below low real in let c = shaped.lists in omega arith)
+      subst (λ z. list_place m.version z thread q class < length m.caches) (sym shaped.many)
+      (let b = place_below m.version partitions threads thread q class below low real in let c = shaped.lists in omega arith)
 
   cached_is : caches m thread q class ≡ map (numbered_at m.table) list
   cached_is = caches_here m thread q class inner real
@@ -80,6 +83,7 @@ module _ (partitions threads thread q class : ℕ) (m : Player) (below : thread 
         entries = refl;
         report = refl;
         line = refl;
+        version = refl;
         phase = refl;
         pools = refl;
         histories = refl;
@@ -95,7 +99,7 @@ module _ (partitions threads thread q class : ℕ) (m : Player) (below : thread 
 
   tallies : (length list ≤ (tally_at m.cached.of q).slots) × (slot_of class * length list ≤ (tally_at m.cached.of q).bytes)
   tallies =
-      let within = list_within (caches m) threads thread q class below real in
+      let within = list_within (caches m) threads thread q class below (real_in m.version class real) in
       let e : length (caches m thread q class) ≡ length list = ap length cached_is ∙ length-map list (numbered_at m.table) in
       let f : slot_of class * length (caches m thread q class) ≡ slot_of class * length list = ap (λ k. slot_of class * k) e in
       let a = counted.many q low in
@@ -110,7 +114,7 @@ module _ (partitions threads thread q class : ℕ) (m : Player) (below : thread 
       let g = mul-zero (slot_of class) in
       let a = tallies.0 in
       let b = tallies.1 in
-      counted_changed partitions threads thread q class m after [] below real counted given_lists
+      counted_changed partitions threads thread q class m after [] below (real_in m.version class real) counted given_lists
       (retallied_set q (length (caches m thread q class)) 0 (slot_of class * length (caches m thread q class)) (slot_of class * 0) m.cached.of
       (record { slots = (tally_at m.cached.of q).slots - length list; bytes = (tally_at m.cached.of q).bytes - bytes_at m.table list })
       (let c = shaped.cached in let d = shaped.four in omega arith) (omega arith) (omega arith))
@@ -125,14 +129,14 @@ module _ (partitions threads thread q class : ℕ) (m : Player) (below : thread 
       shaped_heap partitions threads (record p2 { told = after.told }) s3 after.heap.pool after.heap.roots (length-set m.heap.roots q _)
 
   given_long : AreLong partitions threads after
-  given_long t k c i below' low' real' among = elim (cases_eq (list_place m.partitions t k c) at) [
+  given_long t k c i below' low' real' among = elim (cases_eq (list_place m.version m.partitions t k c) at) [
     | inl e ↦
         let gone : list_at after t k c ≡ [] = ap (λ z. list_in after z) e ∙ get_or-set_same m.caches at [] [] room in
         absurd (not_in_none i (subst (λ z. Contains z i) gone among))
-    | inr ne ↦ long t k c i below' low' real' (subst (λ z. Contains z i) (get_or-set_other m.caches at (list_place m.partitions t k c) [] [] ne) among)
+    | inr ne ↦ long t k c i below' low' real' (subst (λ z. Contains z i) (get_or-set_other m.caches at (list_place m.version m.partitions t k c) [] [] ne) among)
   ]
 
-  pub list_given : IsListGiven partitions threads thread q class m (given q (list_place m.partitions thread q class) 0 m)
+  pub list_given : IsListGiven partitions threads thread q class m (given q (list_place m.version m.partitions thread q class) 0 m)
   list_given = record {
     giving = record {
       table = refl;
@@ -140,6 +144,7 @@ module _ (partitions threads thread q class : ℕ) (m : Player) (below : thread 
       cells = refl;
       live = refl;
       quarantined = refl;
+      version = refl;
       phase = refl;
       many = refl;
       entries = refl;
@@ -184,6 +189,7 @@ giving_then partitions threads a b c h g = record {
   cells = g.cells ∙ h.cells;
   live = g.live ∙ h.live;
   quarantined = g.quarantined ∙ h.quarantined;
+  version = g.version ∙ h.version;
   phase = g.phase ∙ h.phase;
   many = g.many ∙ h.many;
   entries = g.entries ∙ h.entries;

@@ -44,7 +44,8 @@ numbered_more : (slots news : List Slot) (i : ℕ) → i < length slots → numb
 numbered_more slots news i low = ap (λ (z : Slot). numbered_at (z ∷ []) 0) (get_or_append_left slots news no_slot i low)
 
 -- what came after the others when one title got its home
-home_news : (before after : List Slot) (new : Slot) (place : ℕ) → IsHome before after new place → (news : List Slot) × (after ≡ before ++ news) × (length news ≤ 1) × ((x : Slot) → Contains news x → x ≡ new)
+home_news : (before after : List Slot) (new : Slot) (place : ℕ) → IsHome before after new place → (news : List Slot)
+    × (after ≡ before ++ news) × (length news ≤ 1) × ((x : Slot) → Contains news x → x ≡ new)
 home_news before after new place (inl h) = ([], h.0 ∙ sym (append-nil before), omega arith, λ x among. absurd (not_in_none x among))
 home_news before after new place (inr h) = (new ∷ [], h.0, omega arith, λ x among. elim (in_cases new x [] among) [ inl e ↦ sym e | inr none ↦ absurd (not_in_none x none) ])
 

@@ -52,6 +52,7 @@ pub record IsStill (p q : Player) : Type 0 where
   pub entries : q.told.entries ≡ p.told.entries
   pub report : q.told.report ≡ p.told.report
   pub line : q.told.line ≡ p.told.line
+  pub version : q.version ≡ p.version
   pub phase : q.phase ≡ p.phase
   pub pools : q.told.pools ≡ p.told.pools
   pub journals : q.told.journals ≡ p.told.journals
@@ -70,7 +71,7 @@ pub record IsQuiet (region partitions threads : ℕ) (ls : List Line) (p q : Pla
   pub still : IsStill p q
   pub keeps : KeepsSlots p.table q.table
   pub few : length q.table ≤ length p.table + 8
-  pub slots : AreAllSlots partitions q.table p.told.pools (journals p) (root_of p)
+  pub slots : AreAllSlots q.version partitions q.table p.told.pools (journals p) (root_of p)
   pub shaped : AreShaped partitions threads q
   pub marked : (m : Mark) → mark_of (played_at after.rules ls thread op answer) ≡ Some m → (i : ℕ) × IsPlaceOf q.table m.slot i
   pub counts : CountsMore partitions threads p q (mark_of (played_at after.rules ls thread op answer))
@@ -88,6 +89,7 @@ module _ (region partitions threads : ℕ) (ls : List Line) (p q : Player) (h : 
     entries = m.still.entries;
     report = m.still.report;
     line = m.still.line;
+    version = m.still.version;
     phase = m.still.phase;
     pools = m.still.pools ∙ sym (append-nil p.told.pools);
     journals = λ k. ap (λ js. journal_at js k) m.still.journals ∙ sym (append-nil (journals p k));
@@ -105,10 +107,10 @@ module _ (region partitions threads : ℕ) (ls : List Line) (p q : Player) (h : 
         subst (λ plan. IsBornBelow plan.entries (root_of q k)) (sym m.still.pool) (subst (λ r. IsBornBelow p.heap.pool.entries r) (sym (m.still.roots k)) (h.bounded.born k));
   }
 
-  quiet_slots : AreAllSlots partitions q.table (p.told.pools ++ []) (grown (journals p) (length ls + 2) no_acts) (root_of q)
+  quiet_slots : AreAllSlots q.version partitions q.table (p.told.pools ++ []) (grown (journals p) (length ls + 2) no_acts) (root_of q)
   quiet_slots =
       let R : root_of q ≡ root_of p = fun_ext m.still.roots in
-      no_more (λ pools roots. AreAllSlots partitions q.table pools roots (root_of q)) (subst (λ z. AreAllSlots partitions q.table p.told.pools (journals p) z) (sym R) m.slots)
+      no_more (λ pools roots. AreAllSlots q.version partitions q.table pools roots (root_of q)) (subst (λ z. AreAllSlots q.version partitions q.table p.told.pools (journals p) z) (sym R) m.slots)
 
   pub quiet_played : IsPlayed region partitions threads ls p q h thread op answer
   quiet_played = record {
@@ -130,7 +132,8 @@ pub quiet_plays : (p : Player) (thread : ℕ) (op : Op) (q : Player) (answer : A
     → ((region partitions threads : ℕ) (ls : List Line) (can : CanGoOn region partitions threads ls (Do thread op) p) → IsQuiet region partitions threads ls p q can.playing thread op answer)
     → Plays p thread op q answer
 quiet_plays p thread op q answer m region partitions threads ls can =
-    playing_more region partitions threads ls p q can.playing thread op answer can.short (quiet_played region partitions threads ls p q can.playing thread op answer (m region partitions threads ls can))
+    playing_more region partitions threads ls p q can.playing thread op answer can.short
+    (quiet_played region partitions threads ls p q can.playing thread op answer (m region partitions threads ls can))
 
 -- ---- marks that no tally counts
 
@@ -153,9 +156,11 @@ tally_still into out slots k o t a b = record {
 pub counts_still : (region partitions threads : ℕ) (ls : List Line) (p q : Player) (o : Option Mark) → IsPlaying region partitions threads ls p → AddsNone o
     → q.live ≡ p.live → q.quarantined ≡ p.quarantined → q.cached ≡ p.cached → ((t k class : ℕ) → caches q t k class ≡ caches p t k class) → CountsMore partitions threads p q o
 counts_still region partitions threads ls p q o h adds live quarantined cached same = record {
-  live = λ k low. subst (λ ts. IsTallyMore issues frees q.table k o (tally_at p.live.of k) (tally_at ts.of k)) (sym live) (tally_still issues frees q.table k o (tally_at p.live.of k) adds.issued adds.freed);
+  live = λ k low. subst (λ ts. IsTallyMore issues frees q.table k o (tally_at p.live.of k) (tally_at ts.of k)) (sym live)
+      (tally_still issues frees q.table k o (tally_at p.live.of k) adds.issued adds.freed);
   quarantined = λ k low.
-      subst (λ ts. IsTallyMore enters leaves q.table k o (tally_at p.quarantined.of k) (tally_at ts.of k)) (sym quarantined) (tally_still enters leaves q.table k o (tally_at p.quarantined.of k) adds.entered adds.left);
+      subst (λ ts. IsTallyMore enters leaves q.table k o (tally_at p.quarantined.of k) (tally_at ts.of k)) (sym quarantined)
+      (tally_still enters leaves q.table k o (tally_at p.quarantined.of k) adds.entered adds.left);
   many = λ k low. ap (λ ts. (tally_at ts.of k).slots) cached ∙ (h.tallied k low).many ∙ sym (cached_slots_same (caches p) (caches q) threads k same);
   bytes = λ k low. ap (λ ts. (tally_at ts.of k).bytes) cached ∙ (h.tallied k low).bytes ∙ sym (cached_bytes_same (caches p) (caches q) threads k same);
 }
@@ -176,6 +181,7 @@ still_same p = record {
   entries = refl;
   report = refl;
   line = refl;
+  version = refl;
   phase = refl;
   pools = refl;
   journals = refl;
@@ -219,7 +225,8 @@ none_not_some m e = cc
 
 -- an answer that reports no slot, without an act
 pub none_plays_by : (p : Player) (thread : ℕ) (op : Op) (answer : Answer) → TellsNone answer → KeepsLists op answer → ((cell reg : ℕ) → op ≡ ops.Swap cell reg → ⊥)
-    → ((region partitions threads : ℕ) (ls : List Line) → IsPlaying region partitions threads ls p → Row (facts_of (rules_at p).version (shown p).usable (shown p).cells) op ((shown p).regs thread) answer ((shown p).regs thread))
+    → ((region partitions threads : ℕ) (ls : List Line) → IsPlaying region partitions threads ls p
+    → Row (facts_of (rules_at p).version (shown p).usable (shown p).cells) op ((shown p).regs thread) answer ((shown p).regs thread))
     → Plays p thread op p answer
 none_plays_by p thread op answer none keeps other row = quiet_plays p thread op p answer (λ region partitions threads ls can.
     let silent = none_mark (length ls + 2) op answer none in

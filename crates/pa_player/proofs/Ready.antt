@@ -3,8 +3,9 @@ use Rattle.std.proofs.Common.{◌≡◌, ℕ, ◌+◌, ◌<◌, max, List, lengt
 use Rattle.pa_slot.specs.declared.word.Step.TheVariants as steps
 use Rattle.pa_slot.specs.Count.{stepped}
 use Rattle.pa_slot.specs.Run.{IsReturning}
-use Rattle.pa_buckets.specs.Classes.{IsClassOf}
-use Rattle.pa_direct.specs.Shapes.{shape_of, IsDirectSize}
+use Rattle.pa_buckets.specs.Classes.{IsClassIn}
+use Rattle.pa_direct.specs.Shapes.{shape_of}
+use Rattle.pa_rules.specs.Sizes.{IsMapSize}
 use Rattle.pa_trace.specs.declared.script.Op.{Op}
 use Rattle.pa_trace.specs.declared.script.Op.TheVariants as ops
 use Rattle.pa_trace.specs.declared.script.Line.{Line}
@@ -109,10 +110,10 @@ read_ready p thread reg word i ready points = record {
   long = (length_of ready.region ready.partitions ready.threads ready.ls p ready.can.playing i (place_ready p (Do thread (ops.Read reg word)) thread reg i ready points)).least;
 }
 
-pub slot_ready : (p : Player) (thread reg q size class : ℕ) → IsReady (Do thread (ops.Alloc reg q size)) p → IsClassOf (max size 1 + 8) class → CanAllocateSlot thread reg q class p
+pub slot_ready : (p : Player) (thread reg q size class : ℕ) → IsReady (Do thread (ops.Alloc reg q size)) p → IsClassIn p.version (max size 1 + 8) class → CanAllocateSlot thread reg q class p
 slot_ready p thread reg q size class ready of = can_slot ready.region ready.partitions ready.threads ready.ls p thread reg q size ready.can class of
 
-pub map_ready : (p : Player) (thread reg q size : ℕ) → IsReady (Do thread (ops.Alloc reg q size)) p → IsDirectSize size
+pub map_ready : (p : Player) (thread reg q size : ℕ) → IsReady (Do thread (ops.Alloc reg q size)) p → IsMapSize p.version size
     → CanAllocateMap thread reg q (shape_of size).slot (shape_of size).supers p
 map_ready p thread reg q size ready direct = can_map ready.region ready.partitions ready.threads ready.ls p thread reg q size ready.can direct
 

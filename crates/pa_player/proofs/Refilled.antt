@@ -7,7 +7,7 @@ use Rattle.pa_slot.specs.declared.title.Title.{Title}
 use Rattle.pa_slot.specs.Count.{number_of}
 use Rattle.pa_buckets.specs.Table.{slot_of}
 use Rattle.pa_buckets.specs.Bands.{fill_of}
-use Rattle.pa_buckets.specs.Classes.{IsClassOf}
+use Rattle.pa_buckets.specs.Classes.{IsClassIn}
 use Rattle.pa_trace.specs.declared.script.Op.TheVariants as ops
 use Rattle.pa_trace.specs.declared.script.Line.{Line}
 use Rattle.pa_trace.specs.declared.script.Line.TheVariants.{Do}
@@ -42,15 +42,16 @@ use Rattle.pa_player.proofs.Grown.{IsGrown, old_at, keeps_grown, new_at}
 use Rattle.pa_player.proofs.Puts.{IsPutIn, put_in}
 use Rattle.pa_player.proofs.Filled.{IsFillOf, fill_of_root, asked_told}
 use Rattle.pa_player.proofs.FromRoot.{taken_free}
+use Rattle.pa_rules.proofs.Versions.{real_in}
 
 -- the first of some titles
 pub first_of : (ts : List Title) → (ts ≡ [] → ⊥) → (t : Title) × (others : List Title) × (ts ≡ t ∷ others)
 first_of [] some = absurd (some refl)
 first_of (t ∷ ts) some = (t, ts, refl)
 
-module _ (p : Player) (thread reg q size class : ℕ) (none : HasNone (register_at p thread reg)) (of : IsClassOf (max size 1 + 8) class) (filled : Player)
-    (empty : list_in p (list_place p.partitions thread q class) ≡ []) (f : IsFilled q (list_place p.partitions thread q class) class p filled) (i : ℕ) (rest : List ℕ)
-    (front : list_in filled (list_place p.partitions thread q class) ≡ i ∷ rest) (region partitions threads : ℕ) (ls : List Line)
+module _ (p : Player) (thread reg q size class : ℕ) (none : HasNone (register_at p thread reg)) (of : IsClassIn p.version (max size 1 + 8) class) (filled : Player)
+    (empty : list_in p (list_place p.version p.partitions thread q class) ≡ []) (f : IsFilled q (list_place p.version p.partitions thread q class) class p filled) (i : ℕ) (rest : List ℕ)
+    (front : list_in filled (list_place p.version p.partitions thread q class) ≡ i ∷ rest) (region partitions threads : ℕ) (ls : List Line)
     (can : CanGoOn region partitions threads ls (Do thread (ops.Alloc reg q size)) p) where
   abbrev pub h : IsPlaying region partitions threads ls p
   h = can.playing
@@ -59,7 +60,7 @@ module _ (p : Player) (thread reg q size class : ℕ) (none : HasNone (register_
   n = length ls + 2
 
   abbrev pub at : ℕ
-  at = list_place p.partitions thread q class
+  at = list_place p.version p.partitions thread q class
 
   abbrev pub titles : List Title
   titles = f.placed.titles.items
@@ -85,13 +86,13 @@ module _ (p : Player) (thread reg q size class : ℕ) (none : HasNone (register_
 
   pub room : at < length p.caches
   room =
-      subst (λ z. list_place z thread q class < length p.caches) (sym h.shaped.many)
-      (let b = place_below partitions threads thread q class can.within.0 inside of.real in let c = h.shaped.lists in omega arith)
+      subst (λ z. list_place p.version z thread q class < length p.caches) (sym h.shaped.many)
+      (let b = place_below p.version partitions threads thread q class can.within.0 inside (of.from, of.real) in let c = h.shaped.lists in omega arith)
 
   pub taken : IsFillOf class (fill_of class) (root_of p q) f.after titles
   taken =
       fill_of_root class (fill_of class) p.heap.pool f.plan (root_of p q) f.after titles asked
-      (subst IsSound (sym (h.roots q)) (journal_leaves p.told.pools (journals p q) (h.placed.journals q)).sound) (h.bounded.born q) (omega (arith, of.real)) f.did
+      (subst IsSound (sym (h.roots q)) (journal_leaves p.told.pools (journals p q) (h.placed.journals q)).sound) (h.bounded.born q) (real_in p.version class (of.from, of.real)) f.did
 
   puts : ArePut q at class titles base f.put f.slots
   puts = subst (λ z. ArePut q at class titles z f.put f.slots) (asked_told q 1 titles asked (placed_in q f.after f.plan p)) f.puts
@@ -132,7 +133,7 @@ module _ (p : Player) (thread reg q size class : ℕ) (none : HasNone (register_
         map_in (λ (z : Numbered). z.slot) f.slots (numbered_at table j) (subst (λ z. Contains z (numbered_at table j)) (sym numbers) (map_in (numbered_at table) (i ∷ rest) j among))
 
     pub no_cached : caches p thread q class ≡ []
-    no_cached = caches_here p thread q class inner of.real ∙ ap (map (numbered_at p.table)) empty
+    no_cached = caches_here p thread q class inner (of.from, of.real) ∙ ap (map (numbered_at p.table)) empty
 
     did : FillDid class (fill_of class) (pool_at region p.told.pools) f.plan (root_at p.told.pools (journals p) q) f.after f.placed
     did =
@@ -160,7 +161,7 @@ module _ (p : Player) (thread reg q size class : ℕ) (none : HasNone (register_
       | inl old ↦
           let is = old_at p.table table u.news grown_by j old in
           let class_is : (slot_at p.table j).class ≡ Some class = ap (λ (z : Slot). z.class) (sym is) ∙ (kind_of j among).1 in
-          ap (λ (z : Slot). z.title.len) is ∙ (subst (λ c. IsLetOut (journals p) (slot_at p.table j) c) class_is (h.slots.let_out j old)).2
+          ap (λ (z : Slot). z.title.len) is ∙ (subst (λ c. IsLetOut p.version (journals p) (slot_at p.table j) c) class_is (h.slots.let_out j old)).2
       | inr past ↦
           let (t, member, e) = u.new_is (slot_at table j) (new_at p.table table u.news grown_by j past (low_of j among)) in
           ap (λ (z : Slot). z.title.len) e ∙ taken.len t member
@@ -195,8 +196,12 @@ module _ (p : Player) (thread reg q size class : ℕ) (none : HasNone (register_
         some_same : (a b : ℕ) → Some a ≡ Some b → a ≡ b
         some_same a b e = cc
 
-    pub called : IsCalled region partitions n (played_at (rules_at p) ls thread (ops.Alloc reg q size) (answers.Made (seen_at table i) (usable_of (rules_at p).version size))) p.told.pools more (journals p) q (act ∷ []) (caches p thread)
+    pub called : IsCalled region partitions n (played_at (rules_at p) ls thread (ops.Alloc reg q size)
+        (answers.Made (seen_at table i) (usable_of (rules_at p).version size))) p.told.pools more (journals p) q (act ∷ [])
+        (caches p thread)
         (with_list (caches p thread) q class (map (numbered_at table) rest)) f.after f.plan
     called =
-        fill_is_done region partitions n q class (usable_of (rules_at p).version size) h.ps (played_at (rules_at p) ls thread (ops.Alloc reg q size) (answers.Made (seen_at table i) (usable_of (rules_at p).version size))) p.told.pools (journals p) (caches p) (seen_at table i)
+        fill_is_done region partitions n q class (usable_of (rules_at p).version size) h.ps
+        (played_at (rules_at p) ls thread (ops.Alloc reg q size)
+        (answers.Made (seen_at table i) (usable_of (rules_at p).version size))) p.told.pools (journals p) (caches p) (seen_at table i)
         f.slots (map (numbered_at table) rest) f.plan f.after f.placed h.placed refl refl (reg, size, refl, of) inside no_cached did u.named has_numbers numbers

@@ -4,11 +4,11 @@ use Rattle.std.specs.Prelude.{Contains}
 use Rattle.std.proofs.lemmas.Bool.{cases_eq}
 use Rattle.pa_slot.specs.Run.{Mark}
 use Rattle.pa_buckets.specs.Bands.{fill_of}
-use Rattle.pa_direct.specs.Shapes.{shape_of, IsDirectSize}
+use Rattle.pa_direct.specs.Shapes.{shape_of}
 use Rattle.pa_trace.specs.declared.script.Op.TheVariants as ops
 use Rattle.pa_trace.specs.declared.script.Line.{Line}
 use Rattle.pa_trace.specs.declared.script.Line.TheVariants.{Do}
-use Rattle.pa_buckets.specs.Classes.{IsClassOf}
+use Rattle.pa_buckets.specs.Classes.{IsClassIn}
 use Rattle.pa_record.specs.declared.entry.Answer.TheVariants as answers
 use Rattle.pa_record.specs.declared.pool.PoolEntry.{PoolEntry}
 use Rattle.pa_record.specs.declared.pool.PoolAct.TheVariants as pool
@@ -49,6 +49,8 @@ use Rattle.pa_player.proofs.Shows.{TellsMore, HasHeap, IsPlayed}
 use Rattle.pa_player.proofs.Quiet.{can_play, cache_same, like_same, none_adds, AddsNone, counts_still}
 use Rattle.pa_player.proofs.More.{playing_more}
 use Rattle.pa_lists.proofs.Elements.{in_one}
+use Rattle.pa_rules.specs.Sizes.{HasClass}
+use Rattle.pa_rules.specs.Sizes.{IsMapSize}
 
 none_some : (m : Mark) → None ≡ Some m → ⊥
 none_some m e = cc
@@ -70,7 +72,8 @@ module _ (region partitions threads : ℕ) (ls : List Line) (p : Player) (thread
   abbrev final : Player
   final = acted q (Full class asked ∷ []) (pooled q (pool.Take count None) (placed_in q after plan p))
 
-  module _ (called : IsCalled region partitions n (played_at (rules_at p) ls thread (ops.Alloc reg q size) (answers.Full entry)) p.told.pools made (journals p) q (act ∷ []) (caches p thread) (caches p thread) after plan) where
+  module _ (called : IsCalled region partitions n (played_at (rules_at p) ls thread (ops.Alloc reg q size) (answers.Full entry))
+      p.told.pools made (journals p) q (act ∷ []) (caches p thread) (caches p thread) after plan) where
     low : q < partitions
     low = can.within.1.1
 
@@ -78,7 +81,8 @@ module _ (region partitions threads : ℕ) (ls : List Line) (p : Player) (thread
     same_root : after ≡ root_of p q
     same_root =
         sym called.root
-        ∙ line_replays.roots partitions n h.ps (played_at (rules_at p) ls thread (ops.Alloc reg q size) (answers.Full entry)) p.told.pools made (journals p) (only_in q (act ∷ [])) (caches p) (caches p thread) q
+        ∙ line_replays.roots partitions n h.ps (played_at (rules_at p) ls thread (ops.Alloc reg q size) (answers.Full entry)) p.told.pools
+        made (journals p) (only_in q (act ∷ [])) (caches p) (caches p thread) q
         h.placed called.done.deed
         ∙ ap (λ acts. root_after (p.told.pools ++ made) acts (root_at p.told.pools (journals p) q)) (only_here q (act ∷ []))
         ∙ sym (h.roots q)
@@ -107,6 +111,7 @@ module _ (region partitions threads : ℕ) (ls : List Line) (p : Player) (thread
       entries = refl;
       report = refl;
       line = refl;
+      version = refl;
       phase = refl;
       pools = ap (λ (line : ℕ). p.told.pools ++ record { line = line; partition = q; act = pool.Take count None } ∷ []) h.line;
       journals = λ k.
@@ -119,7 +124,8 @@ module _ (region partitions threads : ℕ) (ls : List Line) (p : Player) (thread
 
     heap_then : HasHeap region p final n made (only_in q (act ∷ []))
     heap_then =
-        heap_called region partitions n (played_at (rules_at p) ls thread (ops.Alloc reg q size) (answers.Full entry)) p final made q (act ∷ []) (caches p thread) (caches p thread) after plan called h.roots root_then roots_there refl
+        heap_called region partitions n (played_at (rules_at p) ls thread (ops.Alloc reg q size) (answers.Full entry)) p final made q
+        (act ∷ []) (caches p thread) (caches p thread) after plan called h.roots root_then roots_there refl
         (let e : after.turn ≡ (root_of p q).turn = ap (λ (r : Root). r.turn) same_root in omega arith)
         (let a = entries_then in let b = entries_here in omega arith)
         (subst (λ r. IsBornBelow plan.entries r) (sym same_root)
@@ -158,12 +164,14 @@ module _ (region partitions threads : ℕ) (ls : List Line) (p : Player) (thread
             (length-set p.told.journals q _) refl;
         marked = λ m e. absurd (none_some m (sym silent ∙ e));
       };
-      counts = counts_still region partitions threads ls p final (mark_of (played_at (rules_at p) ls thread (ops.Alloc reg q size) (answers.Full entry))) h (subst AddsNone (sym silent) none_adds) refl refl refl (λ t k c. refl);
+      counts = counts_still region partitions threads ls p final
+          (mark_of (played_at (rules_at p) ls thread (ops.Alloc reg q size) (answers.Full entry))) h
+          (subst AddsNone (sym silent) none_adds) refl refl refl (λ t k c. refl);
     }
 
 -- no room for a slot of a class, whose list is empty
-pub full_plays : (p r : Player) (thread reg q size class entry : ℕ) → HasNone (register_at p thread reg) → size ≤ 33521656 → IsClassOf (max size 1 + 8) class → class < 59
-    → list_in p (list_place p.partitions thread q class) ≡ [] → IsUnfilled q class p r entry → Plays p thread (ops.Alloc reg q size) r (answers.Full entry)
+pub full_plays : (p r : Player) (thread reg q size class entry : ℕ) → HasNone (register_at p thread reg) → size ≤ 33521656 → IsClassIn p.version (max size 1 + 8) class → HasClass p.version class
+    → list_in p (list_place p.version p.partitions thread q class) ≡ [] → IsUnfilled q class p r entry → Plays p thread (ops.Alloc reg q size) r (answers.Full entry)
 full_plays p r thread reg q size class entry none fits of real empty u region partitions threads ls can =
     let h = can.playing in
     let x = played_at (rules_at p) ls thread (ops.Alloc reg q size) (answers.Full entry) in
@@ -172,14 +180,15 @@ full_plays p r thread reg q size class entry none fits of real empty u region pa
     let did : FillDid class (fill_of class) (pool_at region p.told.pools) u.plan (root_at p.told.pools (journals p) q) u.after u.placed =
     subst (λ s. FillDid class (fill_of class) (pool_at region p.told.pools) u.plan s u.after u.placed) (h.roots q)
     (subst (λ z. FillDid class (fill_of class) z u.plan (root_of p q) u.after u.placed) h.plan u.did) in
-    let called = full_is_done region partitions (length ls + 2) q class u.asked entry h.ps x p.told.pools (journals p) (caches p) u.plan u.after u.placed h.placed refl refl u.told (reg, size, refl, of) can.within.1.1 no_list
+    let called = full_is_done region partitions (length ls + 2) q class u.asked entry h.ps x p.told.pools (journals p) (caches p) u.plan
+    u.after u.placed h.placed refl refl u.told (reg, size, refl, of) can.within.1.1 no_list
     did u.asks u.none in
     let played = refused_played region partitions threads ls p thread reg q size can none fits 1 u.asked entry (Some class) u.after u.plan called in
     playing_more region partitions threads ls p r can.playing thread (ops.Alloc reg q size) (answers.Full entry) can.short
     (subst (λ z. IsPlayed region partitions threads ls p z can.playing thread (ops.Alloc reg q size) (answers.Full entry)) (sym u.acted) played)
 
 -- no room for a direct map
-pub full_map_plays : (p r : Player) (thread reg q size entry : ℕ) → HasNone (register_at p thread reg) → IsDirectSize size
+pub full_map_plays : (p r : Player) (thread reg q size entry : ℕ) → HasNone (register_at p thread reg) → IsMapSize p.version size
     → IsMapRefused q (shape_of size).slot (shape_of size).supers p r entry → Plays p thread (ops.Alloc reg q size) r (answers.Full entry)
 full_map_plays p r thread reg q size entry none direct u region partitions threads ls can =
     let h = can.playing in
@@ -187,7 +196,8 @@ full_map_plays p r thread reg q size entry none direct u region partitions threa
     let did : MapDid (shape_of size).slot (pool_at region p.told.pools) u.plan (root_at p.told.pools (journals p) q) u.after u.placed =
     subst (λ s. MapDid (shape_of size).slot (pool_at region p.told.pools) u.plan s u.after u.placed) (h.roots q)
     (subst (λ z. MapDid (shape_of size).slot z u.plan (root_of p q) u.after u.placed) h.plan u.did) in
-    let called = full_map_is_done region partitions (length ls + 2) q size u.asked entry h.ps x p.told.pools (journals p) (caches p) u.plan u.after u.placed h.placed refl refl u.told (reg, refl, direct) can.within.1.1
+    let called = full_map_is_done region partitions (length ls + 2) q size u.asked entry h.ps x p.told.pools (journals p) (caches p)
+    u.plan u.after u.placed h.placed refl refl u.told (reg, refl, direct) can.within.1.1
     did u.asks u.none in
     let played = refused_played region partitions threads ls p thread reg q size can none direct.1 (shape_of size).supers u.asked entry None u.after u.plan called in
     playing_more region partitions threads ls p r can.playing thread (ops.Alloc reg q size) (answers.Full entry) can.short

@@ -63,7 +63,8 @@ module _ (p : Player) (thread reg i : ℕ) (own : register_at p thread reg ≡ O
       let shows = shows_step region partitions threads ls p i thread reg Freed freed (record { of = live }) p.quarantined h low can.within.0 can.within.1 tt same in
       let home = home_at p.table i freed h.slots.apart low same in
       let among = h.slots.among i low in
-      let registered_shape = shaped_registered partitions threads (record p { table = set p.table i freed }) (shaped_table partitions threads p h.shaped (set p.table i freed) keeps) thread reg Freed tt in
+      let registered_shape = shaped_registered partitions threads (record p { table = set p.table i freed })
+      (shaped_table partitions threads p h.shaped (set p.table i freed) keeps) thread reg Freed tt in
       let returning : IsReturning steps.Free x.word.0 = (step.0, none) in
       let idle = leaves_free steps.Free x.word.0 step returning in
       record {
@@ -87,10 +88,12 @@ module _ (p : Player) (thread reg i : ℕ) (own : register_at p thread reg ≡ O
         };
         shaped = shaped_live partitions threads (registered thread reg Freed (stepped_at steps.Free i p)) registered_shape live (length-set p.live.of x.partition _ ∙ h.shaped.live);
         live = λ k inside.
-            tally_out issues frees (set p.table i freed) k x.partition x.title.len seen.slot (Some (mark_at (length ls + 2) seen (Some steps.Free))) (tally_at p.live.of k) (tally_at live k) home.0 home.1
+            tally_out issues frees (set p.table i freed) k x.partition x.title.len seen.slot
+            (Some (mark_at (length ls + 2) seen (Some steps.Free))) (tally_at p.live.of k) (tally_at live k) home.0 home.1
             (λ w. refl) (λ w. refl) (tally_less x.partition 1 x.title.len k p.live.of (omega (arith, among, h.shaped.four, h.shaped.live)) some many);
         quarantined = λ k inside.
-            tally_still enters leaves (set p.table i freed) k (Some (mark_at (length ls + 2) seen (Some steps.Free))) (tally_at p.quarantined.of k) (free_enters_not (length ls + 2) seen none) (λ w. refl);
+            tally_still enters leaves (set p.table i freed) k (Some (mark_at (length ls + 2) seen (Some steps.Free)))
+            (tally_at p.quarantined.of k) (free_enters_not (length ls + 2) seen none) (λ w. refl);
       }
 
   pub free_return_plays : Plays p thread (ops.Free reg) (returned_at thread i p (freed_at thread reg i p)) (Done (seen_at p.table i))
@@ -134,7 +137,8 @@ module _ (p : Player) (thread reg i : ℕ) (ref : register_at p thread reg ≡ R
       let shows = shows_step region partitions threads ls p i thread reg Cleared left p.live (record { of = away }) h low can.within.0 can.within.1 tt same in
       let home = home_at p.table i left h.slots.apart low same in
       let among = h.slots.among i low in
-      let registered_shape = shaped_registered partitions threads (record p { table = set p.table i left }) (shaped_table partitions threads p h.shaped (set p.table i left) keeps) thread reg Cleared tt in
+      let registered_shape = shaped_registered partitions threads (record p { table = set p.table i left })
+      (shaped_table partitions threads p h.shaped (set p.table i left) keeps) thread reg Cleared tt in
       let idle = leaves_free steps.Reset x.word.0 step last in
       record {
         step = steps.Reset;
@@ -155,11 +159,13 @@ module _ (p : Player) (thread reg i : ℕ) (ref : register_at p thread reg ≡ R
           content = λ s is_held. content_stays p.table i left s h.slots.apart low same refl;
           usable = λ s stepped_on. shows.usable s;
         };
-        shaped = shaped_quarantined partitions threads (registered thread reg Cleared (stepped_at steps.Reset i p)) registered_shape away (length-set p.quarantined.of x.partition _ ∙ h.shaped.quarantined);
+        shaped = shaped_quarantined partitions threads (registered thread reg Cleared (stepped_at steps.Reset i p)) registered_shape away
+            (length-set p.quarantined.of x.partition _ ∙ h.shaped.quarantined);
         live = λ k inside.
             tally_still issues frees (set p.table i left) k (Some (mark_at (length ls + 2) seen (Some steps.Reset))) (tally_at p.live.of k) (λ w. refl) (λ w. refl);
         quarantined = λ k inside.
-            tally_out enters leaves (set p.table i left) k x.partition x.title.len seen.slot (Some (mark_at (length ls + 2) seen (Some steps.Reset))) (tally_at p.quarantined.of k) (tally_at away k) home.0 home.1
+            tally_out enters leaves (set p.table i left) k x.partition x.title.len seen.slot
+            (Some (mark_at (length ls + 2) seen (Some steps.Reset))) (tally_at p.quarantined.of k) (tally_at away k) home.0 home.1
             (λ w. refl) (reset_leaves (length ls + 2) seen last) (tally_less x.partition 1 x.title.len k p.quarantined.of (omega (arith, among, h.shaped.four, h.shaped.quarantined)) some many);
       }
 

@@ -9,7 +9,7 @@ use Rattle.pa_slot.specs.Count.{number_of, held_of, refs_of}
 use Rattle.pa_slot.specs.Run.{Mark, IsReturning}
 use Rattle.pa_buckets.specs.Table.{slot_of}
 use Rattle.pa_buckets.specs.Bands.{limit_of}
-use Rattle.pa_buckets.proofs.Facts.{IsRow_1-of}
+use Rattle.pa_buckets.proofs.Facts.{IsRow-of}
 use Rattle.pa_trace.specs.declared.script.Op.{Op}
 use Rattle.pa_trace.specs.declared.script.Line.{Line}
 use Rattle.pa_trace.specs.declared.script.Line.TheVariants.{Do}
@@ -58,6 +58,7 @@ use Rattle.pa_player.proofs.Backs.{AllComeBack, slots_back, gives_few, numbered_
 use Rattle.pa_player.proofs.Changing.{journals_acted, of_only, root_here, root_there, heap_called, caches_changed, other_list, this_list, AreCounted, IsRetallied, counted_changed}
 use Rattle.pa_player.proofs.Shows.{TellsMore, HasHeap, IsTallyMore, IsPlayed}
 use Rattle.pa_player.proofs.Stepping.{changed_at, in_table, in_use, lists_kept}
+use Rattle.pa_rules.proofs.Versions.{real_in}
 
 -- ---- slots that go back to a root
 
@@ -66,6 +67,7 @@ pub record IsBackIn (p m : Player) (n q : ℕ) (xs : List Numbered) : Type 0 whe
   pub entries : m.told.entries ≡ p.told.entries
   pub report : m.told.report ≡ p.told.report
   pub line : m.told.line ≡ p.told.line
+  pub version : m.version ≡ p.version
   pub phase : m.phase ≡ p.phase
   pub pools : m.told.pools ≡ p.told.pools
   pub histories : m.told.histories ≡ p.told.histories
@@ -82,6 +84,7 @@ gave_back_in p q ys low inside =
       entries = refl;
       report = refl;
       line = refl;
+      version = refl;
       phase = refl;
       pools = refl;
       histories = refl;
@@ -96,6 +99,7 @@ none_back p n q = record {
   entries = refl;
   report = refl;
   line = refl;
+  version = refl;
   phase = refl;
   pools = refl;
   histories = refl;
@@ -110,6 +114,7 @@ back_told p m n q xs few back = record {
   entries = back.entries;
   report = back.report;
   line = back.line;
+  version = back.version;
   phase = back.phase;
   pools = back.pools ∙ sym (append-nil p.told.pools);
   journals = back.journals;
@@ -151,8 +156,10 @@ pub record IsReturn (region partitions threads : ℕ) (ls : List Line) (p : Play
   pub turn : LeadsTo threads ls h.ps thread op (Done (seen_at p.table i)) after
   pub like : IsLike after (shown (changed_at p i y registers lives waits))
   pub shaped : AreShaped partitions threads (changed_at p i y registers lives waits)
-  pub live : (k : ℕ) → k < partitions → IsTallyMore issues frees (set p.table i y) k (mark_of (played_at after.rules ls thread op (Done (seen_at p.table i)))) (tally_at p.live.of k) (tally_at lives.of k)
-  pub quarantined : (k : ℕ) → k < partitions → IsTallyMore enters leaves (set p.table i y) k (mark_of (played_at after.rules ls thread op (Done (seen_at p.table i)))) (tally_at p.quarantined.of k) (tally_at waits.of k)
+  pub live : (k : ℕ) → k < partitions → IsTallyMore issues frees (set p.table i y) k
+      (mark_of (played_at after.rules ls thread op (Done (seen_at p.table i)))) (tally_at p.live.of k) (tally_at lives.of k)
+  pub quarantined : (k : ℕ) → k < partitions → IsTallyMore enters leaves (set p.table i y) k
+      (mark_of (played_at after.rules ls thread op (Done (seen_at p.table i)))) (tally_at p.quarantined.of k) (tally_at waits.of k)
 
 module _ (region partitions threads : ℕ) (ls : List Line) (p : Player) (thread : ℕ) (op : Op) (can : CanGoOn region partitions threads ls (Do thread op) p)
     (reg i : ℕ) (small : reg < 64) (points : Points (register_at p thread reg) i) (y : Slot) (registers : List (List (Register ℕ))) (lives waits : Tallies)
@@ -202,7 +209,7 @@ module _ (region partitions threads : ℕ) (ls : List Line) (p : Player) (thread
       ∙ ap (λ k. record { slot = named_at p.table i; number = k }) r.number
 
   -- the slots with the step made, before any goes back
-  pub stepped_slots : AreAllSlots partitions table p.told.pools (journals p) (root_of p)
+  pub stepped_slots : AreAllSlots p.version partitions table p.told.pools (journals p) (root_of p)
   stepped_slots =
       all_slots_set partitions p.table p.told.pools (journals p) (root_of p) i y h.slots inside r.same (used_away region partitions threads ls p h i inside used).none
       (idle_mapped (root_of p home) y y.class r.idle)
@@ -219,8 +226,8 @@ module _ (region partitions threads : ℕ) (ls : List Line) (p : Player) (thread
   -- ---- a slot of a class
 
   module _ (class : ℕ) (is_class : (slot_at p.table i).class ≡ Some class) where
-    pub of_class : IsLetOut (journals p) (slot_at p.table i) (Some class)
-    of_class = subst (λ c. IsLetOut (journals p) (slot_at p.table i) c) is_class (h.slots.let_out i inside)
+    pub of_class : IsLetOut p.version (journals p) (slot_at p.table i) (Some class)
+    of_class = subst (λ c. IsLetOut p.version (journals p) (slot_at p.table i) c) is_class (h.slots.let_out i inside)
 
     abbrev pub old : List ℕ
     old = list_at p thread home class
@@ -254,7 +261,7 @@ module _ (region partitions threads : ℕ) (ls : List Line) (p : Player) (thread
     pub len_old : (j : ℕ) → Contains (i ∷ old) j → (slot_at table j).title.len ≡ slot_of class
     len_old j among =
         let a = among_old j among in
-        (subst (λ c. IsLetOut (journals p) (slot_at table j) c) a.2 (stepped_slots.let_out j a.0)).2
+        (subst (λ c. IsLetOut p.version (journals p) (slot_at table j) c) a.2 (stepped_slots.let_out j a.0)).2
 
     -- What stays of the list and what goes back, and the player final.
     module _ (stays back : List ℕ) (heap : Heap) (told : Lists) (lists : List (List ℕ)) (cached : Tallies)
@@ -263,7 +270,7 @@ module _ (region partitions threads : ℕ) (ls : List Line) (p : Player) (thread
         (back_is : map (numbered_at table) back ≡ spilled class (map (numbered_at table) (i ∷ old)))
         (stays_of : (j : ℕ) → Contains stays j → Contains (i ∷ old) j) (back_of : (j : ℕ) → Contains back j → Contains (i ∷ old) j)
         (short : length stays ≤ limit_of class) (parts : length stays + length back ≡ length old + 1)
-        (set_lists : lists ≡ set p.caches (list_place p.partitions thread home class) stays)
+        (set_lists : lists ≡ set p.caches (list_place p.version p.partitions thread home class) stays)
         (retallied : IsRetallied home (length (caches p thread home class)) (length (map (numbered_at table) stays)) (slot_of class * length (caches p thread home class))
         (slot_of class * length (map (numbered_at table) stays)) p.cached.of cached.of)
         (four : length cached.of ≡ 4) (many_journals : length told.journals ≡ length p.told.journals) (many_roots : length heap.roots ≡ length p.heap.roots) where
@@ -307,7 +314,7 @@ module _ (region partitions threads : ℕ) (ls : List Line) (p : Player) (thread
       few_gone =
           let a = length-map back (numbered_at table) in
           let b = h.shaped.short thread home class below low of_class.0 in
-          let c = (IsRow_1-of class of_class.0).few_kept in
+          let c = (IsRow-of class (real_in p.version class of_class.0)).few_kept in
           omega (arith, a, b, c, parts)
 
       maps_then : (k : ℕ) → (root_of final k).maps ≡ (root_of p k).maps
@@ -326,13 +333,13 @@ module _ (region partitions threads : ℕ) (ls : List Line) (p : Player) (thread
       lists_then : (t k c : ℕ) → caches final t k c ≡ with_cache (caches p) thread (with_list (caches p thread) home class (map (numbered_at table) stays)) t k c
       lists_then =
           let at_most : home < p.partitions = subst (λ z. home < z) (sym h.shaped.many) low in
-          let room : list_place p.partitions thread home class < length p.caches =
-          subst (λ z. list_place z thread home class < length p.caches) (sym h.shaped.many)
-          (let b = place_below partitions threads thread home class below low of_class.0 in omega (arith, b, h.shaped.lists)) in
-          caches_changed p final thread home class stays refl at_most of_class.0
-          (this_list p final thread home class stays refl set_lists room)
+          let room : list_place p.version p.partitions thread home class < length p.caches =
+          subst (λ z. list_place p.version z thread home class < length p.caches) (sym h.shaped.many)
+          (let b = place_below p.version partitions threads thread home class below low of_class.0 in omega (arith, b, h.shaped.lists)) in
+          caches_changed p final thread home class stays refl refl at_most of_class.0
+          (this_list p final thread home class stays refl refl set_lists room)
           (λ u k c within real other.
-          let stays_there : list_at final u k c ≡ list_at p u k c = other_list p final thread home class u k c stays refl set_lists at_most of_class.0 within real other in
+          let stays_there : list_at final u k c ≡ list_at p u k c = other_list p final thread home class u k c stays refl refl set_lists at_most of_class.0 within real other in
           ap (map (numbered_at table)) stays_there
           ∙ sym (caches_here (record p { table = table }) u k c within real)
           ∙ lists_kept region partitions threads ls p thread op can reg i small points y u k c
@@ -340,21 +347,22 @@ module _ (region partitions threads : ℕ) (ls : List Line) (p : Player) (thread
 
       counted_then : AreCounted partitions threads final
       counted_then =
-          counted_changed partitions threads thread home class p final (map (numbered_at table) stays) below of_class.0
+          counted_changed partitions threads thread home class p final (map (numbered_at table) stays) below (real_in p.version class of_class.0)
           (record { many = λ k fits. (h.tallied k fits).many; bytes = λ k fits. (h.tallied k fits).bytes }) lists_then retallied
 
       shaped_then : AreShaped partitions threads final
       shaped_then =
-          let listed_then : AreShaped partitions threads (record stepped { caches = set p.caches (list_place p.partitions thread home class) stays }) =
+          let listed_then : AreShaped partitions threads (record stepped { caches = set p.caches (list_place p.version p.partitions thread home class) stays }) =
           shaped_listed partitions threads stepped r.shaped thread home class stays below low of_class.0 (λ j among. among_old j (stays_of j among)) short in
           let set_then : AreShaped partitions threads (record stepped { caches = lists }) =
           subst (λ z. AreShaped partitions threads (record stepped { caches = z })) (sym set_lists) listed_then in
-          let cached_then : AreShaped partitions threads (record stepped { caches = lists; cached = cached }) = shaped_cached partitions threads (record stepped { caches = lists }) set_then cached.of four in
+          let cached_then : AreShaped partitions threads (record stepped { caches = lists; cached = cached }) = shaped_cached partitions
+          threads (record stepped { caches = lists }) set_then cached.of four in
           let told_then : AreShaped partitions threads (record stepped { caches = lists; cached = cached; told = told }) =
           shaped_told partitions threads (record stepped { caches = lists; cached = cached }) cached_then told many_journals (ap length was_back.histories) in
           shaped_heap partitions threads (record stepped { caches = lists; cached = cached; told = told }) told_then heap.pool heap.roots many_roots
 
-      slots_then : AreAllSlots partitions table (p.told.pools ++ []) (grown (journals p) n (only_in home (gives gone))) (root_of final)
+      slots_then : AreAllSlots p.version partitions table (p.told.pools ++ []) (grown (journals p) n (only_in home (gives gone))) (root_of final)
       slots_then =
           slots_back partitions table p.told.pools [] (journals p) (root_of p) (root_of final) n (only_in home (gives gone)) stepped_slots
           (of_only (AllComeBack table) home (gives gone) (numbered_back table back (λ j among. (among_old j (back_of j among)).0)) (λ a among. absurd (not_in_none a among)))

@@ -17,6 +17,7 @@ use Rattle.pa_player.specs.Playing.{register_at, cell_at, list_place, list_at, A
 use Rattle.pa_player.specs.Changes.{registered, listed}
 use Rattle.pa_player.proofs.Slots.{KeepsSlots}
 use Rattle.pa_player.proofs.OneList.{same_place}
+use Rattle.pa_rules.specs.Sizes.{HasClass}
 
 -- what is in a place of a list in which one was set
 pub set_cases : {X : Type 0} (xs : List X) (i j : ℕ) (y d : X) → ((j ≡ i) × (get_or (set xs i y) j d ≡ y)) ⊎ (get_or (set xs i y) j d ≡ get_or xs j d)
@@ -131,13 +132,13 @@ module _ (partitions threads : ℕ) (p : Player) (h : AreShaped partitions threa
   }
 
   -- a list, whose slots are of its partition and class
-  pub shaped_listed : (t q class : ℕ) (xs : List ℕ) → t < threads → q < partitions → class < 59
+  pub shaped_listed : (t q class : ℕ) (xs : List ℕ) → t < threads → q < partitions → HasClass p.version class
       → ((i : ℕ) → Contains xs i → (i < length p.table) × ((slot_at p.table i).partition ≡ q) × ((slot_at p.table i).class ≡ Some class))
-      → length xs ≤ limit_of class → AreShaped partitions threads (listed (list_place p.partitions t q class) xs p)
+      → length xs ≤ limit_of class → AreShaped partitions threads (listed (list_place p.version p.partitions t q class) xs p)
   shaped_listed t q class xs below low real each few =
-      let at = list_place p.partitions t q class in
-      let where_is : (u k c : ℕ) → k < partitions → c < 59 → list_place p.partitions u k c ≡ at → (u ≡ t) × (k ≡ q) × (c ≡ class) =
-      λ u k c inside within e. same_place p.partitions u k c t q class (omega (arith, inside, h.many)) (omega (arith, low, h.many)) within real e in
+      let at = list_place p.version p.partitions t q class in
+      let where_is : (u k c : ℕ) → k < partitions → HasClass p.version c → list_place p.version p.partitions u k c ≡ at → (u ≡ t) × (k ≡ q) × (c ≡ class) =
+      λ u k c inside within e. same_place p.version p.partitions u k c t q class (omega (arith, inside, h.many)) (omega (arith, low, h.many)) within real e in
       record {
         many = h.many;
         four = h.four;
@@ -154,21 +155,21 @@ module _ (partitions threads : ℕ) (p : Player) (h : AreShaped partitions threa
         quarantined = h.quarantined;
         cached = h.cached;
         lists = length-set p.caches at xs ∙ h.lists;
-        listed = λ u k c i lower inside within among. elim (set_cases p.caches at (list_place p.partitions u k c) xs []) [
+        listed = λ u k c i lower inside within among. elim (set_cases p.caches at (list_place p.version p.partitions u k c) xs []) [
           | inl new ↦
               let (thread, partition, same) = where_is u k c inside within new.0 in
               let a = each i (subst (λ z. Contains z i) new.1 among) in
               (a.0, a.1 ∙ sym partition, a.2 ∙ ap (λ z. Some z) (sym same))
           | inr old ↦ h.listed u k c i lower inside within (subst (λ z. Contains z i) old among)
         ];
-        short = λ u k c lower inside within. elim (set_cases p.caches at (list_place p.partitions u k c) xs []) [
+        short = λ u k c lower inside within. elim (set_cases p.caches at (list_place p.version p.partitions u k c) xs []) [
           | inl new ↦
               let (thread, partition, same) = where_is u k c inside within new.0 in
-              let long : length (get_or (set p.caches at xs) (list_place p.partitions u k c) []) ≡ length xs = ap length new.1 in
+              let long : length (get_or (set p.caches at xs) (list_place p.version p.partitions u k c) []) ≡ length xs = ap length new.1 in
               let limit : limit_of class ≡ limit_of c = ap limit_of (sym same) in
               omega (arith, long, limit, few)
           | inr old ↦
-              let long : length (get_or (set p.caches at xs) (list_place p.partitions u k c) []) ≡ length (list_at p u k c) = ap length old in
+              let long : length (get_or (set p.caches at xs) (list_place p.version p.partitions u k c) []) ≡ length (list_at p u k c) = ap length old in
               omega (arith, long, h.short u k c lower inside within)
         ];
       }

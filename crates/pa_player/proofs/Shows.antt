@@ -39,6 +39,7 @@ pub record TellsMore (p q : Player) (n : ℕ) (more : List PoolEntry) (acts : Ac
   pub entries : q.told.entries ≡ p.told.entries
   pub report : q.told.report ≡ p.told.report
   pub line : q.told.line ≡ p.told.line
+  pub version : q.version ≡ p.version
   pub phase : q.phase ≡ p.phase
   pub pools : q.told.pools ≡ p.told.pools ++ more
   pub journals : (k : ℕ) → journals q k ≡ grown (journals p) n acts k
@@ -57,7 +58,7 @@ pub record HasHeap (region : ℕ) (p q : Player) (n : ℕ) (more : List PoolEntr
 pub record HasSlots (partitions threads : ℕ) (p q : Player) (n : ℕ) (more : List PoolEntry) (acts : Acts) (o : Option Mark) : Type 0 where
   pub keeps : KeepsSlots p.table q.table
   pub few : length q.table ≤ length p.table + 8
-  pub slots : AreAllSlots partitions q.table (p.told.pools ++ more) (grown (journals p) n acts) (root_of q)
+  pub slots : AreAllSlots q.version partitions q.table (p.told.pools ++ more) (grown (journals p) n acts) (root_of q)
   pub shaped : AreShaped partitions threads q
   pub marked : (m : Mark) → o ≡ Some m → (i : ℕ) × IsPlaceOf q.table m.slot i
 

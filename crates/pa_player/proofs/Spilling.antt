@@ -31,6 +31,8 @@ use Rattle.pa_player.proofs.Shows.{IsPlayed}
 use Rattle.pa_player.proofs.Stepping.{changed_at}
 use Rattle.pa_player.proofs.Returning.{gave_back_in, none_back, IsReturn, len_old, of_class, low, below, returned_played}
 use Rattle.pa_lists.proofs.Elements.{take_in, drop_in}
+use Rattle.pa_rules.proofs.Versions.{real_in}
+use Rattle.pa_rules.specs.Sizes.{HasClass}
 
 -- the bytes of slots of one length
 pub bytes_alike : (slots : List Slot) (xs : List ℕ) (len : ℕ) → ((j : ℕ) → Contains xs j → (slot_at slots j).title.len ≡ len) → bytes_at slots xs ≡ len * length xs
@@ -45,7 +47,8 @@ bytes_alike slots (x ∷ xs) len same =
     omega arith
 
 -- a tally of which more went in than came out
-pub retallied_both : (q len was gone now was_bytes : ℕ) (ts : List Tally) → q < length ts → was ≤ (tally_at ts q).slots → was_bytes ≤ (tally_at ts q).bytes → was_bytes ≡ len * was → was + 1 ≡ now + gone
+pub retallied_both : (q len was gone now was_bytes : ℕ) (ts : List Tally) → q < length ts → was ≤ (tally_at ts q).slots
+    → was_bytes ≤ (tally_at ts q).bytes → was_bytes ≡ len * was → was + 1 ≡ now + gone
     → IsRetallied q was now was_bytes (len * now) ts (tallied_less q gone (len * gone) (tallied_more q 1 len ts))
 retallied_both q len was gone now was_bytes ts low some many is parts =
     let more : Tally = record { slots = (tally_at ts q).slots + 1; bytes = (tally_at ts q).bytes + len } in
@@ -76,13 +79,13 @@ module _ (region partitions threads : ℕ) (ls : List Line) (p : Player) (thread
   old = list_at p thread home class
 
   abbrev at : ℕ
-  at = list_place p.partitions thread home class
+  at = list_place p.version p.partitions thread home class
 
   -- the player with the slot before its list
   abbrev put : Player
   put = put_front home at i stepped
 
-  class_of_it : (class < 59) × ((slot_at table i).title.len ≡ slot_of class)
+  class_of_it : HasClass p.version class × ((slot_at table i).title.len ≡ slot_of class)
   class_of_it = (
     (of_class region partitions threads ls p thread op can reg i small points y registers lives waits r class is_class).0,
     len_old region partitions threads ls p thread op can reg i small points y registers lives waits r class is_class i (first_in i old),
@@ -96,8 +99,8 @@ module _ (region partitions threads : ℕ) (ls : List Line) (p : Player) (thread
 
   room : at < length p.caches
   room =
-      subst (λ z. list_place z thread home class < length p.caches) (sym can.playing.shaped.many)
-      (let b = place_below partitions threads thread home class its_thread its_home class_of_it.0 in let c = can.playing.shaped.lists in omega arith)
+      subst (λ z. list_place p.version z thread home class < length p.caches) (sym can.playing.shaped.many)
+      (let b = place_below p.version partitions threads thread home class its_thread its_home class_of_it.0 in let c = can.playing.shaped.lists in omega arith)
 
   inner : home < p.partitions
   inner = subst (λ z. home < z) (sym can.playing.shaped.many) its_home
@@ -107,7 +110,7 @@ module _ (region partitions threads : ℕ) (ls : List Line) (p : Player) (thread
 
   tallied : (length old ≤ (tally_at p.cached.of home).slots) × (slot_of class * length old ≤ (tally_at p.cached.of home).bytes)
   tallied =
-      let within = list_within (caches p) threads thread home class its_thread class_of_it.0 in
+      let within = list_within (caches p) threads thread home class its_thread (real_in p.version class class_of_it.0) in
       let by = can.playing.tallied home its_home in
       let same : slot_of class * length (caches p thread home class) ≡ slot_of class * length old = ap (λ k. slot_of class * k) length_old in
       (let a = within.0 in let b = by.many in let c = length_old in omega arith, let a = within.1 in let b = by.bytes in omega arith)
@@ -122,7 +125,8 @@ module _ (region partitions threads : ℕ) (ls : List Line) (p : Player) (thread
 
   within_played : length old + 1 ≤ limit_of class → IsPlayed region partitions threads ls p put can.playing thread op (Done (seen_at p.table i))
   within_played short =
-      let none : nat_lt (limit_of class) (length (map (numbered_at table) (i ∷ old))) ≡ false = le-ltb (limit_of class) (length (map (numbered_at table) (i ∷ old))) (let a = length_whole in omega arith) in
+      let none : nat_lt (limit_of class) (length (map (numbered_at table) (i ∷ old))) ≡ false = le-ltb (limit_of class)
+      (length (map (numbered_at table) (i ∷ old))) (let a = length_whole in omega arith) in
       let len : (slot_at table i).title.len ≡ slot_of class = class_of_it.1 in
       let count : length (map (numbered_at table) (i ∷ old)) ≡ length old + 1 = length_whole in
       returned_played region partitions threads ls p thread op can reg i small points y registers lives waits r class is_class
@@ -131,6 +135,7 @@ module _ (region partitions threads : ℕ) (ls : List Line) (p : Player) (thread
         entries = refl;
         report = refl;
         line = refl;
+        version = refl;
         phase = refl;
         pools = refl;
         histories = refl;
@@ -182,7 +187,8 @@ module _ (region partitions threads : ℕ) (ls : List Line) (p : Player) (thread
 
   over_played : limit_of class < length old + 1 → IsPlayed region partitions threads ls p gave can.playing thread op (Done (seen_at p.table i))
   over_played long =
-      let over : nat_lt (limit_of class) (length (map (numbered_at table) (i ∷ old))) ≡ true = lt-ltb (limit_of class) (length (map (numbered_at table) (i ∷ old))) (let a = length_whole in omega arith) in
+      let over : nat_lt (limit_of class) (length (map (numbered_at table) (i ∷ old))) ≡ true = lt-ltb (limit_of class)
+      (length (map (numbered_at table) (i ∷ old))) (let a = length_whole in omega arith) in
       let b = gave_back_in put home (drop half whole) (let a = can.playing.shaped.journals in let c = its_home in omega arith) (let a = can.playing.shaped.roots in let c = its_home in omega arith) in
       returned_played region partitions threads ls p thread op can reg i small points y registers lives waits r class is_class
       (take half whole) (drop half whole) gave.heap gave.told gave.caches gave.cached
@@ -190,6 +196,7 @@ module _ (region partitions threads : ℕ) (ls : List Line) (p : Player) (thread
         entries = refl;
         report = refl;
         line = refl;
+        version = refl;
         phase = refl;
         pools = refl;
         histories = refl;

@@ -1,11 +1,13 @@
 -- Before the first line: nothing was played.
-use Rattle.std.proofs.Common.{◌≡◌, ℕ, zero, suc, ◌-◌, ◌<◌, Bool, true, false, List, [], map, length, refl, sym, ap, ◌∙◌, subst, arith}
+use Rattle.std.proofs.Common.{◌≡◌, ℕ, zero, suc, ◌-◌, ◌*◌, ◌<◌, Bool, true, false, List, [], map, length, refl, sym, ap, ◌∙◌, subst, arith}
 use Rattle.std.specs.Prelude.{if◌then◌else◌, nat_lt, ◌&&◌, All, Contains}
 use Rattle.std.proofs.Math.Path.{fun_ext}
 use Rattle.std.proofs.lemmas.List.Elements.{All-nil}
 use Rattle.pa_slot.specs.declared.word.SlotName.{SlotName}
 use Rattle.pa_slot.specs.declared.word.Step.{Step}
+use Rattle.pa_trace.specs.declared.line.Head.{Head}
 use Rattle.pa_trace.specs.Limits.{IsHeadWithin}
+use Rattle.pa_rules.specs.Sizes.{is_class, class_total}
 use Rattle.pa_record.specs.declared.pool.PoolEntry.{PoolEntry}
 use Rattle.pa_record.specs.declared.report.ReportLine.{ReportLine}
 use Rattle.pa_record.specs.declared.report.Tally.{Tally}
@@ -59,14 +61,23 @@ none_left into out home size q t none = record {
 none_born : (n : ℕ) → IsBornBelow n new_root
 none_born n = record { supers = λ at among. absurd (not_in_none at among); maps = λ t among. absurd (not_in_none t among) }
 
-module _ (region partitions threads : ℕ) (p : Player) (head : IsHeadWithin region partitions threads) (b : IsBegun region partitions threads p) where
+module _ (at : Head) (p : Player) (head : IsHeadWithin at) (b : IsBegun at p) where
+  abbrev region : ℕ
+  region = at.region
+
+  abbrev partitions : ℕ
+  partitions = at.partitions
+
+  abbrev threads : ℕ
+  threads = at.threads
+
   no_journals : (q : ℕ) → journals p q ≡ []
   no_journals q = b.told.journals.empty q
 
   no_lists : (t q class : ℕ) → caches p t q class ≡ []
   no_lists t q class =
-      empty_if (nat_lt q p.partitions && nat_lt class 59) (map (numbered_at p.table) (list_at p t q class))
-      (ap (map (numbered_at p.table)) (b.caches.empty (list_place p.partitions t q class)))
+      empty_if (nat_lt q p.partitions && is_class p.version class) (map (numbered_at p.table) (list_at p t q class))
+      (ap (map (numbered_at p.table)) (b.caches.empty (list_place p.version p.partitions t q class)))
 
   like : IsLike (nothing_shown (rules_at p)) (shown p)
   like = record {
@@ -90,7 +101,7 @@ module _ (region partitions threads : ℕ) (p : Player) (head : IsHeadWithin reg
       let P : List PoolEntry → Type 0 = λ pools. IsPooledTo region 2 pools (journals p) in
       subst P (sym b.told.pools) (same_is_placed.pooled region 2 [] (λ q. []) (journals p) (starts_empty.pooled region 2) no_journals)
 
-  slots : AreAllSlots partitions p.table p.told.pools (journals p) (root_of p)
+  slots : AreAllSlots p.version partitions p.table p.told.pools (journals p) (root_of p)
   slots = record {
     among = λ i low. absurd (none_below p.table i b.table low);
     let_out = λ i low. absurd (none_below p.table i b.table low);
@@ -111,12 +122,12 @@ module _ (region partitions threads : ℕ) (p : Player) (head : IsHeadWithin reg
     histories = b.told.histories.count;
     journals = b.told.journals.count;
     roots = b.roots.count;
-    lists = b.caches.count;
+    lists = b.caches.count ∙ ap (λ v. threads * partitions * class_total v) (sym b.version);
     held = λ t r. subst (IsIn (length p.table)) (sym (b.registers.clear t r)) tt;
     celled = λ k. subst (IsIn (length p.table)) (sym (b.cell k)) tt;
     handles = λ k. subst (λ z. handle_in z ≡ z) (sym (b.cell k)) refl;
-    listed = λ t q class i lt below low among. absurd (none_in (list_at p t q class) i (b.caches.empty (list_place p.partitions t q class)) among);
-    short = λ t q class lt below low. omega (arith, ap length (b.caches.empty (list_place p.partitions t q class)));
+    listed = λ t q class i lt below low among. absurd (none_in (list_at p t q class) i (b.caches.empty (list_place p.version p.partitions t q class)) among);
+    short = λ t q class lt below low. omega (arith, ap length (b.caches.empty (list_place p.version p.partitions t q class)));
     live = b.live.four;
     quarantined = b.quarantined.four;
     cached = b.cached.four;
@@ -181,6 +192,5 @@ module _ (region partitions threads : ℕ) (p : Player) (head : IsHeadWithin reg
   }
 
 -- a player that was begun has played no lines
-pub begins_playing : (region partitions threads : ℕ) (p : Player) → IsHeadWithin region partitions threads → IsBegun region partitions threads p
-    → IsPlaying region partitions threads [] p
-begins_playing region partitions threads p head b = playing region partitions threads p head b
+pub begins_playing : (h : Head) (p : Player) → IsHeadWithin h → IsBegun h p → IsPlaying h.region h.partitions h.threads [] p
+begins_playing h p head b = playing h p head b

@@ -38,6 +38,9 @@ use Rattle.pa_player.proofs.Alone.{used_away, used_unlisted}
 use Rattle.pa_player.proofs.Known.{mapped_used, all_slots_set}
 use Rattle.pa_player.proofs.Shows.{CountsMore}
 use Rattle.pa_player.proofs.Quiet.{IsQuiet, can_play, cache_same}
+use Rattle.pa_rules.proofs.Versions.{class_cases}
+use Rattle.pa_rules.specs.Sizes.{HasClass}
+use Rattle.pa_rules.specs.Sizes.{class_total}
 
 -- ---- the lists, if the numbers of their slots stay
 
@@ -51,15 +54,17 @@ pub no_list : (partitions threads : ℕ) (p : Player) (t q class : ℕ) → AreS
 no_list partitions threads p t q class h past =
     let more : threads * partitions ≤ t * partitions = mul-le-mul_right partitions past in
     let wide : t * p.partitions ≡ t * partitions = ap (λ n. t * n) h.many in
-    get_or_past p.caches (list_place p.partitions t q class) [] (omega (arith, more, wide, h.lists))
+    let rows : threads * partitions ≤ t * p.partitions + q = omega arith in
+    let far : threads * partitions * class_total p.version ≤ (t * p.partitions + q) * class_total p.version = mul-le-mul_right (class_total p.version) rows in
+    get_or_past p.caches (list_place p.version p.partitions t q class) [] (omega (arith, far, h.lists))
 
 pub caches_kept : (partitions threads : ℕ) (p : Player) (after : List Slot) → AreShaped partitions threads p
-    → ((t q class i : ℕ) → t < threads → q < partitions → class < 59 → Contains (list_at p t q class) i → numbered_at after i ≡ numbered_at p.table i)
+    → ((t q class i : ℕ) → t < threads → q < partitions → HasClass p.version class → Contains (list_at p t q class) i → numbered_at after i ≡ numbered_at p.table i)
     → (t q class : ℕ) → caches (record p { table = after }) t q class ≡ caches p t q class
 caches_kept partitions threads p after h same t q class = elim (cases_lt q p.partitions) [
   | inr out ↦ caches_none (record p { table = after }) t q class (λ low real. absurd (omega arith)) ∙ sym (caches_none p t q class (λ low real. absurd (omega arith)))
-  | inl low ↦ elim (cases_lt class 59) [
-    | inr out ↦ caches_none (record p { table = after }) t q class (λ inside real. absurd (omega arith)) ∙ sym (caches_none p t q class (λ inside real. absurd (omega arith)))
+  | inl low ↦ elim (class_cases p.version class) [
+    | inr out ↦ caches_none (record p { table = after }) t q class (λ inside real. out real) ∙ sym (caches_none p t q class (λ inside real. out real))
     | inl real ↦
         let each : map (numbered_at after) (list_at p t q class) ≡ map (numbered_at p.table) (list_at p t q class) = elim (cases_lt t threads) [
           | inl below ↦ map_on (numbered_at p.table) (numbered_at after) (list_at p t q class) (λ i among. same t q class i below (omega (arith, low, h.many)) real among)
@@ -95,7 +100,7 @@ module _ (region partitions threads : ℕ) (ls : List Line) (p : Player) (thread
   in_use = subst (λ w. 0 < held_of w + refs_of w) word_is (lets.in_use (named_at p.table i) (points_names p.table (register_at p thread reg) i points))
 
   -- a slot of a list has its number still
-  unmoved : (y : Slot) (t q class j : ℕ) → t < threads → q < partitions → class < 59 → Contains (list_at p t q class) j → numbered_at (set p.table i y) j ≡ numbered_at p.table j
+  unmoved : (y : Slot) (t q class j : ℕ) → t < threads → q < partitions → HasClass p.version class → Contains (list_at p t q class) j → numbered_at (set p.table i y) j ≡ numbered_at p.table j
   unmoved y t q class j below low real among =
       let apart : j ≡ i → ⊥ = λ e. used_unlisted region partitions threads ls p h i t q class in_table in_use below low real (subst (λ z. Contains (list_at p t q class) z) e among) in
       let f : Slot → Numbered = λ z. record { slot = name_of z.title; number = number_of z.word.0 } in
@@ -119,6 +124,7 @@ module _ (region partitions threads : ℕ) (ls : List Line) (p : Player) (thread
       entries = refl;
       report = refl;
       line = refl;
+      version = refl;
       phase = refl;
       pools = refl;
       journals = refl;

@@ -140,6 +140,7 @@ module _ (p : Player) (thread cell reg : ℕ) where
           entries = refl;
           report = refl;
           line = refl;
+          version = refl;
           phase = refl;
           pools = refl;
           journals = refl;

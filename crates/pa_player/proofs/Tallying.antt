@@ -68,7 +68,7 @@ module _ (region partitions threads : ℕ) (ls : List Line) (p : Player) (h : Is
   }
 
   sized : HasSize (journals p) (slot_at p.table i).partition (named_at p.table i) (slot_at p.table i).title.len
-  sized = let_out_sized (journals p) (slot_at p.table i) (slot_at p.table i).class (h.slots.let_out i low)
+  sized = let_out_sized p.version (journals p) (slot_at p.table i) (slot_at p.table i).class (h.slots.let_out i low)
 
   one_size : (more : ℕ) → HasSize (journals p) (slot_at p.table i).partition (named_at p.table i) more → more ≡ (slot_at p.table i).title.len
   one_size more size =
@@ -84,7 +84,8 @@ module _ (region partitions threads : ℕ) (ls : List Line) (p : Player) (h : Is
   live_counts so =
       let q = (slot_at p.table i).partition in
       counts IsLive (tally_at p.live.of q) so
-      (tallies_follow.live region partitions q h.ps h.ps p.told.pools (journals p) (home_in p.table) (len_in p.table) (tally_at p.live.of q) tallied h.marked (h.tallied q (h.slots.among i low)).is_live)
+      (tallies_follow.live region partitions q h.ps h.ps p.told.pools (journals p) (home_in p.table) (len_in p.table)
+      (tally_at p.live.of q) tallied h.marked (h.tallied q (h.slots.among i low)).is_live)
 
   pub quarantined_counts : IsQuarantined (slot_at p.table i).word.0 → IsCounted (slot_at p.table i).title.len (tally_at p.quarantined.of (slot_at p.table i).partition)
   quarantined_counts so =

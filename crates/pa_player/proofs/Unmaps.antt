@@ -107,7 +107,8 @@ module _ (region partitions threads : ℕ) (ls : List Line) (p : Player) (thread
           some_none k e = cc
       of_none None e m = m (used region partitions threads ls p thread op can reg i small points y registers lives waits r)
 
-  called : IsCalled region partitions n (played_at r.after.rules ls thread op (Done (seen_at p.table i))) p.told.pools (unmap_made n home title ∷ []) (journals p) home (act ∷ []) (caches p thread) (caches p thread)
+  called : IsCalled region partitions n (played_at r.after.rules ls thread op (Done (seen_at p.table i))) p.told.pools
+      (unmap_made n home title ∷ []) (journals p) home (act ∷ []) (caches p thread) (caches p thread)
       (unmapped (named_at p.table i) (root_of p home)) (gave (super_page_at title.start) p.heap.pool)
   called =
       let x = played_at r.after.rules ls thread op (Done (seen_at p.table i)) in
@@ -135,6 +136,7 @@ module _ (region partitions threads : ℕ) (ls : List Line) (p : Player) (thread
     entries = refl;
     report = refl;
     line = refl;
+    version = refl;
     phase = refl;
     pools =
         let e : ℕ → Title → List PoolEntry = λ line t. p.told.pools ++ record { line = line; partition = home; act = pool.Give (supers_for t.len) (super_page_at t.start) } ∷ [] in
@@ -155,7 +157,7 @@ module _ (region partitions threads : ℕ) (ls : List Line) (p : Player) (thread
       (ap (λ (t : Title). gave (super_page_at t.start) p.heap.pool) title_then) (omega arith) (omega arith)
       (unmapped_born (named_at p.table i) p.heap.pool.entries (p.heap.pool.entries + 1) (root_of p home) (omega arith) (h.bounded.born home)) h.bounded.born
 
-  known : AreAllSlots partitions table p.told.pools (journals p) (root_of p)
+  known : AreAllSlots p.version partitions table p.told.pools (journals p) (root_of p)
   known = stepped_slots region partitions threads ls p thread op can reg i small points y registers lives waits r
 
   -- another direct map in use is still mapped
@@ -190,7 +192,7 @@ module _ (region partitions threads : ℕ) (ls : List Line) (p : Player) (thread
         | inr none ↦ absurd (not_in_none m none)
       ]
 
-  slots_then : AreAllSlots partitions table (p.told.pools ++ unmap_made n home title ∷ []) (grown (journals p) n (only_in home (act ∷ []))) (root_of final)
+  slots_then : AreAllSlots p.version partitions table (p.told.pools ++ unmap_made n home title ∷ []) (grown (journals p) n (only_in home (act ∷ []))) (root_of final)
   slots_then =
       slots_back partitions table p.told.pools (unmap_made n home title ∷ []) (journals p) (root_of p) (root_of final) n (only_in home (act ∷ [])) known
       (of_only (AllComeBack table) home (act ∷ []) comes_back (λ a among. absurd (not_in_none a among)))

@@ -6,7 +6,8 @@ use Rattle.pa_slot.specs.Run.{IsReturning}
 use Rattle.pa_slot.specs.declared.word.Step.TheVariants as steps
 use Rattle.pa_layout.specs.Limits.{most_supers}
 use Rattle.pa_layout.specs.Pages.{super_page_at, supers_for}
-use Rattle.pa_buckets.specs.Limits.{sparse_count}
+use Rattle.pa_buckets.specs.Limits.{first_class}
+use Rattle.pa_rules.specs.Sizes.{HasClass, class_total}
 use Rattle.pa_buckets.specs.Bands.{limit_of}
 use Rattle.pa_record.specs.declared.taken.Taken.{Taken}
 use Rattle.pa_record.specs.Pool.{IsOneTake}
@@ -48,14 +49,15 @@ pub record CanPlace (q : ℕ) (p : Player) : Type 0 where
 
 -- The slot at an index can go to the front of the list of its class, and those that then don't stay can go back to the root.
 pub record CanPutBack (thread i q class : ℕ) (p : Player) : Type 0 where
+  pub real : HasClass p.version class
   pub threads : thread < most_threads
   pub four : p.partitions ≤ most_partitions
   pub among : q < p.partitions
-  pub at : list_place p.partitions thread q class < length p.caches
-  pub short : length (list_in p (list_place p.partitions thread q class)) ≤ limit_of class
+  pub at : list_place p.version p.partitions thread q class < length p.caches
+  pub short : length (list_in p (list_place p.version p.partitions thread q class)) ≤ limit_of class
   pub slots : (tally_at p.cached.of q).slots < 2 ^ 31
   pub bytes : (tally_at p.cached.of q).bytes < 2 ^ 62
-  pub gives : CanGive q (i ∷ list_in p (list_place p.partitions thread q class)) (put_front q (list_place p.partitions thread q class) i p)
+  pub gives : CanGive q (i ∷ list_in p (list_place p.version p.partitions thread q class)) (put_front q (list_place p.version p.partitions thread q class) i p)
 
 -- The direct map at an index can go back to the pool.
 pub record CanUnmap (i q : ℕ) (p : Player) : Type 0 where
@@ -82,15 +84,19 @@ pub record CanPut (q : ℕ) (p : Player) : Type 0 where
 -- the indices of the slots in a thread's lists of partition q, of `n` classes from one class on
 unfoldable pub places_from : ℕ → ℕ → ℕ → ℕ → Player → List ℕ
 places_from thread q class zero p = []
-places_from thread q class (suc n) p = list_in p (list_place p.partitions thread q class) ++ places_from thread q (class + 1) n p
+places_from thread q class (suc n) p = list_in p (list_place p.version p.partitions thread q class) ++ places_from thread q (class + 1) n p
+
+-- those in all of its lists
+abbrev pub places_all : ℕ → ℕ → Player → List ℕ
+places_all thread q p = places_from thread q (first_class p.version) (class_total p.version) p
 
 -- All that a thread's lists of one partition have can go back, which is at most 65 slots of each class.
 pub record CanPurgeOne (thread q : ℕ) (p : Player) : Type 0 where
   pub threads : thread < most_threads
   pub four : p.partitions ≤ most_partitions
   pub among : q < p.partitions
-  pub lists : (class : ℕ) → class < sparse_count → list_place p.partitions thread q class < length p.caches
-  pub gives : CanGive q (places_from thread q 0 sparse_count p) p
+  pub lists : (class : ℕ) → HasClass p.version class → list_place p.version p.partitions thread q class < length p.caches
+  pub gives : CanGive q (places_all thread q p) p
 
 -- ---- each op
 
@@ -114,15 +120,16 @@ pub record CanIssueFront (thread reg q at : ℕ) (p : Player) : Type 0 where
 
 -- A slot of the class can be allocated in partition q.
 pub record CanAllocateSlot (thread reg q class : ℕ) (p : Player) : Type 0 where
+  pub real : HasClass p.version class
   pub threads : thread < most_threads
   pub four : p.partitions ≤ most_partitions
   pub among : q < p.partitions
-  pub at : list_place p.partitions thread q class < length p.caches
+  pub at : list_place p.version p.partitions thread q class < length p.caches
   pub place : CanPlace q p
-  pub front : CanIssueFront thread reg q (list_place p.partitions thread q class) p
-  pub filled : (r : Player) → list_in p (list_place p.partitions thread q class) ≡ []
-      → IsFilled q (list_place p.partitions thread q class) class p r
-      → CanIssueFront thread reg q (list_place p.partitions thread q class) r
+  pub front : CanIssueFront thread reg q (list_place p.version p.partitions thread q class) p
+  pub filled : (r : Player) → list_in p (list_place p.version p.partitions thread q class) ≡ []
+      → IsFilled q (list_place p.version p.partitions thread q class) class p r
+      → CanIssueFront thread reg q (list_place p.version p.partitions thread q class) r
 
 -- A direct map of `len` bytes, which are whole pages of 4,096 bytes, can be allocated in as many super pages as it needs.
 pub record CanAllocateMap (thread reg q len supers : ℕ) (p : Player) : Type 0 where

@@ -1,9 +1,10 @@
 -- A player before the first line.
 use Rattle.std.specs.Prelude.{◌≡◌, ℕ, ◌*◌, ◌<◌, List, [], length, slice_index_or}
-use Rattle.pa_buckets.specs.Limits.{sparse_count}
 use Rattle.pa_record.specs.Pool.{new_pool}
 use Rattle.pa_record.specs.Root.{Root, new_root}
 use Rattle.pa_trace.specs.Limits.{register_count, cell_count}
+use Rattle.pa_trace.specs.declared.line.Head.{Head}
+use Rattle.pa_rules.specs.Sizes.{class_total}
 use Rattle.pa_rules.specs.declared.register.Register.{Register}
 use Rattle.pa_rules.specs.declared.register.Register.TheVariants.{Empty}
 use Rattle.pa_player.specs.Player.{Player}
@@ -37,17 +38,18 @@ pub record IsUntold (partitions : ℕ) (t : Lists) : Type 0 where
   pub line : t.line ≡ 2
 
 -- no line was played
-pub record IsBegun (region partitions threads : ℕ) (p : Player) : Type 0 where
-  pub pool : p.heap.pool ≡ new_pool region
-  pub roots : AreNew partitions p.heap.roots
+pub record IsBegun (h : Head) (p : Player) : Type 0 where
+  pub pool : p.heap.pool ≡ new_pool h.region
+  pub roots : AreNew h.partitions p.heap.roots
   pub table : p.table ≡ []
-  pub registers : AreClear threads p.registers
+  pub registers : AreClear h.threads p.registers
   pub cells : length p.cells ≡ cell_count
   pub cell : (k : ℕ) → cell_at p k ≡ Empty
-  pub caches : AreEmpty (threads * partitions * sparse_count) p.caches
+  pub caches : AreEmpty (h.threads * h.partitions * class_total h.version) p.caches
   pub live : IsNone p.live.of
   pub quarantined : IsNone p.quarantined.of
   pub cached : IsNone p.cached.of
-  pub told : IsUntold partitions p.told
-  pub many : p.partitions ≡ partitions
+  pub told : IsUntold h.partitions p.told
+  pub version : p.version ≡ h.version
+  pub many : p.partitions ≡ h.partitions
   pub phase : p.phase ≡ 1

@@ -8,7 +8,8 @@ use Rattle.pa_slot.specs.Count.{number_of, stepped, refs_of, held_of}
 use Rattle.pa_slot.specs.Run.{IsReturning}
 use Rattle.pa_slot.specs.Titles.{poison}
 use Rattle.pa_layout.specs.Pages.{super_page_at, supers_for}
-use Rattle.pa_buckets.specs.Limits.{sparse_count}
+use Rattle.pa_buckets.specs.Limits.{first_class}
+use Rattle.pa_rules.specs.Sizes.{class_total}
 use Rattle.pa_buckets.specs.Bands.{limit_of, fill_of}
 use Rattle.pa_record.specs.declared.entry.Answer.{Answer}
 use Rattle.pa_record.specs.declared.entry.Answer.TheVariants as answers
@@ -177,13 +178,17 @@ unmapped_at q i p =
 -- a slot that a step of the thread returned goes to its cache, or back to the pool
 abbrev pub taken_back : ℕ → ℕ → Option ℕ → ℕ → Player → Player
 taken_back thread q (Some class) i p =
-    spilled_if class q (list_place p.partitions thread q class) (put_front q (list_place p.partitions thread q class) i p)
+    spilled_if class q (list_place p.version p.partitions thread q class) (put_front q (list_place p.version p.partitions thread q class) i p)
 taken_back thread q None i p = unmapped_at q i p
 
 -- a thread's lists of `n` classes from one class on go back whole to the root of partition q
 unfoldable pub given_from : ℕ → ℕ → ℕ → ℕ → Player → Player
 given_from thread q class zero p = p
-given_from thread q class (suc n) p = given_from thread q (class + 1) n (given q (list_place p.partitions thread q class) 0 p)
+given_from thread q class (suc n) p = given_from thread q (class + 1) n (given q (list_place p.version p.partitions thread q class) 0 p)
+
+-- all of the thread's lists of partition q go back whole
+abbrev pub given_all : ℕ → ℕ → Player → Player
+given_all thread q p = given_from thread q (first_class p.version) (class_total p.version) p
 
 -- the root of partition q is purged, and its journal says so
 abbrev pub purged_with : ℕ → Player → Player
@@ -192,7 +197,7 @@ purged_with q p = acted q (Purge ∷ []) (with_root q (purged (root_of p q)) p)
 -- a purge of `n` partitions from q on: the thread's lists go back whole, and then the root is purged
 unfoldable pub purged_from : ℕ → ℕ → ℕ → Player → Player
 purged_from thread q zero p = p
-purged_from thread q (suc n) p = purged_from thread (q + 1) n (purged_with q (given_from thread q 0 sparse_count p))
+purged_from thread q (suc n) p = purged_from thread (q + 1) n (purged_with q (given_all thread q p))
 
 -- The slots that left a root are appended to a list, in their order: `xs` are their numbers.
 abbrev pub ArePut : ℕ → ℕ → ℕ → List Title → Player → Player → List Numbered → Type 0

@@ -4,12 +4,11 @@ use Rattle.std.specs.Prelude.{slice_index_or, Option, Some, None, All, Contains}
 use Rattle.pa_slot.specs.declared.word.SlotName.{SlotName}
 use Rattle.pa_slot.specs.Count.{number_of, held_of, refs_of}
 use Rattle.pa_slot.specs.Run.{same_slot, Slots}
-use Rattle.pa_buckets.specs.Limits.{sparse_count}
+use Rattle.pa_buckets.specs.Limits.{first_class}
 use Rattle.pa_buckets.specs.Table.{slot_of}
 use Rattle.pa_buckets.specs.Bands.{limit_of}
 use Rattle.pa_trace.specs.declared.script.Line.{Line}
 use Rattle.pa_trace.specs.declared.script.Rules.{Rules}
-use Rattle.pa_trace.specs.Rules.{first_rules}
 use Rattle.pa_record.specs.declared.numbered.Numbered.{Numbered}
 use Rattle.pa_record.specs.declared.pool.PoolEntry.{PoolEntry}
 use Rattle.pa_record.specs.declared.report.ReportLine.{ReportLine}
@@ -27,6 +26,7 @@ use Rattle.pa_rules.specs.Nexts.{named}
 use Rattle.pa_rules.specs.Played.{entry_of, marks_of}
 use Rattle.pa_rules.specs.Roots.{Journals, journal_at}
 use Rattle.pa_rules.specs.Caches.{Caches, IsOfClass}
+use Rattle.pa_rules.specs.Sizes.{HasClass, is_class, class_total}
 use Rattle.pa_rules.specs.Report.{cached_slots, cached_bytes, census_of, phases_of}
 use Rattle.pa_rules.specs.Legal.{phases_in}
 use Rattle.pa_legal.specs.Numbers.{moves_of, at_end}
@@ -84,9 +84,9 @@ register_at p t r = slice_index_or (slice_index_or p.registers t []) r Empty
 abbrev pub cell_at : Player → ℕ → Register ℕ
 cell_at p k = slice_index_or p.cells k Empty
 
--- the rules by which the player plays: those of version 1
+-- the rules by which the player plays: those of its version, and no partition is plain
 abbrev pub rules_at : Player → Rules
-rules_at p = first_rules p.partitions
+rules_at p = record { version = p.version; plain_from = p.partitions }
 
 -- what the player shows of its rules, registers, cells, histories and slots, by the names of slots
 abbrev pub shown : Player → Shown
@@ -109,17 +109,17 @@ journals p = journal_at p.told.journals
 abbrev pub numbered_at : List Slot → ℕ → Numbered
 numbered_at slots i = record { slot = named_at slots i; number = number_of (slot_at slots i).word.0 }
 
--- the index of a thread's list, by its partition and class
-abbrev pub list_place : ℕ → ℕ → ℕ → ℕ → ℕ
-list_place partitions t q class = (t * partitions + q) * sparse_count + class
+-- the index of a thread's list, by its partition and class, which is one of the version's
+abbrev pub list_place : ℕ → ℕ → ℕ → ℕ → ℕ → ℕ
+list_place version partitions t q class = (t * partitions + q) * class_total version + (class - first_class version)
 
 -- the indices of the slots in a thread's list, by its partition and class
 abbrev pub list_at : Player → ℕ → ℕ → ℕ → List ℕ
-list_at p t q class = slice_index_or p.caches (list_place p.partitions t q class) []
+list_at p t q class = slice_index_or p.caches (list_place p.version p.partitions t q class) []
 
 -- the lists of the threads, as slots with their numbers, which are empty for partitions and classes that the player doesn't have
 abbrev pub caches : Player → Caches
-caches p t q class = if nat_lt q p.partitions && nat_lt class sparse_count then map (numbered_at p.table) (list_at p t q class) else []
+caches p t q class = if nat_lt q p.partitions && is_class p.version class then map (numbered_at p.table) (list_at p t q class) else []
 
 -- the root of partition q, and a new one past the last
 abbrev pub root_of : Player → ℕ → Root
@@ -127,10 +127,12 @@ root_of p q = slice_index_or p.heap.roots q new_root
 
 -- ---- what is known
 
--- A slot of the table is one that a journal let out, of its partition, with its class or as a direct map, and of its length.
-abbrev pub IsLetOut : Journals → Slot → Option ℕ → Type 0
-IsLetOut roots x (Some class) = (class < sparse_count) × IsOfClass roots (name_of x.title) x.partition class × (x.title.len ≡ slot_of class)
-IsLetOut roots x None = (e : RootEntry) × (asked : ℕ) × Contains (roots x.partition) e × (e.act ≡ Map asked (name_of x.title) x.title.len)
+-- A slot of the table is one that a journal let out, of its partition, with its class, which is one of the version's, or as a direct map,
+-- and of its length.
+abbrev pub IsLetOut : ℕ → Journals → Slot → Option ℕ → Type 0
+IsLetOut version roots x (Some class) =
+    HasClass version class × IsOfClass roots (name_of x.title) x.partition class × (x.title.len ≡ slot_of class)
+IsLetOut version roots x None = (e : RootEntry) × (asked : ℕ) × Contains (roots x.partition) e × (e.act ≡ Map asked (name_of x.title) x.title.len)
 
 -- A direct map that is in use is mapped.
 abbrev pub IsMappedAs : Root → Slot → Option ℕ → Type 0
@@ -143,9 +145,9 @@ IsMappedAs r x None = 0 < held_of x.word.0 + refs_of x.word.0 → Contains r.map
 --   born: by an entry of the pool that exists
 --   apart: no two have one name
 --   others: a slot that isn't in the table never moved
-pub record AreAllSlots (partitions : ℕ) (slots : List Slot) (pools : List PoolEntry) (roots : Journals) (root : ℕ → Root) : Type 0 where
+pub record AreAllSlots (version partitions : ℕ) (slots : List Slot) (pools : List PoolEntry) (roots : Journals) (root : ℕ → Root) : Type 0 where
   pub among : (i : ℕ) → i < length slots → (slot_at slots i).partition < partitions
-  pub let_out : (i : ℕ) → i < length slots → IsLetOut roots (slot_at slots i) (slot_at slots i).class
+  pub let_out : (i : ℕ) → i < length slots → IsLetOut version roots (slot_at slots i) (slot_at slots i).class
   pub mapped : (i : ℕ) → i < length slots → IsMappedAs (root (slot_at slots i).partition) (slot_at slots i) (slot_at slots i).class
   pub at : (i n : ℕ) → i < length slots
       → at_end (Some 0) (moves_of (roots (slot_at slots i).partition) (named_at slots i)) ≡ Some n → n ≡ number_of (slot_at slots i).word.0
@@ -164,13 +166,13 @@ pub record AreShaped (partitions threads : ℕ) (p : Player) : Type 0 where
   pub histories : length p.told.histories ≡ cell_count
   pub journals : length p.told.journals ≡ partitions
   pub roots : length p.heap.roots ≡ partitions
-  pub lists : length p.caches ≡ threads * partitions * sparse_count
+  pub lists : length p.caches ≡ threads * partitions * class_total p.version
   pub held : (t r : ℕ) → IsIn (length p.table) (register_at p t r)
   pub celled : (k : ℕ) → IsIn (length p.table) (cell_at p k)
   pub handles : (k : ℕ) → handle_in (cell_at p k) ≡ cell_at p k
-  pub listed : (t q class i : ℕ) → t < threads → q < partitions → class < sparse_count → Contains (list_at p t q class) i
+  pub listed : (t q class i : ℕ) → t < threads → q < partitions → HasClass p.version class → Contains (list_at p t q class) i
       → (i < length p.table) × ((slot_at p.table i).partition ≡ q) × ((slot_at p.table i).class ≡ Some class)
-  pub short : (t q class : ℕ) → t < threads → q < partitions → class < sparse_count → length (list_at p t q class) ≤ limit_of class
+  pub short : (t q class : ℕ) → t < threads → q < partitions → HasClass p.version class → length (list_at p t q class) ≤ limit_of class
   pub live : length p.live.of ≡ most_partitions
   pub quarantined : length p.quarantined.of ≡ most_partitions
   pub cached : length p.cached.of ≡ most_partitions
@@ -230,7 +232,7 @@ pub record IsPlaying (region partitions threads : ℕ) (ls : List Line) (p : Pla
   pub pooled : IsPooledTo region (length ls + 2) p.told.pools (journals p)
   pub roots : (q : ℕ) → root_of p q ≡ root_at p.told.pools (journals p) q
   pub plan : p.heap.pool ≡ pool_at region p.told.pools
-  pub slots : AreAllSlots partitions p.table p.told.pools (journals p) (root_of p)
+  pub slots : AreAllSlots p.version partitions p.table p.told.pools (journals p) (root_of p)
   pub marked : AreHomes (journals p) (home_in p.table) (len_in p.table) (marks_of ps)
   pub shaped : AreShaped partitions threads p
   pub bounded : AreBounded (length ls + 2) p

@@ -4,6 +4,7 @@ use Rattle.pa_trace.specs.declared.script.Op.{Op}
 use Rattle.pa_trace.specs.declared.script.Line.{Line}
 use Rattle.pa_trace.specs.declared.script.Line.TheVariants.{Phase, Do}
 use Rattle.pa_trace.specs.declared.script.Op.TheVariants as ops
+use Rattle.pa_trace.specs.declared.line.Head.{Head}
 use Rattle.pa_trace.specs.Limits.{IsHeadWithin, IsLineWithin}
 use Rattle.pa_trace.specs.Unread.{Unread, IsReadUpTo}
 use Rattle.pa_record.specs.declared.entry.Entry.{Entry}
@@ -18,12 +19,17 @@ use Rattle.pa_player.specs.Playing.{journals, register_at, IsPlaying}
 use Rattle.pa_player.specs.Told.{history_in}
 use Rattle.pa_player.specs.Changes.{answered}
 
+-- the head of a trace of the player's version
+abbrev pub head_to : Player → ℕ → ℕ → ℕ → Head
+head_to p region partitions threads =
+    record { version = p.version; region = region; partitions = partitions; threads = threads }
+
 -- these lines were played, and one more can be
 pub record CanGoOn (region partitions threads : ℕ) (ls : List Line) (l : Line) (p : Player) : Type 0 where
   pub playing : IsPlaying region partitions threads ls p
   pub short : length ls < 65535
   pub within : IsLineWithin partitions threads l
-  pub head : IsHeadWithin region partitions threads
+  pub head : IsHeadWithin (head_to p region partitions threads)
 
 -- some lines were played, and this one can be
 pub record IsReady (l : Line) (p : Player) : Type 0 where
@@ -33,8 +39,9 @@ pub record IsReady (l : Line) (p : Player) : Type 0 where
   pub ls : List Line
   pub can : CanGoOn region partitions threads ls l p
 
--- What was output before stays: these records are added, and journals and histories go on.
+-- What was output before stays: these records are added, and journals and histories go on. The version stays too.
 pub record TellsOn (es : List Entry) (p q : Player) : Type 0 where
+  pub version : q.version ≡ p.version
   pub entries : q.told.entries ≡ p.told.entries ++ es
   pub journals : (k : ℕ) → (more : List RootEntry) × (journals q k ≡ journals p k ++ more)
   pub histories : (k : ℕ) → (more : List CellEntry) × (history_in q.told k ≡ history_in p.told k ++ more)
@@ -69,11 +76,11 @@ GoesTo p (Do thread op) (Some answer) q =
     (region partitions threads : ℕ) (ls : List Line) → CanGoOn region partitions threads ls (Do thread op) p →
     HasPlayedTo region partitions threads (ls ++ Do thread op ∷ []) (record_of p thread answer ∷ []) p q
 
--- whatever lines led to p, after them the line was played, with some answer or with none
+-- whatever lines led to p, after them the line was played, with some answer or with none, by the same version
 abbrev pub GoesOnTo : Player → Line → Player → Type 0
 GoesOnTo p l q =
     (region partitions threads : ℕ) (ls : List Line) → CanGoOn region partitions threads ls l p →
-    IsPlaying region partitions threads (ls ++ l ∷ []) q
+    IsPlaying region partitions threads (ls ++ l ∷ []) q × (q.version ≡ p.version)
 
 -- a read of an owner's first word gives a value
 abbrev pub ReadsOwn : Player → ℕ → Op → Answer → Type 0
@@ -87,7 +94,8 @@ ReadsOwnOn p (Do thread op) (Some answer) = ReadsOwn p thread op answer
 ReadsOwnOn p l answer = Unit {0}
 
 -- the lines that were read of these bytes so far were played
-pub record IsPlayedUpTo (bytes : List ℕ) (u : Unread) (p : Player) : Type 0 where
+pub record IsPlayedUpTo (known : ℕ) (bytes : List ℕ) (u : Unread) (p : Player) : Type 0 where
   pub ls : List Line
-  pub read : IsReadUpTo bytes ls u
+  pub read : IsReadUpTo known bytes ls u
+  pub version : p.version ≡ u.head.version
   pub playing : IsPlaying u.head.region u.head.partitions u.head.threads ls p

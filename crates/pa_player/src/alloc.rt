@@ -18,7 +18,7 @@ use crate::player::Player;
 use crate::table::{fits, name_of};
 use crate::told::Told;
 use arrayvec::ArrayVec;
-use pa_buckets::{Class, class_of, fill_count, raw_of};
+use pa_buckets::{Class, class_in, fill_count, raw_of};
 use pa_direct::{GREATEST_SIZE, Shape, shape};
 use pa_layout::super_page_of;
 use pa_place::Placed;
@@ -65,7 +65,7 @@ impl<O: Output> Player<Told<O>> {
         if size > GREATEST_SIZE {
             return Ok(Answer::TooLarge);
         }
-        match class_of(raw_of(size)) {
+        match class_in(self.version, raw_of(size)) {
             Some(class) => self.request_slot(thread, reg, partition, class),
             None => {
                 let shape = shape(size).unwrap();
@@ -84,7 +84,7 @@ impl<O: Output> Player<Told<O>> {
     ) -> Result<Answer, OutOfMemory>
         requires { CanAllocateSlot thread reg partition class self.old }
         ensures allocates { IfOk result (AllocatesSlot thread reg partition
-            (list_place self.old.partitions thread partition class) class self.old self.new) }
+            (list_place self.old.version self.old.partitions thread partition class) class self.old self.new) }
         ensures same { OnErr result (told_before self.new.told ≡ told_before self.old.told) }
     {
         let at = self.list_of(thread, partition, class);
@@ -103,9 +103,9 @@ impl<O: Output> Player<Told<O>> {
         class: Class,
     ) -> Result<Answer, OutOfMemory>
         requires can { CanAllocateSlot thread reg partition class self.old }
-        requires empty { list_in self.old (list_place self.old.partitions thread partition class) ≡ [] }
+        requires empty { list_in self.old (list_place self.old.version self.old.partitions thread partition class) ≡ [] }
         ensures refills { IfOk result (Refills thread reg partition
-            (list_place self.old.partitions thread partition class) class self.old self.new) }
+            (list_place self.old.version self.old.partitions thread partition class) class self.old self.new) }
         ensures same { OnErr result (told_before self.new.told ≡ told_before self.old.told) }
     {
         let at = self.list_of(thread, partition, class);

@@ -42,6 +42,7 @@ impl FreeList {
     pub(crate) fn front(&mut self) -> Option<u32>
         ensures some { IfSome result (λ place. self.old ≡ place ∷ self.new) }
         ensures none { IfNone result (self.old ≡ []) }
+        ensures same { IfNone result (self.new ≡ self.old) }
     {
         if self.places.is_empty() {
             None

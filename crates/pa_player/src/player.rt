@@ -1,6 +1,7 @@
 ghost use Rattle.std.specs.Prelude.{◌≡◌, ◌<◌, ◌≤◌, [], Some, IfOk, OnOk, OnErr, length};
 ghost use Rattle.pa_trace.specs.Limits.{IsHeadWithin, register_count, most_partitions, most_threads};
 ghost use Rattle.pa_trace.specs.declared.script.Line.TheVariants.{Do, Phase};
+ghost use Rattle.pa_rules.specs.Sizes.{HasClass};
 ghost use Rattle.pa_player.specs.Asks.{CanEnd};
 ghost use Rattle.pa_player.specs.Begun.{IsBegun, IsUntold};
 ghost use Rattle.pa_player.specs.Changes.{phase_begun, phase_ended, registered};
@@ -16,11 +17,11 @@ use crate::registers::Registers;
 use crate::table::Table;
 use crate::tallies::Tallies;
 use crate::told::Told;
-use pa_buckets::{Class, SPARSE_CLASSES};
+use pa_buckets::{Class, first_class, past_class};
 use pa_record::Answer;
 use pa_rules::Register;
 use pa_slot::{OutOfMemory, Title};
-use pa_trace::{CELLS, Line, Op};
+use pa_trace::{CELLS, Head, Line, Op};
 use std::alloc::Global;
 
 /// What the lines of a trace so far left, and the output to which they are sent.
@@ -35,34 +36,36 @@ pub struct Player<T> {
     pub(crate) quarantined: Tallies,
     pub(crate) cached: Tallies,
     pub(crate) told: T,
+    pub(crate) version: u32,
     pub(crate) partitions: u32,
     pub(crate) phase: u32,
 }
 
 impl<O: Output> Player<Told<O>> {
-    /// Before the first line, when nothing was sent: `region` super pages, 1 to 16, `partitions`, 1 to 4, and `threads`, 1 to
-    /// 16, as in the head of a trace. Out of memory is the only error.
-    pub fn new(
-        alloc: Global,
-        region: u32,
-        partitions: u32,
-        threads: u32,
-        told: Told<O>,
-    ) -> Result<Player<Told<O>>, OutOfMemory>
-        requires head { IsHeadWithin region partitions threads }
-        requires told { IsUntold partitions told }
-        ensures { IfOk result (IsBegun region partitions threads) }
+    /// Before the first line, when nothing was sent: of the head of a trace. Out of memory is the only error.
+    pub fn new(alloc: Global, head: Head, told: Told<O>) -> Result<Player<Told<O>>, OutOfMemory>
+        requires head { IsHeadWithin head }
+        requires told { IsUntold head.partitions told }
+        ensures { IfOk result (IsBegun head) }
     {
+        let Head {
+            version,
+            region,
+            partitions,
+            threads,
+        } = head;
+        let classes = past_class(version) - first_class(version);
         Ok(Player {
             heap: Heap::new(alloc, region, partitions)?,
             table: Table::new(alloc),
             registers: Registers::new(alloc, threads)?,
             cells: [Register::Empty; CELLS as usize],
-            caches: Caches::new(alloc, threads * partitions * SPARSE_CLASSES)?,
+            caches: Caches::new(alloc, threads * partitions, classes)?,
             live: Tallies::new(),
             quarantined: Tallies::new(),
             cached: Tallies::new(),
             told,
+            version,
             partitions,
             phase: 1,
         })
@@ -178,13 +181,16 @@ impl<O: Output> Player<Told<O>> {
         self.registers.set(thread, reg, holds);
     }
 
-    // The index of the list of a thread's cache, by its partition and class.
+    // The index of the list of a thread's cache, by its partition and class. Only the classes of the version have lists.
     pub(crate) fn list_of(&self, thread: u32, partition: u32, class: Class) -> usize
         requires thread { thread < most_threads }
         requires partitions { self.now.partitions ≤ most_partitions }
         requires partition { partition < self.now.partitions }
-        ensures { result ≡ list_place self.now.partitions thread partition class }
+        requires class { HasClass self.now.version class }
+        ensures { result ≡ list_place self.now.version self.now.partitions thread partition class }
     {
-        ((thread * self.partitions + partition) * SPARSE_CLASSES + class.number()) as usize
+        let first = first_class(self.version);
+        let classes = past_class(self.version) - first;
+        ((thread * self.partitions + partition) * classes + (class.number() - first)) as usize
     }
 }

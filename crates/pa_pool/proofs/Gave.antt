@@ -51,7 +51,9 @@ out_take supers taken first count es h sound is found =
     let same = found_one es taken is.0.count count is.0.first first (out_found supers taken es h sound is) found in
     record { among = is.1; begins = same.1; reaches = same.0 }
 
-pub at_taken : (supers taken : ℕ) (es : List PoolEntry) (h : View) → IsPoolSound supers es h → (is : IsEntryOut (pool_after es supers) taken) → (e : PoolEntry) × (slice_get es taken ≡ Some e) × (e.act ≡ Take is.0.count (Some is.0.first))
+pub at_taken : (supers taken : ℕ) (es : List PoolEntry) (h : View) → IsPoolSound supers es h
+    → (is : IsEntryOut (pool_after es supers) taken) → (e : PoolEntry) × (slice_get es taken ≡ Some e)
+    × (e.act ≡ Take is.0.count (Some is.0.first))
 at_taken supers taken es h sound is = act_of (slice_get es taken) (Take is.0.count (Some is.0.first)) (out_found supers taken es h sound is)
 
 -- what is read at its place in the list is what it found
@@ -72,7 +74,8 @@ within_at a more n m below at_n =
     here ∙ (sym (slice_get_more a more n _ here) ∙ at_n)
 
 -- what the caller has seen of the entry is what the list has
-pub seen_entry : (supers taken partition first count : ℕ) (es : List PoolEntry) (h seat seat_now after : View) (m : Made) → IsPoolSound supers es h → taken < length es → HasSeenTake partition taken first count seat →
+pub seen_entry : (supers taken partition first count : ℕ) (es : List PoolEntry) (h seat seat_now after : View) (m : Made)
+    → IsPoolSound supers es h → taken < length es → HasSeenTake partition taken first count seat →
     IsBeginning (list_of 4 seat) (list_of 4 seat_now) → list_of 4 seat_now ≡ list_of 4 after → list_of 4 after ≡ list_of 4 h ++ m ∷ [] →
     (line : ℕ) × (slice_get es taken ≡ Some (take_entry line partition count (Some first)))
 seen_entry supers taken partition first count es h seat seat_now after m sound below seen begins whole list =
@@ -115,7 +118,8 @@ module _ (line partition supers taken first count : ℕ) (es : List PoolEntry) (
       ]
 
   -- what comes back is raw here again
-  gave_raw : (b : ℕ) → IsPoolSound supers es h → IsParted u h note → HasRun first count (taken + 1) taken note → (is : IsEntryOut (pool_after es supers) taken) → FoundRun es taken count first → Keeps u w →
+  gave_raw : (b : ℕ) → IsPoolSound supers es h → IsParted u h note → HasRun first count (taken + 1) taken note
+      → (is : IsEntryOut (pool_after es supers) taken) → FoundRun es taken count first → Keeps u w →
       IsFreeByte (gave first (pool_after es supers)) b → 0 < low_of w b (length es + 1)
   gave_raw b sound parted run is found keeps free = elim (byte_cases first count b) [
     | inl within ↦
@@ -136,7 +140,8 @@ module _ (line partition supers taken first count : ℕ) (es : List PoolEntry) (
           out (subst (λ n. IsByteOf first n b) (ap (λ (z : Taken). z.count) e ∙ take.reaches) (subst (λ n. IsByteOf n t.count b) (ap (λ (z : Taken). z.first) e ∙ take.begins) has))
       beside t has out (inr left) = free.free t left has
 
-  gave_here : (n : ℕ) → IsPoolSound supers es h → IsParted u h note → HasRun first count (taken + 1) taken note → (is : IsEntryOut (pool_after es supers) taken) → FoundRun es taken count first → Keeps u w →
+  gave_here : (n : ℕ) → IsPoolSound supers es h → IsParted u h note → HasRun first count (taken + 1) taken note
+      → (is : IsEntryOut (pool_after es supers) taken) → FoundRun es taken count first → Keeps u w →
       (IsEntryOut (gave first (pool_after es supers)) n → ⊥) → 0 < lease_of w n
   gave_here n sound parted run is found keeps none =
       let p = parted.leases n in let k = keeps.leases n in let l = run.leases n in
@@ -150,7 +155,8 @@ module _ (line partition supers taken first count : ℕ) (es : List PoolEntry) (
             omega arith
       ]
 
-  gave_out : (n : ℕ) → IsPoolSound supers es h → IsParted u h note → HasRun first count (taken + 1) taken note → (is : IsEntryOut (pool_after es supers) taken) → FoundRun es taken count first → Keeps u w →
+  gave_out : (n : ℕ) → IsPoolSound supers es h → IsParted u h note → HasRun first count (taken + 1) taken note
+      → (is : IsEntryOut (pool_after es supers) taken) → FoundRun es taken count first → Keeps u w →
       IsEntryOut (gave first (pool_after es supers)) n → lease_of w n ≡ 0
   gave_out n sound parted run is found keeps o =
       let take = out_take supers taken first count es h sound is found in
@@ -177,8 +183,10 @@ module _ (line partition supers taken first count : ℕ) (es : List PoolEntry) (
 
 -- Of the note that comes back, and of what the caller has seen: the entry is the next one, and what was found is what the
 -- caller has seen.
-pub give_ends : (line partition supers taken first count from of r : ℕ) (es : List PoolEntry) (h note u w seat seat_now : View) (m : Made) → IsPoolSound supers es h → IsAware h → IsAware u → u ≡ united h note →
-    IsParted u h note → ComesBack partition taken from of seat note → FoundRun es taken count first → IsNoted r 4 (pool_numbers (give_entry line partition count first)) seat seat_now u w m → HostsKeeper 4 w →
+pub give_ends : (line partition supers taken first count from of r : ℕ) (es : List PoolEntry) (h note u w seat seat_now : View) (m : Made)
+    → IsPoolSound supers es h → IsAware h → IsAware u → u ≡ united h note →
+    IsParted u h note → ComesBack partition taken from of seat note → FoundRun es taken count first
+    → IsNoted r 4 (pool_numbers (give_entry line partition count first)) seat seat_now u w m → HostsKeeper 4 w →
     IsPoolSound supers (es ++ give_entry line partition count first ∷ []) w × (list_of 4 u ≡ list_of 4 h) × ((of ≡ count) × (from ≡ first))
 give_ends line partition supers taken first count from of r es h note u w seat seat_now m sound aware both joined parted back found noted hosts =
     let out = is_out supers taken es h note u sound both parted (back.run.leases taken) in
@@ -188,8 +196,12 @@ give_ends line partition supers taken first count from of r es h note u w seat s
     let one = found_one es taken of count from first (ap (option_map (λ (e : PoolEntry). e.act)) seen.1) found in
     let run = subst (λ n. HasRun first n (taken + 1) taken note) one.0 (subst (λ n. HasRun n of (taken + 1) taken note) one.1 back.run) in
     let owned : IsPartitions es partition out.0 =
-    (take_entry seen.0 partition of (Some from), ap (λ n. slice_get es n) out.2 ∙ seen.1, refl) in
-    (gave_sound line partition supers taken first count es h note u w m sound parted run out found owned same (made_by r (give_entry line partition count first) seat seat_now u w m noted hosts), same, one)
+    (take_entry seen.0 partition of (Some from), ap (λ n. slice_get es n) out.2 ∙ seen.1, refl) in (
+      gave_sound line partition supers taken first count es h note u w m sound parted run out found owned same
+          (made_by r (give_entry line partition count first) seat seat_now u w m noted hosts),
+      same,
+      one,
+    )
 
 -- what the call that gives ensures
 pub given_so : (line partition taken first count from of index : ℕ) (u : View) (a b host : Share) (p q z : PoolValue) (m : Made) → IsAsBefore p q → index ≡ length q.entries →

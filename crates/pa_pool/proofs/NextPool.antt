@@ -18,7 +18,8 @@ use Rattle.pa_pool.specs.Pools.{PoolValue, pool_after, IsFreeByte, IsEntryOut, I
 use Rattle.pa_lists.proofs.Indexed.{slice_get_at}
 
 -- the list with the additional entry, in numbers
-pub list_grows : (es : List PoolEntry) (e : PoolEntry) (before after : List Made) (m : Made) → map (λ (x : Made). x.numbers) before ≡ map pool_numbers es → after ≡ before ++ m ∷ [] → m.numbers ≡ pool_numbers e →
+pub list_grows : (es : List PoolEntry) (e : PoolEntry) (before after : List Made) (m : Made)
+    → map (λ (x : Made). x.numbers) before ≡ map pool_numbers es → after ≡ before ++ m ∷ [] → m.numbers ≡ pool_numbers e →
     map (λ (x : Made). x.numbers) after ≡ map pool_numbers (es ++ e ∷ [])
 list_grows es e before after m same is says =
     ap (map (λ (x : Made). x.numbers)) is ∙ map-append (λ (x : Made). x.numbers) before (m ∷ []) ∙ ap (λ ns. ns ++ m.numbers ∷ []) same

@@ -149,7 +149,8 @@ module _ (line partition count supers : ℕ) (es : List PoolEntry) (h w : View) 
   -- what a take ensures, of the views that the call leaves
   pub take_ends : (first index : ℕ) (l g : View) → l ≡ left_after (run_parcel first count index) w → g ≡ given_after (run_parcel first count index) w → index ≡ length es → IsParted w l g →
       IsPoolSound supers es h → 1 ≤ count → IsLowest (pool_after es supers) count (Some first) → IsMadeBy (take_entry line partition count (Some first)) h w m → IsAware w →
-      IsPoolSound supers (es ++ take_entry line partition count (Some first) ∷ []) l × (HasRun first count index index g × HasNoOther first count g) × (list_of 4 g ≡ list_of 4 l) × (list_of 4 l ≡ list_of 4 w)
+      IsPoolSound supers (es ++ take_entry line partition count (Some first) ∷ []) l
+      × (HasRun first count index index g × HasNoOther first count g) × (list_of 4 g ≡ list_of 4 l) × (list_of 4 l ≡ list_of 4 w)
   take_ends first index l g is_left is_given place parted sound some lowest made aware =
       let left = left_after (run_parcel first count (length es)) w in
       let given = given_after (run_parcel first count (length es)) w in

@@ -95,7 +95,8 @@ open_to v t = go v.owns
     each true (Poisoned j) = omega arith
     each false a = omega arith
 
-    go : (os : List OwnTitle) → sum_by (λ (o : OwnTitle). one (same_title o.title t && same_state o.state Clean)) os + sum_by (λ (o : OwnTitle). one (same_title o.title t && same_state o.state Dirty)) os
+    go : (os : List OwnTitle) → sum_by (λ (o : OwnTitle). one (same_title o.title t && same_state o.state Clean)) os + sum_by
+        (λ (o : OwnTitle). one (same_title o.title t && same_state o.state Dirty)) os
         ≤ sum_by (λ (o : OwnTitle). one (same_title o.title t && (progress o.state == 0))) os
     go [] = omega arith
     go (o ∷ os) =

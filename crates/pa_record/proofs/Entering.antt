@@ -158,7 +158,16 @@ in_state_numbers to turn t counted says = elim (cases_Bool (same_state t.state t
   | inl same ↦ rw same (record { counted = counted; says = subst (λ a. StateSays a t) (sym (same_state-true t.state to same)) says })
   | inr other ↦ rw other
       (record {
-        counted = record { class = counted.class; listed = counted.listed; numbers = counted.numbers; once = counted.once; provisioned = counted.provisioned; committed = counted.committed; made = counted.made; most = counted.most };
+        counted = record {
+          class = counted.class;
+          listed = counted.listed;
+          numbers = counted.numbers;
+          once = counted.once;
+          provisioned = counted.provisioned;
+          committed = counted.committed;
+          made = counted.made;
+          most = counted.most;
+        };
         says = says_with to turn t to says;
       })
 ]

@@ -16,7 +16,8 @@ use Rattle.pa_record.proofs.Fields.{letters, cut4, cut6, cut7, wide, same_rest, 
 made_cut : (s : Seen) (n : ℕ) (x : List ℕ) → answer_text (Made s n) ++ x ≡ codes "made" ++ (slot_part s ++ (codes " " ++ (decimal n ++ (codes " " ++ (hex 16 s.found.0 ++ x)))))
 made_cut s n x = cut6 (codes "made") (slot_part s) (codes " ") (decimal n) (codes " ") (hex 16 s.found.0) x
 
-split_made : (s t : Seen) (m n : ℕ) (x y : List ℕ) → SeenInBits s → Is32 m → SeenInBits t → Is32 n → answer_text (Made s m) ++ 10 ∷ x ≡ answer_text (Made t n) ++ 10 ∷ y → (Made s m ≡ Made t n) × (x ≡ y)
+split_made : (s t : Seen) (m n : ℕ) (x y : List ℕ) → SeenInBits s → Is32 m → SeenInBits t → Is32 n
+    → answer_text (Made s m) ++ 10 ∷ x ≡ answer_text (Made t n) ++ 10 ∷ y → (Made s m ≡ Made t n) × (x ≡ y)
 split_made s t m n x y hs hm ht hn e =
     let cut = sym (made_cut s m (10 ∷ x)) ∙ e ∙ made_cut t n (10 ∷ y) in
     let slot = spaced_slot s.slot t.slot _ _ hs.0 ht.0 (append_cancel_left (codes "made ") _ _ cut) in

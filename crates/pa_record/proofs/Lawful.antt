@@ -174,7 +174,8 @@ journal_grows = record {
 }
 
 -- fills that fit one root
-same_asked : (pools : List PoolEntry) (class : ℕ) (a b : Option ℕ) (xs ys : List Numbered) (r : Root) → RootActFits pools (Fill class a xs) r → RootActFits pools (Fill class b ys) r → is_some a ≡ is_some b
+same_asked : (pools : List PoolEntry) (class : ℕ) (a b : Option ℕ) (xs ys : List Numbered) (r : Root)
+    → RootActFits pools (Fill class a xs) r → RootActFits pools (Fill class b ys) r → is_some a ≡ is_some b
 same_asked pools class None None xs ys r h k = refl
 same_asked pools class None (Some j) xs ys r h k = absurd (true≢false (sym h.1 ∙ k.1.0))
 same_asked pools class (Some j) None xs ys r h k = absurd (true≢false (sym k.1 ∙ h.1.0))

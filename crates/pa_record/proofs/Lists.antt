@@ -86,7 +86,8 @@ pub record AreNested {A : Type 0} (P : A → Type 0) (c : ℕ) (f : ℕ → ℕ 
   pub place : (p q j i : ℕ) (a b : A) (x y : List ℕ) → p < 2 ^ 64 → q < 2 ^ 64 → f p j a ++ x ≡ f q i b ++ y → p ≡ q
   pub begins : (p : ℕ) → Begins c (f p)
 
-pub avoid_nested : {A : Type 0} (c d : ℕ) (P : A → Type 0) (f : ℕ → ℕ → A → List ℕ) (p : ℕ) (lists : List (List A)) (u : List ℕ) → (c ≡ d → ⊥) → AreNested P d f → Avoids c u → Avoids c (nested f p lists ++ u)
+pub avoid_nested : {A : Type 0} (c d : ℕ) (P : A → Type 0) (f : ℕ → ℕ → A → List ℕ) (p : ℕ) (lists : List (List A)) (u : List ℕ)
+    → (c ≡ d → ⊥) → AreNested P d f → Avoids c u → Avoids c (nested f p lists ++ u)
 avoid_nested c d P f p [] u other known avoids = avoids
 avoid_nested c d P f p (xs ∷ lists) u other known avoids = λ rest e.
     avoid_lines c d (f p) 0 xs (nested f (p + 1) lists ++ u) other (known.begins p) (avoid_nested c d P f (p + 1) lists u other known avoids) rest

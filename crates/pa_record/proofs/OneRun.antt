@@ -87,7 +87,8 @@ cells_avoid_cell r = cells_avoid 99 r (apart 99 115 (omega arith))
 
 run_cut : (r : Run) → run_text r ≡ codes "run 1\n" ++ (flat_map entry_text r.entries.items ++ behind_entries r)
 unfolding behind_entries behind_roots behind_pool behind_cells
-run_cut r = cut6 (codes "run 1\n") (flat_map entry_text r.entries.items) (roots_text r.roots.items) (pools_text r.pool.items) (cells_text r.cells.items) (flat_map report_text r.report.items) (codes "end\n")
+run_cut r = cut6 (codes "run 1\n") (flat_map entry_text r.entries.items) (roots_text r.roots.items) (pools_text r.pool.items)
+    (cells_text r.cells.items) (flat_map report_text r.report.items) (codes "end\n")
 
 -- ---- the run
 
@@ -115,7 +116,8 @@ pub one_text : (a b : Run) (s t : List ℕ) → IsRunText a s → IsRunText b t 
 one_text a b s t ha hb same =
     ha.text
     ∙ joined (codes "run 1\n") (flat_map entry_text a.entries.items) (flat_map entry_text b.entries.items) (roots_text a.roots.items) (roots_text b.roots.items)
-    (pools_text a.pool.items) (pools_text b.pool.items) (cells_text a.cells.items) (cells_text b.cells.items) (flat_map report_text a.report.items) (flat_map report_text b.report.items) (codes "end\n")
+    (pools_text a.pool.items) (pools_text b.pool.items) (cells_text a.cells.items) (cells_text b.cells.items)
+    (flat_map report_text a.report.items) (flat_map report_text b.report.items) (codes "end\n")
     (ap (flat_map entry_text) same.entries) (same_nested root_text 0 a.roots.items b.roots.items same.roots) (ap pools_text same.pool)
     (same_nested cell_text 0 a.cells.items b.cells.items same.cells) (ap (flat_map report_text) same.report)
     ∙ sym hb.text

@@ -265,7 +265,8 @@ pub returned_is : (r : Root) (name : SlotName) → IsSound r → IsOut r name �
 returned_is r name sound out = settled_is name r _ (put_back_out r name sound out)
 
 -- other slots are still out
-pub still_out : (r next : Root) (name : SlotName) (names : List SlotName) → IsReturned (name ∷ []) r next → All (IsOut r) names → ((other : SlotName) → Contains names other → name ≢ other) → All (IsOut next) names
+pub still_out : (r next : Root) (name : SlotName) (names : List SlotName) → IsReturned (name ∷ []) r next → All (IsOut r) names
+    → ((other : SlotName) → Contains names other → name ≢ other) → All (IsOut next) names
 still_out r next name names a outs differ k d below =
     let other = get_or names k d in
     a.stays other

@@ -87,9 +87,11 @@ aware_of words views i v k at_i = record {
     | inl y ↦ let f = (count_found t words views i v k at_i (title_held v t (omega arith))).owns in let s = held_small (count_word (byte_words words) t) in omega arith
     | inr n ↦ omega arith
   ];
-  stake_once = λ n. let p = sum_part (λ u. stake_of u n) views i v at_i in let e = k.logs.each_stake n in elim (one_lt n 16) [ inl y ↦ let z = y.0 in omega arith | inr m ↦ let z = m.0 in omega arith ];
+  stake_once = λ n. let p = sum_part (λ u. stake_of u n) views i v at_i in let e = k.logs.each_stake n in elim (one_lt n 16)
+      [ inl y ↦ let z = y.0 in omega arith | inr m ↦ let z = m.0 in omega arith ];
   stake_small = λ n has. let p = sum_part (λ u. stake_of u n) views i v at_i in let e = k.logs.each_stake n in elim (one_lt n 16) [ inl y ↦ y.1 | inr m ↦ let z = m.0 in absurd (omega arith) ];
-  keeper_once = λ n. let p = sum_part (λ u. keeper_of u n) views i v at_i in let e = k.lists.each_keeper n in elim (one_lt n 6) [ inl y ↦ let z = y.0 in omega arith | inr m ↦ let z = m.0 in omega arith ];
+  keeper_once = λ n. let p = sum_part (λ u. keeper_of u n) views i v at_i in let e = k.lists.each_keeper n in elim (one_lt n 6)
+      [ inl y ↦ let z = y.0 in omega arith | inr m ↦ let z = m.0 in omega arith ];
   lease_once = λ n. let p = sum_part (λ u. lease_of u n) views i v at_i in let e = k.lists.each_lease n in omega arith;
   free_alone = λ t free. elim (cases_lt 0 (own_of v t + ref_of v t)) [ inl y ↦ absurd (free_alone t words views i v k at_i free y) | inr n ↦ omega arith ];
   apart = λ t u b mine other covers inside. k.holders.good.divided.apart t u b (held t mine) (held u other) covers inside;

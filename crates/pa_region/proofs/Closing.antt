@@ -65,7 +65,8 @@ owned_clean words views i v t k at_i every clean =
     each u =
         let e = owns_as_have u t Clean in
         let f = owns_have u t in
-        let s = sum_split (λ (o : OwnTitle). one (same_title o.title t && same_state o.state Clean)) (λ (o : OwnTitle). one (same_title o.title t && is_unclean o.state)) (λ (o : OwnTitle). one (same_title o.title t)) u.owns
+        let s = sum_split (λ (o : OwnTitle). one (same_title o.title t && same_state o.state Clean))
+        (λ (o : OwnTitle). one (same_title o.title t && is_unclean o.state)) (λ (o : OwnTitle). one (same_title o.title t)) u.owns
         (λ o. clean_split (same_title o.title t) o.state) in
         omega arith
 

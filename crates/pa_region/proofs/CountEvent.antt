@@ -149,10 +149,12 @@ core_happens step t words views i v k at_i can =
     let held = held_in_all words views i v t at_i (handle_held step t v can.0) in
     let at_place = bytes_set words (count_place t) (stepped step word) (place_below words views t k held) in
     let after = is_after words (words_at step t words) views i v (after_count step t word v) (lost_by step t m.0) (gained_by step t (stepped step word)) at_i (λ x. m.1 x) in
-    go step refl m.0 m.2 (subst (λ (ws : List ℕ). IsAfter (shown words views) i (lost_by step t m.0) (gained_by step t (stepped step word)) ws (shown (words_at step t words) (views_at step t words views i v))) at_place after)
+    go step refl m.0 m.2 (subst (λ (ws : List ℕ). IsAfter (shown words views) i (lost_by step t m.0)
+    (gained_by step t (stepped step word)) ws (shown (words_at step t words) (views_at step t words views i v))) at_place after)
   where
     go : (p : Step) → p ≡ step → (a : OwnState) → TakesOwn p t a v →
-        IsAfter (shown words views) i (lost_by p t a) (gained_by p t (stepped p (count_word (byte_words words) t))) (stepped_words p t words) (shown (words_at step t words) (views_at step t words views i v)) →
+        IsAfter (shown words views) i (lost_by p t a) (gained_by p t (stepped p (count_word (byte_words words) t)))
+        (stepped_words p t words) (shown (words_at step t words) (views_at step t words views i v)) →
         Happens (CountEvent i t p) (shown words views) (shown (words_at step t words) (views_at step t words views i v))
     go Issue e a takes h = h
     go Copy e a takes h = h
@@ -160,12 +162,18 @@ core_happens step t words views i v k at_i can =
     go Free e a takes h =
         let can_free : CanCount Free t v = subst (λ (p : Step). CanCount p t v) (sym e) can in
         let same = state_is words views i v t a (Poisoned (content_count t)) k at_i takes (own_held words views i v t (Poisoned (content_count t)) at_i can_free.0) in
-        subst (λ (s : OwnState). IsAfter (shown words views) i (OwnPiece t s ∷ []) (returned_at (stepped Free (count_word (byte_words words) t)) t) (stepped_words Free t words) (shown (words_at step t words) (views_at step t words views i v))) same h
+        subst (λ (s : OwnState). IsAfter (shown words views) i (OwnPiece t s ∷ [])
+        (returned_at (stepped Free (count_word (byte_words words) t)) t) (stepped_words Free t words)
+        (shown (words_at step t words) (views_at step t words views i v))) same h
     go Write e a takes h =
         let can_write : CanCount Write t v = subst (λ (p : Step). CanCount p t v) (sym e) can in
         let unfrozen = open_state words views i v t at_i can_write.0.1 in
-        let same = state_is words views i v t a unfrozen.0 k at_i takes unfrozen.1.1 in
-        (unfrozen.0, unfrozen.1, subst (λ (s : OwnState). IsAfter (shown words views) i (OwnPiece t s ∷ []) (OwnPiece t Clean ∷ []) (stepped_words Write t words) (shown (words_at step t words) (views_at step t words views i v))) same h)
+        let same = state_is words views i v t a unfrozen.0 k at_i takes unfrozen.1.1 in (
+          unfrozen.0,
+          unfrozen.1,
+          subst (λ (s : OwnState). IsAfter (shown words views) i (OwnPiece t s ∷ []) (OwnPiece t Clean ∷ [])
+              (stepped_words Write t words) (shown (words_at step t words) (views_at step t words views i v))) same h,
+        )
 
 -- a counted step is an enabled event of the core that is shown
 pub count_event : (step : Step) (t : Title) (words : List ℕ) (views : List View) (i : ℕ) (v : View) → IsKept words views → get_elem? views i ≡ some v →

@@ -94,7 +94,8 @@ count_free step t a words after views i v k at_i can x good vals at_place u free
     let known = free_word_known after (set views i w) i w u good vals (put_there views i v w at_i) free in
     elim (title_tells t u) [
       | inl y ↦
-          let here : count_word (byte_words after) t ≡ stepped step word = ap (λ ws. count_word ws t) at_place ∙ word_here step t a (byte_words words) (total_of (shown words views)) _ _ _ _ k.holders x in
+          let here : count_word (byte_words after) t ≡ stepped step word = ap (λ ws. count_word ws t) at_place
+          ∙ word_here step t a (byte_words words) (total_of (shown words views)) _ _ _ _ k.holders x in
           let n = number_stepped step word x.can in
           let s = note_here t (number_of word + 1) (moved step t word v).seen in
           let e : number_of (count_word w.words u) ≡ number_of word + 1 = ap number_of (known ∙ (ap (λ z. count_word (byte_words after) z) (sym y.1) ∙ here)) ∙ n in

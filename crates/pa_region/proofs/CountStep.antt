@@ -155,14 +155,19 @@ count_keeps step t words views i v k at_i can =
           let same = moved_idle_other step t u word v ne piece in
           let now : idle_of w u ≡ idle_of (moved step t word v) u = refl in
           omega arith)
-          (idle_here step t words (set words (count_place t) (stepped step word)) views i v w k at_i piece x.1.can refl (own_grows step x.0 (total_of (shown words views)) (total_of (shown (set words (count_place t) (stepped step word)) (set views i w))) (stepped step word) (x.1.changes (OwnOf t))) held)
+          (idle_here step t words (set words (count_place t) (stepped step word)) views i v w k at_i piece x.1.can refl
+          (own_grows step x.0 (total_of (shown words views))
+          (total_of (shown (set words (count_place t) (stepped step word)) (set views i w))) (stepped step word)
+          (x.1.changes (OwnOf t))) held)
           (λ u some_idle. let z = idle_within words views u in omega arith));
       values = rw at_place (count_values step t words views i v k at_i can);
       reservations = reservations_count t (byte_words words) (total_of (shown words views)) _ (idle_in views) (budget_in views) (logged_in views counted)
           (low_in views) (low_in (set views i w)) _ _ (uncut_in views) (uncut_in (set views i w))
           k.reservations k.holders held (λ u y. (back u).1 y) (low_set views i v w at_i (moved_raws step t word v)) (low_raw words views)
           (λ u. more (names u)) (λ u. let m = more (uncuts u) in omega arith);
-      named = named_more t (length (byte_words words)) (length (byte_words (set words (count_place t) (stepped step word)))) (total_of (shown words views)) (total_of (shown (set words (count_place t) (stepped step word)) (set views i w))) (low_in views) _ _ (uncut_in views) (uncut_in (set views i w))
+      named = named_more t (length (byte_words words)) (length (byte_words (set words (count_place t) (stepped step word))))
+          (total_of (shown words views)) (total_of (shown (set words (count_place t) (stepped step word)) (set views i w))) (low_in views)
+          _ _ (uncut_in views) (uncut_in (set views i w))
           k.named k.reservations k.holders.good.divided held (rw at_place (length-set (byte_words words) (count_place t) (stepped step word))) (λ u none y. (back u).0 y)
           (λ u. more (names u)) (λ u. let m = more (uncuts u) in omega arith);
       logs = rw at_place (

@@ -170,7 +170,9 @@ here_listed list k numbers v l has one_keeper one_stake =
         (subst (λ (xs : List Made). IsBeginning (list_of k v ++ m ∷ []) xs) (sym at_k) ([], ap (λ xs. xs ++ m ∷ []) (sym (l.whole k has)) ∙ sym (append_nil (list_of k v ++ m ∷ [])))),
         each_map (λ n. IsBeginning n.entries (list n.keeper)) (λ n. IsBeginning n.entries (list_with list k m n.keeper)) v.seen_lists (λ n b. begins_more list k m n.keeper n.entries b) l.beginnings,
       );
-      whole = λ q there. seen_after k numbers v q ∙ ap (λ xs. if eqb q k then xs ++ m ∷ [] else xs) (l.whole q (let e = changed_sum (is_keeper k) (with_made m) (λ (p : Keeper). one (eqb p.number q)) v.keepers (λ p. refl) in omega arith));
+      whole = λ q there. seen_after k numbers v q ∙ ap (λ xs. if eqb q k then xs ++ m ∷ [] else xs)
+          (l.whole q (let e = changed_sum (is_keeper k) (with_made m) (λ (p : Keeper). one (eqb p.number q)) v.keepers (λ p. refl) in
+          omega arith));
       kept = each_one (λ (q : Keeper). q.entries ≡ list q.number) (λ (q : Keeper). q.entries ≡ list_with list k m q.number) (is_keeper k) (with_made m) v.keepers one_keeper
           (λ q here same. rw here (ap (λ xs. xs ++ m ∷ []) same)) (λ q other same. rw other same) l.kept;
       made = λ q. entering_made k q m (list q) v.stakes refl one_stake (l.made q);

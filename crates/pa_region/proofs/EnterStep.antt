@@ -74,7 +74,8 @@ enter_keeps k numbers words views i v r at_i can =
           r.named refl (λ u y. let p = same (FreeTitle u) in let q = same (OwnOf u) in let s = same (RefOf u) in omega arith)
           (λ u. let m = more (names u) in omega arith) (λ u. let m = more (uncuts u) in omega arith);
       logs = record {
-        chain = λ u. chain_other (logged_in views) (logged_in (set views i w)) e u (r.history u) (r.logs.chain u) more refl (λ n. refl) (λ p found written. refl) (λ found some_look. absurd (omega arith));
+        chain = λ u. chain_other (logged_in views) (logged_in (set views i w)) e u (r.history u) (r.logs.chain u) more refl (λ n. refl)
+            (λ p found written. refl) (λ found some_look. absurd (omega arith));
         last = λ u y. r.logs.last u (back u y);
         each_stake = λ n. stakes_set views i v w at_i (λ m. noted_stakes e v.stakes m stake) n ∙ r.logs.each_stake n;
       };

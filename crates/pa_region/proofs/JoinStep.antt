@@ -122,7 +122,9 @@ united_knows v w q (inr (inr own)) =
 united_values : (words : List ℕ) (v w : View) → length v.words ≡ length w.words → ((q : ℕ) → Knows v q → slice_index v.words q ≡ slice_index words q) →
     ((q : ℕ) → Knows w q → slice_index w.words q ≡ slice_index words q) → (q : ℕ) → Knows (united v w) q → slice_index (united v w).words q ≡ slice_index words q
 united_values words v w long mine other q knows =
-    let at_q = subst (λ (n : ℕ). slice_index (merged v 0 v.words w.words) q ≡ (if ltb 0 (knowing v n) then slice_index v.words q else slice_index w.words q)) (let z : 0 + q ≡ q = omega arith in z) (merged_at v 0 v.words w.words q long) in
+    let at_q = subst (λ (n : ℕ). slice_index (merged v 0 v.words w.words) q ≡
+    (if ltb 0 (knowing v n) then slice_index v.words q else slice_index w.words q)) (let z : 0 + q ≡ q = omega arith in z)
+    (merged_at v 0 v.words w.words q long) in
     elim (cases_lt 0 (knowing v q)) [
       | inl y ↦ at_q ∙ rw (lt-ltb 0 (knowing v q) y) (mine q (knowing_knows v q y))
       | inr n ↦ at_q ∙ rw (le-ltb 0 (knowing v q) n) (other q (elim (united_knows v w q knows) [ inl z ↦ (let k = knows_knowing v q z in absurd (omega arith)) | inr z ↦ z ]))
@@ -228,7 +230,8 @@ join_keeps words views i j v w k at_i was_j ne at_j can =
     kept_regrouped words views (set (set views i both) j spent) k
     (joined_regroups views i j v w both spent at_i at_j (united_parts v w) (λ t. let e = united_idle v w t in omega arith) (spent_parts w) refl refl can)
     (record {
-      long = each_joined (λ u. length u.words ≡ length (byte_words words)) views i j v w both spent at_i at_j k.values.long (merged_long v 0 v.words w.words long ∙ k.values.long i v at_i) (k.values.long j w was_j);
+      long = each_joined (λ u. length u.words ≡ length (byte_words words)) views i j v w both spent at_i at_j k.values.long
+          (merged_long v 0 v.words w.words long ∙ k.values.long i v at_i) (k.values.long j w was_j);
       known = λ m q u at_m. each_joined (λ u. Knows u q → slice_index u.words q ≡ slice_index (byte_words words) q) views i j v w both spent at_i at_j
           (λ n x at_n. k.values.known n q x at_n) (known q) (λ knows. absurd (spent_knows w q knows)) m u at_m;
     })

@@ -149,7 +149,10 @@ lends_back lender done r more mine can there long aware back logged = record {
       let c = (hand_parts (stake_parcel r) lender can).keepers k in let n = given_keeper r k lender in
       left_whole l g k (left_aware (stake_parcel r) lender can mine) aware (omega arith);
   keeps = lend_keeps lender done r can there long aware back;
-  logs = λ k. elim (eqb_tells k r) [ inl y ↦ rw y.0 (subst (λ (n : ℕ). log_of n (united l g) ≡ log_of n lender ++ more) (sym y.1) here) | inr n ↦ rw n.0 (beside k n.1 ∙ sym (append-nil (log_of k lender))) ];
+  logs = λ k. elim (eqb_tells k r) [
+    | inl y ↦ rw y.0 (subst (λ (n : ℕ). log_of n (united l g) ≡ log_of n lender ++ more) (sym y.1) here)
+    | inr n ↦ rw n.0 (beside k n.1 ∙ sym (append-nil (log_of k lender)))
+  ];
 }
   where
     l : View

@@ -59,7 +59,8 @@ plain_unused at_byte words views i v t k at_i (inr free) covers has =
 count_covered : (words : List ℕ) (views : List View) (t : Title) → IsKept words views → IsTitleHeld (total_of (shown words views)) t → Covers t (count_offset t)
 count_covered words views t k held = word_covered (length (byte_words words)) t (count_place t) (k.holders.good.divided.well t held) (omega arith, omega arith)
 
-place_covered : (words : List ℕ) (views : List View) (t : Title) (place : ℕ) → IsKept words views → IsTitleHeld (total_of (shown words views)) t → place < content_count t → Covers t (content_offset t place)
+place_covered : (words : List ℕ) (views : List View) (t : Title) (place : ℕ) → IsKept words views
+    → IsTitleHeld (total_of (shown words views)) t → place < content_count t → Covers t (content_offset t place)
 place_covered words views t place k held below = (content_covered (length (byte_words words)) t place (k.holders.good.divided.well t held) below).0
 
 -- what a view knows of a plain word
@@ -94,7 +95,9 @@ tells_plain at_byte words views i v k at_i aligned plain = record {
   look = λ t at_word has.
       absurd (plain_unused at_byte words views i v t k at_i plain (subst (λ (b : ℕ). Covers t b) (sym at_word) (count_covered words views t k (user_in_all words views i v t at_i has))) has);
   read = λ t place at_word below has.
-      absurd (plain_unused at_byte words views i v t k at_i plain (subst (λ (b : ℕ). Covers t b) (sym at_word) (place_covered words views t place k (user_in_all words views i v t at_i has) below)) has);
+      absurd (plain_unused at_byte words views i v t k at_i plain
+      (subst (λ (b : ℕ). Covers t b) (sym at_word) (place_covered words views t place k (user_in_all words views i v t at_i has)
+      below)) has);
 }
 
 -- which is a load in the core that is shown

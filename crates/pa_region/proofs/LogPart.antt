@@ -134,7 +134,9 @@ chain_more logs after t d history c grows can with_entry = record {
     newest =
         let w = with_entry (counted_as t d.step (reached history) d.value) in
         let here : counted_as t d.step (reached history) d.value e ≡ 1 =
-        all_true (same_title t t) (eqb (step_number d.step) (step_number d.step)) (eqb (reached history) (reached history)) (eqb d.value d.value) (title_self t) (eq-eqb (step_number d.step) (step_number d.step) refl) (eq-eqb (reached history) (reached history) refl) (eq-eqb d.value d.value refl) in
+        all_true (same_title t t) (eqb (step_number d.step) (step_number d.step)) (eqb (reached history) (reached history))
+        (eqb d.value d.value) (title_self t) (eq-eqb (step_number d.step) (step_number d.step) refl)
+        (eq-eqb (reached history) (reached history) refl) (eq-eqb d.value d.value refl) in
         let less = grows (counted_as t d.step (reached history) d.value) (counted_at t (number_of (reached history))) (as_at t d.step (reached history) d.value) in
         let n = c.numbers (number_of (reached history)) in
         let g = long in

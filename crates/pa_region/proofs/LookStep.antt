@@ -147,7 +147,8 @@ look_keeps t words views i v k at_i mine has =
           (low_in views) (low_in (set views i w)) _ _ (uncut_in views) (uncut_in (set views i w))
           k.reservations k.holders held back (low_set views i v w at_i refl) (low_raw words views)
           (λ u. more (names u)) (λ u. let m = more (uncuts u) in omega arith);
-      named = named_more t (length (byte_words words)) (length (byte_words words)) (total_of (shown words views)) (total_of (shown words (set views i w))) (low_in views) _ _ (uncut_in views) (uncut_in (set views i w))
+      named = named_more t (length (byte_words words)) (length (byte_words words)) (total_of (shown words views))
+          (total_of (shown words (set views i w))) (low_in views) _ _ (uncut_in views) (uncut_in (set views i w))
           k.named k.reservations k.holders.good.divided held refl (λ u none y. forth u y)
           (λ u. more (names u)) (λ u. let m = more (uncuts u) in omega arith);
       logs = logs_look t (byte_words words) (total_of (shown words views)) _ k.history (logged_in views) (logged_in (set views i w)) (stakes_in views) (stakes_in (set views i w))

@@ -145,6 +145,7 @@ noted_by a h l g u e l2 g2 f k numbers l_is g_is u_is e_is l2_is g2_is f_is lend
     f_is ∙ (ap (λ (x : View). united x g2) l_is ∙ ap (λ (x : View). united (left_after (stake_parcel r) a) x) g2_by) in (
       new_entry numbers (both_of a h),
       subst (λ (x : View). IsNoted r k numbers a x h l2 (new_entry numbers (both_of a h))) (sym f_by)
-          (subst (λ (x : View). IsNoted r k numbers a (united (left_after (stake_parcel r) a) (given_after (stake_parcel r) (after_enter k numbers (both_of a h)))) h x (new_entry numbers (both_of a h))) (sym l2_by)
+          (subst (λ (x : View). IsNoted r k numbers a (united (left_after (stake_parcel r) a)
+          (given_after (stake_parcel r) (after_enter k numbers (both_of a h)))) h x (new_entry numbers (both_of a h))) (sym l2_by)
           (noted_of a h k numbers lends host has aware_a aware_h long (subst IsAware u_by aware_u) (subst IsAware f_by aware_f))),
     )

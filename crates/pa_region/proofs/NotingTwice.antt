@@ -114,6 +114,8 @@ noted_twice a h l g u w e l2 g2 f b b2 inner outer first second l_is g_is u_is e
       noted.0,
       new_entry second w,
       subst (λ (x : View). AreNoted r inner outer first second a x h l2 b b2 noted.0 (new_entry second w)) (sym f_by)
-          (subst (λ (x : View). AreNoted r inner outer first second a (united (left_after (stake_parcel r) a) (given_after (stake_parcel r) (after_enter outer second w))) h x b b2 noted.0 (new_entry second w)) (sym l2_by)
+          (subst (λ (x : View). AreNoted r inner outer first second a
+          (united (left_after (stake_parcel r) a) (given_after (stake_parcel r) (after_enter outer second w))) h x b b2 noted.0
+          (new_entry second w)) (sym l2_by)
           (noted_twice_of a h w b b2 inner outer first second noted.0 lends host has aware_a aware_h long words (subst IsAware u_by aware_u) (subst IsAware f_by aware_f) noted_by)),
     )

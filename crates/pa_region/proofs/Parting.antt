@@ -74,7 +74,8 @@ three_parts a e r b order floor =
     ]
 
 -- an amount that goes by bytes is parted as the bytes of the ranges are
-pub ranges_part : (a e b : ℕ) (floor : RawRange → Bool) → a ≤ e → ((r : RawRange) → floor (below_part a r) ≡ floor r) → ((r : RawRange) → floor (above_part e r) ≡ floor r) → ((r : RawRange) → floor (inner_part a e r) ≡ floor r) →
+pub ranges_part : (a e b : ℕ) (floor : RawRange → Bool) → a ≤ e → ((r : RawRange) → floor (below_part a r) ≡ floor r)
+    → ((r : RawRange) → floor (above_part e r) ≡ floor r) → ((r : RawRange) → floor (inner_part a e r) ≡ floor r) →
     (rs : List RawRange) →
     sum_by (λ r. one (has_byte r b && floor r)) (outside a e rs) + sum_by (λ r. one (has_byte r b && floor r)) (inside a e rs) ≡ sum_by (λ r. one (has_byte r b && floor r)) rs
 ranges_part a e b floor order f g h [] = refl

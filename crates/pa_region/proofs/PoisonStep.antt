@@ -161,13 +161,18 @@ poison_event t j words views i v k at_i can =
     let same = own_state_is (shown words views) i i t m.0 b.0 k.holders.good (omega arith) holds in
     let at_place = bytes_set words (content_place t j) poison (poison_write t j words views i v k at_i can).below in
     let after = is_after words (set words (content_place t j) poison) views i v (after_poison t j v) (OwnPiece t m.0 ∷ []) (OwnPiece t (Poisoned (j + 1)) ∷ []) at_i m.2 in
-    let lost = subst (λ (z : OwnState). IsAfter (shown words views) i (OwnPiece t z ∷ []) (OwnPiece t (Poisoned (j + 1)) ∷ []) (byte_words (set words (content_place t j) poison)) (shown (set words (content_place t j) poison) (set views i (after_poison t j v)))) same after in
-    let placed = subst (λ (ws : List ℕ). IsAfter (shown words views) i (OwnPiece t b.0 ∷ []) (OwnPiece t (Poisoned (j + 1)) ∷ []) ws (shown (set words (content_place t j) poison) (set views i (after_poison t j v)))) at_place lost in (
+    let lost = subst (λ (z : OwnState). IsAfter (shown words views) i (OwnPiece t z ∷ []) (OwnPiece t (Poisoned (j + 1)) ∷ [])
+    (byte_words (set words (content_place t j) poison))
+    (shown (set words (content_place t j) poison) (set views i (after_poison t j v)))) same after in
+    let placed = subst (λ (ws : List ℕ). IsAfter (shown words views) i (OwnPiece t b.0 ∷ []) (OwnPiece t (Poisoned (j + 1)) ∷ []) ws
+    (shown (set words (content_place t j) poison) (set views i (after_poison t j v)))) at_place lost in (
       (shown_actor words views i v at_i, (b.0, holds, omega arith)),
       (
         b.0,
         holds,
-        subst (λ (n : ℕ). IsAfter (shown words views) i (OwnPiece t b.0 ∷ []) (OwnPiece t (Poisoned (n + 1)) ∷ []) (set (byte_words words) (content_place t n) poison) (shown (set words (content_place t j) poison) (set views i (after_poison t j v)))) (sym b.1) placed,
+        subst (λ (n : ℕ). IsAfter (shown words views) i (OwnPiece t b.0 ∷ []) (OwnPiece t (Poisoned (n + 1)) ∷ [])
+            (set (byte_words words) (content_place t n) poison)
+            (shown (set words (content_place t j) poison) (set views i (after_poison t j v)))) (sym b.1) placed,
       ),
     )
 

@@ -157,7 +157,8 @@ apart_less t r v =
     go false b = omega arith
 
     poisoned_less : (t : Title) (os : List OwnTitle) → sum_by (λ (o : OwnTitle). one (same_title o.title t && is_poisoned o.state)) os ≤ sum_by (λ (o : OwnTitle). one (same_title o.title t)) os
-    poisoned_less t os = sum_by-le-sum_by (λ (o : OwnTitle). one (same_title o.title t && is_poisoned o.state)) (λ (o : OwnTitle). one (same_title o.title t)) os (λ o. go (same_title o.title t) (is_poisoned o.state))
+    poisoned_less t os = sum_by-le-sum_by (λ (o : OwnTitle). one (same_title o.title t && is_poisoned o.state))
+        (λ (o : OwnTitle). one (same_title o.title t)) os (λ o. go (same_title o.title t) (is_poisoned o.state))
 
 -- if the one Own of a title is in a view that has stake r, none is poisoned apart from it
 pub none_beside : (views : List View) (i : ℕ) (v : View) → get_elem? views i ≡ some v → (t : Title) (r : ℕ) → sum_by (λ u. own_of u t) views ≤ 1 → 0 < own_of v t →

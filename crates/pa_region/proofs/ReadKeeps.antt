@@ -159,11 +159,13 @@ read_keeps words views i v t place k at_i has stake below =
           (low_in views) (low_in (set views i w)) _ _ (uncut_in views) (uncut_in (set views i w))
           k.reservations k.holders held back (low_set views i v w at_i refl) (low_raw words views)
           (λ u. more (names u)) (λ u. let m = more (uncuts u) in omega arith);
-      named = named_more t (length (byte_words words)) (length (byte_words words)) (total_of (shown words views)) (total_of (shown words (set views i w))) (low_in views) _ _ (uncut_in views) (uncut_in (set views i w))
+      named = named_more t (length (byte_words words)) (length (byte_words words)) (total_of (shown words views))
+          (total_of (shown words (set views i w))) (low_in views) _ _ (uncut_in views) (uncut_in (set views i w))
           k.named k.reservations k.holders.good.divided held refl (λ u none y. forth u y)
           (λ u. more (names u)) (λ u. let m = more (uncuts u) in omega arith);
       logs = record {
-        chain = λ u. chain_other (logged_in views) (logged_in (set views i w)) e u (k.history u) (k.logs.chain u) more refl (λ n. refl) (λ p found written. refl) (λ found some_look. absurd (omega arith));
+        chain = λ u. chain_other (logged_in views) (logged_in (set views i w)) e u (k.history u) (k.logs.chain u) more refl (λ n. refl)
+            (λ p found written. refl) (λ found some_look. absurd (omega arith));
         last = λ u y. k.logs.last u (back u y);
         each_stake = λ n. stakes_set views i v w at_i (λ m. noted_stakes e v.stakes m stake) n ∙ k.logs.each_stake n;
       };

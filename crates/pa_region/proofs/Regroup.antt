@@ -261,8 +261,12 @@ joined_regroups views i j v w both spent at_i at_j p idle none seen no_note can 
     less : unseen_of both ≤ unseen_of v + unseen_of w
     less =
         let l = p.logs (unseen_by both.seen) in
-        let a : logged_of v (unseen_by both.seen) ≤ unseen_of v = rw seen (logged_mono v (unseen_by (v.seen ++ w.seen)) (unseen_by v.seen) (unseen_grown v.seen (v.seen ++ w.seen) (λ t. seen_left t v.seen w.seen))) in
-        let b : logged_of w (unseen_by both.seen) ≤ unseen_of w = rw seen (logged_mono w (unseen_by (v.seen ++ w.seen)) (unseen_by w.seen) (unseen_grown w.seen (v.seen ++ w.seen) (λ t. seen_right t v.seen w.seen))) in
+        let a : logged_of v (unseen_by both.seen) ≤ unseen_of v = rw seen
+        (logged_mono v (unseen_by (v.seen ++ w.seen)) (unseen_by v.seen)
+        (unseen_grown v.seen (v.seen ++ w.seen) (λ t. seen_left t v.seen w.seen))) in
+        let b : logged_of w (unseen_by both.seen) ≤ unseen_of w = rw seen
+        (logged_mono w (unseen_by (v.seen ++ w.seen)) (unseen_by w.seen)
+        (unseen_grown w.seen (v.seen ++ w.seen) (λ t. seen_right t v.seen w.seen))) in
         omega arith
 
     spent_less : unseen_of spent ≡ 0

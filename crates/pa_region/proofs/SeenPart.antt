@@ -132,7 +132,8 @@ seen_entered views i v w logs after e t number at_i seen_is logged with_entry en
       let c = sum_set unseen_of views i v w at_i in
       let n = s.own_logs in
       let d = logged (unseen_by w.seen) in
-      let l : logged_of v (unseen_by w.seen) ≤ logged_of v (unseen_by v.seen) = rw seen_is (logged_mono v (unseen_by (note t number ∷ v.seen)) (unseen_by v.seen) (λ x. unseen_less t number v.seen x)) in
+      let l : logged_of v (unseen_by w.seen) ≤ logged_of v (unseen_by v.seen) = rw seen_is
+      (logged_mono v (unseen_by (note t number ∷ v.seen)) (unseen_by v.seen) (λ x. unseen_less t number v.seen x)) in
       let f : unseen_by w.seen e ≡ 0 = rw seen_is fresh in
       let p = sum_part unseen_of views i v at_i in
       omega arith;

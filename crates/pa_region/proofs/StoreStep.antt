@@ -365,8 +365,11 @@ store_event at_byte value words views i v k at_i can = go can.1
             t,
             unfrozen.0,
             own_word,
-            subst (λ (z : OwnState). IsAfter (shown words views) i (OwnPiece t z ∷ []) (OwnPiece t Dirty ∷ []) (set (byte_words words) (at_byte / 8) value) (shown (set words (at_byte / 8) value) (set views i (after_store at_byte value v)))) same
-                (subst (λ (ws : List ℕ). IsAfter (shown words views) i (OwnPiece t m.0 ∷ []) (OwnPiece t Dirty ∷ []) ws (shown (set words (at_byte / 8) value) (set views i (after_store at_byte value v)))) at_place
+            subst (λ (z : OwnState). IsAfter (shown words views) i (OwnPiece t z ∷ []) (OwnPiece t Dirty ∷ [])
+                (set (byte_words words) (at_byte / 8) value) (shown (set words (at_byte / 8) value)
+                (set views i (after_store at_byte value v)))) same
+                (subst (λ (ws : List ℕ). IsAfter (shown words views) i (OwnPiece t m.0 ∷ []) (OwnPiece t Dirty ∷ []) ws
+                (shown (set words (at_byte / 8) value) (set views i (after_store at_byte value v)))) at_place
                 (is_after words (set words (at_byte / 8) value) views i v (after_store at_byte value v) (OwnPiece t m.0 ∷ []) (OwnPiece t Dirty ∷ []) at_i m.2)),
           ),
         )

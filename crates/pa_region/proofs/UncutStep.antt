@@ -129,7 +129,8 @@ uncut_keeps t words views i v k at_i can =
           (λ u none y. elim (title_one t u) [ inl s ↦ let z = s.0 in let m = more (uncuts u) in absurd (omega arith) | inr n ↦ stays u n.1 y ])
           (λ u. more (names u)) (λ u. let m = more (uncuts u) in omega arith);
       logs = record {
-        chain = λ u. chain_other (logged_in views) (logged_in (set views i w)) e u (k.history u) (k.logs.chain u) more refl (λ n. refl) (λ p found written. refl) (λ found some_look. absurd (omega arith));
+        chain = λ u. chain_other (logged_in views) (logged_in (set views i w)) e u (k.history u) (k.logs.chain u) more refl (λ n. refl)
+            (λ p found written. refl) (λ found some_look. absurd (omega arith));
         last = λ u y. k.logs.last u (back u y);
         each_stake = λ n. stakes_set views i v w at_i (uncut_stakes t v can) n ∙ k.logs.each_stake n;
       };
@@ -139,7 +140,14 @@ uncut_keeps t words views i v k at_i can =
           (λ u. let m = more (counted_on u) in omega arith)
           (λ u n. let c = sum_set (λ z. ahead_of z u n) views i v w at_i in omega arith)
           (let c = sum_set unseen_of views i v w at_i in let d = logged (unseen_by v.seen) in omega arith);
-      lists = lists_grown k.list views i v w at_i k.lists (record { keepers = refl; leases = refl; lists = refl; stakes = inr (e, refl, λ n. refl); seen = λ u. omega arith; handles = λ u has. inl has })
+      lists = lists_grown k.list views i v w at_i k.lists (record {
+        keepers = refl;
+        leases = refl;
+        lists = refl;
+        stakes = inr (e, refl, λ n. refl);
+        seen = λ u. omega arith;
+        handles = λ u has. inl has;
+      })
           (λ u free. k.lists.free_seen i v at_i u (let l = uncut_fewer t v can.0 u in omega arith));
       undone = λ u.
           let c = sum_set (λ (z : View). undone_of z u) views i v w at_i in

@@ -106,9 +106,11 @@ write_keeps words views i v w p x k at_i h good content steps filled =
           (let c = sum_set (λ (u : View). u.budget) views i v w at_i in let e = h.budget in omega arith)
           (logs counted));
       values = rw at_place (write_values words views i v w p x k at_i h);
-      reservations = reservations_same (total_of (shown words views)) (total_of (shown (set words p x) (set views i w))) (low_in views) (low_in (set views i w)) _ _ (uncut_in views) (uncut_in (set views i w))
+      reservations = reservations_same (total_of (shown words views)) (total_of (shown (set words p x) (set views i w))) (low_in views)
+          (low_in (set views i w)) _ _ (uncut_in views) (uncut_in (set views i w))
           k.reservations back (low_set views i v w at_i h.raws) (λ t. logs (names t)) (λ t. logs (uncuts t));
-      named = named_same (length (byte_words words)) (length (byte_words (set words p x))) (total_of (shown words views)) (total_of (shown (set words p x) (set views i w))) _ _ (uncut_in views) (uncut_in (set views i w))
+      named = named_same (length (byte_words words)) (length (byte_words (set words p x))) (total_of (shown words views))
+          (total_of (shown (set words p x) (set views i w))) _ _ (uncut_in views) (uncut_in (set views i w))
           k.named (rw at_place (length-set (byte_words words) p x)) forth (λ t. logs (names t)) (λ t. logs (uncuts t));
       logs = rw at_place (logs_same k.history (byte_words words) (set (byte_words words) p x) (total_of (shown words views)) (total_of (shown (set words p x) (set views i w)))
           (logged_in views) (logged_in (set views i w)) (stakes_in views) (stakes_in (set views i w)) k.logs back word logs

@@ -1,5 +1,5 @@
 -- The lines of a script's text are played, each as soon as it is read.
-use Rattle.std.proofs.Common.{◌≡◌, ℕ, ◌+◌, ◌≤◌, List, [], ◌∷◌, ◌++◌, length, Option, refl, sym, subst, ◌∙◌, arith}
+use Rattle.std.proofs.Common.{◌≡◌, ℕ, ◌+◌, ◌≤◌, List, [], ◌∷◌, ◌++◌, length, Option, refl, sym, ap, subst, ◌∙◌, arith}
 use Rattle.std.specs.List.{AllByRecursion}
 use Rattle.std.proofs.lemmas.List.{length_push}
 use Rattle.pa_trace.specs.declared.line.Head.{Head}
@@ -12,7 +12,7 @@ use Rattle.pa_script.specs.Unread.{script_with, IsScriptReadUpTo, IsScriptLineRe
 use Rattle.pa_model.specs.Player.{Player, trace_so_far, IsNew, IsPrinted}
 use Rattle.pa_resize.specs.declared.verdict.Verdict.{Verdict}
 use Rattle.pa_resize.specs.Expansion.{verdict_noted, IsInputExpanded}
-use Rattle.pa_resize.specs.Playing.{PlaysScriptLine, IsScriptPlayed, IsInputPlayedTo}
+use Rattle.pa_resize.specs.Playing.{PlaysScriptLine, IsScriptPlayed, IsInputPlayedTo, script_head}
 use Rattle.pa_resize.proofs.Scripts.{script_begins, script_more, script_ends}
 
 -- what holds of a list holds of its last member
@@ -58,6 +58,8 @@ module _ (bytes : List ℕ) (u : Unread) (p : Player) where
     input_expanded v front text end is =
         let s : Script = script_with u.head so_far.lines in
         let limits = so_far.played.going.within in
+        let first : u.head ≡ script_head s = ap (λ v. record u.head { version = v }) so_far.read.version in
+        let played = subst (λ (h : Head). IsScriptPlayed h so_far.lines p so_far.verdicts) first so_far.played in
         record {
           script = s;
           input = end.read bytes so_far.lines so_far.read;
@@ -65,7 +67,7 @@ module _ (bytes : List ℕ) (u : Unread) (p : Player) where
             trace = trace_so_far p;
             run = is.run;
             verdicts = so_far.verdicts;
-            expanded = script_ends s p (trace_so_far p) is.run so_far.verdicts so_far.played is.finished;
+            expanded = script_ends s p (trace_so_far p) is.run so_far.verdicts played is.finished;
             core = is.finished.core;
             traced = record { limits = limits; text = is.traced; short = trace_length (trace_so_far p) front limits is.traced };
             printed = is.printed;

@@ -78,6 +78,7 @@ pub script_ends : (s : Script) (p : Player) (t : Trace) (run : Run) (vs : List (
 script_ends s p t run vs h end =
     let at : t ≡ trace_so_far p = end.trace in
     record {
+      version = ap (λ (u : Trace). u.version) at ∙ ap (λ (k : Head). k.version) h.head;
       region = ap (λ (u : Trace). u.region) at ∙ ap (λ (k : Head). k.region) h.head;
       partitions = ap (λ (u : Trace). u.partitions) at ∙ ap (λ (k : Head). k.partitions) h.head;
       threads = ap (λ (u : Trace). u.threads) at ∙ ap (λ (k : Head). k.threads) h.head;

@@ -187,7 +187,7 @@ module _ (t : Trace) (r : Told) (limits : IsWithinLimits t) (run : IsFileTold t 
 
   free_piece : (partitions threads : ℕ) (l : ScriptLine) (before xs rest : List Played) (lines : List Line) (verdict : Option Verdict) (regs mid : AllRegs)
       → records_of t r ≡ before ++ (xs ++ rest) → IsScriptLineWithin partitions threads l → IsPieceOf l (records_of t r) r before lines xs verdict
-      → AreRegsAfter (records_of t r) r before regs → IsSpareFree r before (xs ++ rest) regs → LeadsOver (records_of t r) r regs xs mid
+      → AreRegsAfter 1 (records_of t r) r before regs → IsSpareFree r before (xs ++ rest) regs → LeadsOver (records_of t r) r regs xs mid
       → IsSpareFree r (before ++ xs) rest mid
   free_piece partitions threads (Plain l) before xs rest lines verdict regs mid parts within piece after free leads =
       free_plain l before xs rest regs mid parts within.1 piece.1 free leads
@@ -204,7 +204,7 @@ module _ (t : Trace) (r : Told) (limits : IsWithinLimits t) (run : IsFileTold t 
 
   walk : (partitions threads : ℕ) (before : List Played) (xs more : List ScriptPiece) (regs after : AllRegs) → records_of t r ≡ before ++ (recorded xs ++ recorded more)
       → AllByRecursion (λ (x : ScriptPiece). IsScriptLineWithin partitions threads x.line) xs → ArePieces (records_of t r) r before (xs ++ more)
-      → AreRegsAfter (records_of t r) r before regs → IsSpareFree r before (recorded xs ++ recorded more) regs → LeadsOver (records_of t r) r regs (recorded xs) after
+      → AreRegsAfter 1 (records_of t r) r before regs → IsSpareFree r before (recorded xs ++ recorded more) regs → LeadsOver (records_of t r) r regs (recorded xs) after
       → IsSpareFree r (before ++ recorded xs) (recorded more) after
   walk partitions threads before [] more regs after parts within pieces at free leads =
       subst (λ zs. IsSpareFree r zs (recorded more) after) (sym (append-nil before)) (subst (IsSpareFree r before (recorded more)) (sym leads) free)

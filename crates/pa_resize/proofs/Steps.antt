@@ -1,5 +1,5 @@
 -- Ops one after the other, and what a resize comes to.
-use Rattle.std.proofs.Common.{◌≡◌, ℕ, ◌<◌, ◌≤◌, List, [], ◌∷◌, ◌++◌, length, map, Option, Some, None, refl, sym, ap, ◌∙◌, arith, append_assoc}
+use Rattle.std.proofs.Common.{◌≡◌, ℕ, ◌<◌, ◌≤◌, List, [], ◌∷◌, ◌++◌, length, map, Option, Some, None, refl, sym, ap, ◌∙◌, subst, arith, append_assoc}
 use Rattle.std.specs.Prelude.{IsSome}
 use Rattle.std.proofs.lemmas.Bool.{false≢true}
 use Rattle.std.proofs.lemmas.List.{append-nil, map-append, length-map}
@@ -19,7 +19,7 @@ use Rattle.pa_rules.specs.Registers.{AllRegs}
 use Rattle.pa_rules.specs.Roots.{Journals}
 use Rattle.pa_rules.specs.Sizes.{slot_size_for}
 use Rattle.pa_model.specs.declared.player.Handed.{Handed}
-use Rattle.pa_model.specs.Player.{Player, records_so_far, IsGoing, IsRecorded, PlaysLine, Owns, ReadsOwned, owned_by}
+use Rattle.pa_model.specs.Player.{Player, records_so_far, IsGoing, IsRecorded, PlaysLine, AreRegsAfter, Owns, ReadsOwned, owned_by}
 use Rattle.pa_resize.specs.declared.verdict.Verdict.{Verdict}
 use Rattle.pa_resize.specs.declared.verdict.Verdict.TheVariants.{NotOwn, Shared, TooLarge, Kept, NoRoom, Moved}
 use Rattle.pa_resize.specs.Expansion.{did, spare, moving, Object, IsLook, NeedsOther, HasNoRoom, IsResized, IsRecordOf}
@@ -81,15 +81,15 @@ reads_value p thread reg answer reads owned =
 
 -- ---- a resize
 
-pub resizes_not : (p : Player) (thread reg size : ℕ) → IsGoing p → Owns p thread reg None → Resizes p thread reg size NotOwn p
-resizes_not p thread reg size going owned = record {
+pub resizes_not : (p : Player) (thread reg size : ℕ) → p.lines.head.version ≡ 1 → IsGoing p → Owns p thread reg None → Resizes p thread reg size NotOwn p
+resizes_not p thread reg size version going owned = record {
   added = [];
   went = went_none p going;
   few = omega arith;
-  is = λ ps r on. let o = owned ps r on in (o.0, o.1, (o.2, refl));
+  is = λ ps r on. let o = owned ps r on in (o.0, subst (λ v. AreRegsAfter v ps r (records_so_far p) o.0) version o.1, (o.2, refl));
 }
 
-module _ (p : Player) (thread reg size : ℕ) (h : Handed) (owned : Owns p thread reg (Some h)) (seen : Seen) (value : ℕ) where
+module _ (p : Player) (thread reg size : ℕ) (h : Handed) (owned : Owns p thread reg (Some h)) (version : p.lines.head.version ≡ 1) (seen : Seen) (value : ℕ) where
   abbrev pub looked : Played
   looked = next_record p thread (Read reg 0) (Value seen value)
 
@@ -106,7 +106,7 @@ module _ (p : Player) (thread reg size : ℕ) (h : Handed) (owned : Owns p threa
     few = few;
     is = λ ps r on.
         let o = owned ps r (went.later ps r on) in
-        (o.0, o.1, says r.roots o.0 (record { owned = o.2.0; size = o.2.1; line = refl; answer = refl }));
+        (o.0, subst (λ v. AreRegsAfter v ps r (records_so_far p) o.0) version o.1, says r.roots o.0 (record { owned = o.2.0; size = o.2.1; line = refl; answer = refl }));
   }
 
   pub resizes_shared : (q : Player) → Went p (looked ∷ []) q → 0 < refs_of seen.found.0 → Resizes p thread reg size Shared q

@@ -112,7 +112,7 @@ abbrev pub IsPieceOf : ScriptLine → List Played → Told → List Played → L
 IsPieceOf (Plain l) ps r before lines records verdict = (lines ≡ l ∷ []) × IsRecordOf l records × (verdict ≡ None)
 IsPieceOf (Resize thread reg size) ps r before lines records verdict =
     (v : Verdict) × (verdict ≡ Some v) × (lines ≡ map did records)
-    × (regs : AllRegs) × AreRegsAfter ps r before regs × IsResized v r.roots (regs thread reg) thread reg size records
+    × (regs : AllRegs) × AreRegsAfter 1 ps r before regs × IsResized v r.roots (regs thread reg) thread reg size records
 
 -- after these records, the piece is what its line comes to
 abbrev pub IsPiece : List Played → Told → List Played → ScriptPiece → Type 0
@@ -136,6 +136,7 @@ verdicts_of n (x ∷ xs) = verdict_noted n x.verdict ++ verdicts_of (n + 1) xs
 -- The script comes to this trace, whose run in the order of its lines is this, and to these verdicts.
 --   each: line by line
 pub record IsExpanded (s : Script) (t : Trace) (run : Run) (vs : List (ℕ × Verdict)) : Type 0 where
+  pub version : t.version ≡ 1
   pub region : t.region ≡ s.region
   pub partitions : t.partitions ≡ s.partitions
   pub threads : t.threads ≡ s.threads

@@ -77,7 +77,7 @@ abbrev pub SpareStaysFree : Type 0
 SpareStaysFree =
     (s : Script) (t : Trace) (run : Run) (verdicts : List (ℕ × Verdict)) (first more : List ScriptPiece) (regs : AllRegs) →
     IsScriptWithin s → IsWithinLimits t → (e : IsExpanded s t run verdicts) → e.pieces ≡ first ++ more →
-    AreRegsAfter (records_of t (told_by run)) (told_by run) (flat_map (λ (x : ScriptPiece). x.records) first) regs →
+    AreRegsAfter 1 (records_of t (told_by run)) (told_by run) (flat_map (λ (x : ScriptPiece). x.records) first) regs →
     IsSpareFree (told_by run) (flat_map (λ (x : ScriptPiece). x.records) first) (flat_map (λ (x : ScriptPiece). x.records) more) regs
 
 -- Every register of every thread, each cell, and each slot's word are as before: no step was made.

@@ -5,7 +5,7 @@ use Rattle.pa_trace.specs.declared.line.Head.{Head}
 use Rattle.pa_trace.specs.declared.script.Line.TheVariants.{Do}
 use Rattle.pa_trace.specs.declared.script.Op.{Op}
 use Rattle.pa_trace.specs.Unread.{Unread}
-use Rattle.pa_trace.specs.Rules.{rules_of}
+use Rattle.pa_trace.specs.Rules.{first_head, rules_of}
 use Rattle.pa_record.specs.declared.entry.Answer.{Answer}
 use Rattle.pa_script.specs.declared.script.Script.{Script}
 use Rattle.pa_script.specs.declared.script.ScriptLine.{ScriptLine}
@@ -48,7 +48,7 @@ pub record Resizes (p : Player) (thread reg size : ℕ) (v : Verdict) (q : Playe
   pub went : Went p added q
   pub few : length added ≤ 6
   pub is : (ps : List Played) (r : Told) → GoesOnFrom q ps r
-      → (regs : AllRegs) × AreRegsAfter ps r (records_so_far p) regs × IsResized v r.roots (regs thread reg) thread reg size added
+      → (regs : AllRegs) × AreRegsAfter 1 ps r (records_so_far p) regs × IsResized v r.roots (regs thread reg) thread reg size added
 
 -- A line of a script was played. It has this verdict if it is a resize.
 pub record PlaysScriptLine (p : Player) (l : ScriptLine) (found : Option Verdict) (q : Player) : Type 0 where
@@ -63,9 +63,9 @@ pub record PlaysScriptLine (p : Player) (l : ScriptLine) (found : Option Verdict
   pub later : IsLater p q
   pub is : (ps : List Played) (r : Told) → GoesOnFrom q ps r → IsPiece ps r (records_so_far p) piece
 
--- the head of a script
+-- the head of the trace that a script comes to, which is of version 1
 abbrev pub script_head : Script → Head
-script_head s = record { region = s.region; partitions = s.partitions; threads = s.threads }
+script_head s = first_head s.region s.partitions s.threads
 
 -- These lines of a script were played, with these verdicts.
 pub record IsScriptPlayed (start : Head) (ls : List ScriptLine) (p : Player) (vs : List (ℕ × Verdict)) : Type 0 where

@@ -25,6 +25,7 @@ pub(crate) fn play_line<O: Output, K: Keeper>(
     line: ScriptLine,
 ) -> Result<Option<Verdict>, OutOfMemory>
     requires going { IsGoing player.old }
+    requires first { player.old.lines.head.version ≡ 1 }
     requires few { length player.old.lines.items + 6 ≤ 65535 }
     requires within { IsScriptLineWithin player.old.lines.head.partitions player.old.lines.head.threads line }
     ensures { IfOk result (λ verdict. PlaysScriptLine player.old line verdict player.new) }
@@ -49,6 +50,7 @@ fn resize<O: Output, K: Keeper>(
     size: u32,
 ) -> Result<Verdict, OutOfMemory>
     requires going { IsGoing player.old }
+    requires first { player.old.lines.head.version ≡ 1 }
     requires few { length player.old.lines.items + 6 ≤ 65535 }
     requires thread { thread < player.old.lines.head.threads }
     requires reg { reg < named_count }

@@ -51,7 +51,13 @@ pub fn expand(alloc: Global, script: &Script) -> Result<Expanded, OutOfMemory>
     ensures core { IfOk result (λ e. HasCoreRun e.trace e.run) }
     ensures printable { IfOk result (λ e. IsPrintable e.run) }
 {
-    let mut player = Player::new(alloc, script.region, script.partitions, script.threads)?;
+    let head = Head {
+        version: 1,
+        region: script.region,
+        partitions: script.partitions,
+        threads: script.threads,
+    };
+    let mut player = Player::new(alloc, head)?;
     let verdicts = play_all(alloc, script, &mut player)?;
     let (trace, run) = player.finish_traced()?;
     Ok(Expanded {
@@ -68,13 +74,8 @@ pub fn expand_input(alloc: Global, bytes: &[u8]) -> Result<ExpandedText, TraceFa
     ensures fault { IfErr result (λ e. IsScriptFault e bytes.now) }
 {
     let mut reader = ScriptReader::of(bytes)?;
-    let Head {
-        region,
-        partitions,
-        threads,
-    } = reader.head();
     let lines = (bytes.len() / LINE).min(MOST_SCRIPT_LINES as usize);
-    let mut player = Player::printing(alloc, region, partitions, threads, LINES * lines)?;
+    let mut player = Player::printing(alloc, reader.head(), LINES * lines)?;
     while let Some(line) = reader.next()? {
         play_line(&mut player, line)?;
     }

@@ -160,8 +160,10 @@ back_times : (s : SlotName) (es : List RootEntry) → weight (coming s) es ≡ t
 back_times s [] = refl
 back_times s (e ∷ es) = ap (λ n. coming s e.act + n) (back_times s es)
 
-pub left_front : (s : SlotName) (xs : List Played) (roots : Journals) (p : ℕ) (front : List RootEntry) → AllPairs OtherRecord xs → IsFront xs (roots p) front → left_on s roots p xs ≡ times_left s front
+pub left_front : (s : SlotName) (xs : List Played) (roots : Journals) (p : ℕ) (front : List RootEntry) → AllPairs OtherRecord xs
+    → IsFront xs (roots p) front → left_on s roots p xs ≡ times_left s front
 left_front s xs roots p front h u = left_over s roots p xs ∙ front_weighs (leaving s) xs (roots p) front h u ∙ left_times s front
 
-pub back_front : (s : SlotName) (xs : List Played) (roots : Journals) (p : ℕ) (front : List RootEntry) → AllPairs OtherRecord xs → IsFront xs (roots p) front → back_on s roots p xs ≡ times_back s front
+pub back_front : (s : SlotName) (xs : List Played) (roots : Journals) (p : ℕ) (front : List RootEntry) → AllPairs OtherRecord xs
+    → IsFront xs (roots p) front → back_on s roots p xs ≡ times_back s front
 back_front s xs roots p front h u = back_over s roots p xs ∙ front_weighs (coming s) xs (roots p) front h u ∙ back_times s front

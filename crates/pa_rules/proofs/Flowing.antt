@@ -141,7 +141,10 @@ pub class_real : (pools : List PoolEntry) (roots : Journals) (t : SlotName) (q c
 class_real pools roots t q class j (e, asked, slots, among, act, member) = fill_real pools (roots q) new_root e class asked slots j.replays among act
 
 -- a slot that a step returned, if its mark is one return and no issue
-return_keeps : (s : SlotName) (p : ℕ) (pools : List PoolEntry) (roots : Journals) (x : Played) (slot : Numbered) (mark : Option Mark) (cache after : Cache) → ((q : ℕ) → IsJournal pools (roots q)) → IsOnlyOf roots p s → marked (is_issue_of s) mark ≡ 0 → marked (is_return_of s) mark ≡ once s slot.slot → ReturnRow roots x slot cache after → Flows s p (acts_of roots x.line p) mark cache after
+return_keeps : (s : SlotName) (p : ℕ) (pools : List PoolEntry) (roots : Journals) (x : Played) (slot : Numbered) (mark : Option Mark)
+    (cache after : Cache) → ((q : ℕ) → IsJournal pools (roots q)) → IsOnlyOf roots p s → marked (is_issue_of s) mark ≡ 0
+    → marked (is_return_of s) mark ≡ once s slot.slot → ReturnRow roots x slot cache after
+    → Flows s p (acts_of roots x.line p) mark cache after
 return_keeps s p pools roots x slot mark cache after journals own i o (inl (q, class, of, only, becomes)) =
     let list = slot ∷ cache q class in
     let one = times_cons s slot.slot (names (cache q class)) in
@@ -211,7 +214,9 @@ no_issue (ops.Read reg place) = refl
 no_issue (ops.Swap cell reg) = refl
 no_issue ops.Purge = refl
 
-done_keeps : (s : SlotName) (p : ℕ) (pools : List PoolEntry) (roots : Journals) (x : Played) (o : Option Step) (seen : Seen) (cache after : Cache) → ((q : ℕ) → IsJournal pools (roots q)) → IsOnlyOf roots p s → is_issue o ≡ false → DoneRow roots x o seen cache after → Flows s p (acts_of roots x.line p) (Some (mark_at x.line seen o)) cache after
+done_keeps : (s : SlotName) (p : ℕ) (pools : List PoolEntry) (roots : Journals) (x : Played) (o : Option Step) (seen : Seen)
+    (cache after : Cache) → ((q : ℕ) → IsJournal pools (roots q)) → IsOnlyOf roots p s → is_issue o ≡ false
+    → DoneRow roots x o seen cache after → Flows s p (acts_of roots x.line p) (Some (mark_at x.line seen o)) cache after
 done_keeps s p pools roots x None seen cache after journals own none (acts, becomes) =
     let (left, back) = none_left s (acts_of roots x.line p) (acts p) in
     let i = off (same_slot s seen.slot) false refl in
@@ -226,7 +231,8 @@ done_keeps s p pools roots x (Some step) seen cache after journals own none (inr
     let o = off (same_slot s seen.slot) (returns_at step seen.found.0) (returns_no step seen.found.0 other) in
     quiet s p (acts_of roots x.line p) (Some (mark_at x.line seen (Some step))) cache after becomes (omega arith)
 
-one_full : (s : SlotName) (roots : Journals) (line p q : ℕ) (class : Option ℕ) (asked : ℕ) → OnlyActs roots line q (Full class asked ∷ []) → (left_in s (acts_of roots line p) ≡ 0) × (back_in s (acts_of roots line p) ≡ 0)
+one_full : (s : SlotName) (roots : Journals) (line p q : ℕ) (class : Option ℕ) (asked : ℕ) → OnlyActs roots line q (Full class asked ∷ [])
+    → (left_in s (acts_of roots line p) ≡ 0) × (back_in s (acts_of roots line p) ≡ 0)
 one_full s roots line p q class asked only = elim (cases_eq p q) [
   | inl same ↦
       let here : acts_of roots line p ≡ Full class asked ∷ [] = subst (λ z. acts_of roots line z ≡ Full class asked ∷ []) (sym same) only.0 in
@@ -261,7 +267,8 @@ look_keeps s p roots x (Some seen) cache after (acts, becomes) =
     let i = off (same_slot s seen.slot) false refl in
     quiet s p (acts_of roots x.line p) (Some (mark_at x.line seen None)) cache after becomes (omega arith)
 
-row_keeps : (partitions : ℕ) (s : SlotName) (p : ℕ) (pools : List PoolEntry) (roots : Journals) (x : Played) (a : Answer) (cache after : Cache) → ((q : ℕ) → IsJournal pools (roots q)) → IsOnlyOf roots p s →
+row_keeps : (partitions : ℕ) (s : SlotName) (p : ℕ) (pools : List PoolEntry) (roots : Journals) (x : Played) (a : Answer)
+    (cache after : Cache) → ((q : ℕ) → IsJournal pools (roots q)) → IsOnlyOf roots p s →
     p < partitions → IsKnown roots cache → CacheRow partitions roots x a cache after → Flows s p (acts_of roots x.line p) (mark_of_answer x.line x.op a) cache after
 row_keeps partitions s p pools roots x (answers.Made seen usable) cache after journals own below known row = made_keeps s p roots x seen cache after own known row
 row_keeps partitions s p pools roots x (answers.Done seen) cache after journals own below known row = done_keeps s p pools roots x (step_of x.op) seen cache after journals own (no_issue x.op) row

@@ -155,7 +155,8 @@ in_use roots xs p lives quarantined sizes more s len w h live quarantine size wo
 ]
 
 -- the sum over what is out
-out_adds : (supers partitions threads p : ℕ) (ps : List Played) (pools : List PoolEntry) (roots : Journals) (xs : List Played) (front : List RootEntry) (all : Caches) (lives quarantined : List SlotName) (sizes more : List ℕ) →
+out_adds : (supers partitions threads p : ℕ) (ps : List Played) (pools : List PoolEntry) (roots : Journals) (xs : List Played)
+    (front : List RootEntry) (all : Caches) (lives quarantined : List SlotName) (sizes more : List ℕ) →
     Given supers partitions threads p ps pools roots xs front all → AreSlots IsLive roots xs p lives sizes → AreSlots IsQuarantined roots xs p quarantined more →
     length lives + length quarantined + cached_slots all p threads ≡ length (names_out (root_replayed pools front new_root))
 out_adds supers partitions threads p ps pools roots xs front all lives quarantined sizes more g live quarantine =

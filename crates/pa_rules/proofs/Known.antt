@@ -140,7 +140,8 @@ row_known partitions roots x (answers.Full entry) cache after known row = full_k
 row_known partitions roots x (answers.Swapped entry) cache after known row = known_same roots cache after known row.1
 row_known partitions roots x (answers.Purged slots) cache after known row = λ q c n among. absurd (not_in_none n (subst (λ zs. Contains zs n) (row.2 q c) among))
 
-pub all_known : (partitions : ℕ) (roots : Journals) (xs : List Played) (all after : Caches) → ((t : ℕ) → IsKnown roots (all t)) → CachesTo partitions roots all xs after → (t : ℕ) → IsKnown roots (after t)
+pub all_known : (partitions : ℕ) (roots : Journals) (xs : List Played) (all after : Caches) → ((t : ℕ) → IsKnown roots (all t))
+    → CachesTo partitions roots all xs after → (t : ℕ) → IsKnown roots (after t)
 all_known partitions roots [] all after known e t = subst (λ (c : Caches). IsKnown roots (c t)) (sym e) (known t)
 all_known partitions roots (x ∷ xs) all after known (next, row, rest) t =
     all_known partitions roots xs (with_cache all x.thread next) after

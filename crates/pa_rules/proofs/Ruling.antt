@@ -5,7 +5,6 @@ use Rattle.pa_trace.specs.declared.script.Rules.{Rules}
 use Rattle.pa_trace.specs.declared.script.Trace.{Trace}
 use Rattle.pa_trace.specs.declared.script.Line.{Line}
 use Rattle.pa_trace.specs.declared.script.Line.TheVariants.{Phase, Do}
-use Rattle.pa_trace.specs.Limits.{IsWithinLimits}
 use Rattle.pa_trace.specs.Rules.{rules_of}
 use Rattle.pa_record.specs.declared.entry.Entry.{Entry}
 use Rattle.pa_lists.proofs.Members.{not_in_none, first_in, later_in, in_cases}
@@ -47,8 +46,8 @@ pub told_rules : (t : Trace) (r : Told) (x : Played) → Contains (records_of t 
 told_rules t r x among = played_rules (rules_of t) t.lines r.entries x among
 
 -- they are of version 1 if the trace is
-pub told_version : (t : Trace) (r : Told) (x : Played) → IsWithinLimits t → Contains (records_of t r) x → x.rules.version ≡ 1
-told_version t r x limits among = ap (λ (k : Rules). k.version) (told_rules t r x among) ∙ limits.version
+pub told_version : (t : Trace) (r : Told) (x : Played) → Contains (records_of t r) x → x.rules.version ≡ t.version
+told_version t r x among = ap (λ (k : Rules). k.version) (told_rules t r x among)
 
 -- all of them are played by the same rules
 pub one_rules : (rules : Rules) (ps : List Played) → ((x : Played) → Contains ps x → x.rules ≡ rules)

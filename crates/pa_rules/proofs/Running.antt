@@ -287,7 +287,8 @@ at_end ms s u f of run used lies = count_none (from (number_of u) f) ms (λ m am
       | inr none ↦ not_in_none m.found none
     ])
 
-at_step_of : (ms : List Mark) (s : SlotName) (u v : ℕ) (vs : List ℕ) (f : Mark → Bool) (m : Mark) (p : Step) → AllPairs OtherLine ms → IsOfSteps s f → IsFirstAt ms s u m p → CanStep p u → v ≡ stepped p u →
+at_step_of : (ms : List Mark) (s : SlotName) (u v : ℕ) (vs : List ℕ) (f : Mark → Bool) (m : Mark) (p : Step) → AllPairs OtherLine ms
+    → IsOfSteps s f → IsFirstAt ms s u m p → CanStep p u → v ≡ stepped p u →
     IsRunFrom ms s v vs → Used ms s → Lies ms s u (v ∷ vs) → count_by (from (number_of u) f) ms ≡ one_if (f m) + count_by (from (number_of v) f) ms
 at_step_of ms s u v vs f m p h of first can is rest used lies =
     let up : number_of v ≡ number_of u + 1 = ap number_of is ∙ number_stepped p u can in
@@ -383,12 +384,17 @@ pub mark_from : (ps : List Played) (m : Mark) → Contains (marks_of ps) m → I
 mark_from [] m among = absurd (not_in_none m among)
 mark_from (x ∷ xs) m among = mark_from_one x xs m (mark_of x) refl (mark_from xs m) among
 
-one_more_pair : (R : Played → Played → Type 0) (S : Mark → Mark → Type 0) → ((x y : Played) (m n : Mark) → R x y → mark_of x ≡ Some m → mark_of y ≡ Some n → S m n) → (x : Played) (xs : List Played) (o : Option Mark) → mark_of x ≡ o → AllPairs R (x ∷ xs) → AllPairs S (marks_of xs) → AllPairs S (marks_of (x ∷ xs))
+one_more_pair : (R : Played → Played → Type 0) (S : Mark → Mark → Type 0)
+    → ((x y : Played) (m n : Mark) → R x y → mark_of x ≡ Some m → mark_of y ≡ Some n → S m n)
+    → (x : Played) (xs : List Played) (o : Option Mark) → mark_of x ≡ o → AllPairs R (x ∷ xs) → AllPairs S (marks_of xs)
+    → AllPairs S (marks_of (x ∷ xs))
 one_more_pair R S of x xs None e h rest = rw e rest
 one_more_pair R S of x xs (Some m) e h rest = rw e (pairs_cons S m (marks_of xs) (λ n among. let (y, member, is) = mark_from xs n among in of x y m n (pairs_head R x y xs h member) e is) rest)
 
 -- what pairs of records say of their marks
-pub marks_pairs : (R : Played → Played → Type 0) (S : Mark → Mark → Type 0) → ((x y : Played) (m n : Mark) → R x y → mark_of x ≡ Some m → mark_of y ≡ Some n → S m n) → (ps : List Played) → AllPairs R ps → AllPairs S (marks_of ps)
+pub marks_pairs : (R : Played → Played → Type 0) (S : Mark → Mark → Type 0)
+    → ((x y : Played) (m n : Mark) → R x y → mark_of x ≡ Some m → mark_of y ≡ Some n → S m n) → (ps : List Played) → AllPairs R ps
+    → AllPairs S (marks_of ps)
 marks_pairs R S of [] h = pairs_none S
 marks_pairs R S of (x ∷ xs) h = one_more_pair R S of x xs (mark_of x) refl h (marks_pairs R S of xs (pairs_tail R x xs h))
 

@@ -12,7 +12,8 @@ use Rattle.pa_rules.specs.Sizes.{IsMapSize, slot_size_for, SizesFit}
 use Rattle.pa_rules.proofs.Versions.{slot_in}
 
 -- the first of a list that passes, and a list of which none does
-find_at : {A : Type 0} (test : A → Bool) (xs : List A) (k : ℕ) (d : A) → k < length xs → test (get_or xs k d) ≡ true → ((j : ℕ) → j < k → test (get_or xs j d) ≡ false) → find test xs ≡ Some (get_or xs k d)
+find_at : {A : Type 0} (test : A → Bool) (xs : List A) (k : ℕ) (d : A) → k < length xs → test (get_or xs k d) ≡ true
+    → ((j : ℕ) → j < k → test (get_or xs j d) ≡ false) → find test xs ≡ Some (get_or xs k d)
 find_at test [] k d few passes before = absurd (omega arith)
 find_at test (x ∷ xs) zero d few passes before = rw passes refl
 find_at test (x ∷ xs) (suc k) d few passes before = rw (before 0 (omega arith)) (find_at test xs k d (omega arith) passes (λ j less. before (suc j) (omega arith)))

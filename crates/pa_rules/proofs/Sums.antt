@@ -1,10 +1,13 @@
 -- The sums over all classes are those over a version's classes, if no other class has a list.
-use Rattle.std.proofs.Common.{◌≡◌, ℕ, zero, suc, ◌+◌, ◌*◌, ◌<◌, ◌≤◌, ◌⊎◌, List, [], ◌++◌, length, inl, inr, refl, ap, ◌∙◌, arith}
+use Rattle.std.proofs.Common.{◌≡◌, ℕ, zero, suc, ◌+◌, ◌-◌, ◌*◌, ◌<◌, ◌≤◌, ◌⊎◌, List, [], ◌∷◌, ◌++◌, length, inl, inr, refl, sym, ap, ◌∙◌, subst, arith}
+use Rattle.pa_buckets.specs.Limits.{first_class, past_class}
 use Rattle.pa_buckets.specs.Table.{slot_of}
 use Rattle.pa_record.specs.declared.numbered.Numbered.{Numbered}
 use Rattle.pa_record.specs.declared.root.RootAct.{RootAct}
 use Rattle.pa_rules.specs.Caches.{gives, purge_acts, listed_slots}
 use Rattle.pa_rules.specs.Report.{listed_bytes}
+use Rattle.pa_rules.specs.Sizes.{class_total}
+use Rattle.pa_rules.proofs.Versions.{class_parts}
 
 -- none but these `n` classes from `first` on have slots
 abbrev pub NoneBut : ℕ → ℕ → (ℕ → List Numbered) → Type 0
@@ -12,6 +15,57 @@ NoneBut first n lists = (c : ℕ) → (c < first) ⊎ (first + n ≤ c) → list
 
 no_length : (xs : List Numbered) → xs ≡ [] → length xs ≡ 0
 no_length xs e = ap length e
+
+-- the sum of a weight over `n` classes from `from` on
+abbrev summed : (ℕ → ℕ) → ℕ → ℕ → ℕ
+summed w from zero = 0
+summed w from (suc n) = w from + summed w (from + 1) n
+
+summed_none : (w : ℕ → ℕ) (from n : ℕ) → ((c : ℕ) → from ≤ c → c < from + n → w c ≡ 0) → summed w from n ≡ 0
+summed_none w from zero h = refl
+summed_none w from (suc n) h =
+    let here = h from (omega arith) (omega arith) in
+    let ih = summed_none w (from + 1) n (λ c low high. h c (omega arith) (omega arith)) in
+    omega arith
+
+summed_parts : (w : ℕ → ℕ) (from m n : ℕ) → summed w from (m + n) ≡ summed w from m + summed w (from + m) n
+summed_parts w from zero n =
+    let count : summed w from (0 + n) ≡ summed w from n = let e : 0 + n ≡ n = omega arith in ap (λ k. summed w from k) e in
+    let start : summed w from n ≡ summed w (from + 0) n = let e : from ≡ from + 0 = omega arith in ap (λ k. summed w k n) e in
+    let none : summed w from 0 ≡ 0 = refl in
+    omega arith
+summed_parts w from (suc m) n =
+    let next : suc m + n ≡ suc (m + n) = omega arith in
+    let count : summed w from (suc m + n) ≡ summed w from (suc (m + n)) = ap (λ k. summed w from k) next in
+    let ih = summed_parts w (from + 1) m n in
+    let p : from + 1 + m ≡ from + suc m = omega arith in
+    let e : summed w (from + 1 + m) n ≡ summed w (from + suc m) n = ap (λ k. summed w k n) p in
+    omega arith
+
+summed_some : (w : ℕ → ℕ) (first n rest : ℕ) → ((c : ℕ) → (c < first) ⊎ (first + n ≤ c) → w c ≡ 0) →
+    summed w 0 (first + (n + rest)) ≡ summed w first n
+summed_some w first n rest h =
+    let start : summed w (0 + first) (n + rest) ≡ summed w first (n + rest) =
+    let e : 0 + first ≡ first = omega arith in ap (λ k. summed w k (n + rest)) e in
+    let a = summed_parts w 0 first (n + rest) in
+    let b = summed_parts w first n rest in
+    let low = summed_none w 0 first (λ c from below. h c (inl (omega arith))) in
+    let high = summed_none w (first + n) rest (λ c from below. h c (inr from)) in
+    omega arith
+
+-- the slots and the bytes of lists are such sums
+slots_summed : (lists : ℕ → List Numbered) (from n : ℕ) → listed_slots lists from n ≡ summed (λ c. length (lists c)) from n
+unfolding listed_slots
+slots_summed lists from zero = refl
+slots_summed lists from (suc n) = ap (λ k. length (lists from) + k) (slots_summed lists (from + 1) n)
+
+bytes_summed : (counts : ℕ → ℕ) (from n : ℕ) → listed_bytes counts from n ≡ summed (λ c. slot_of c * counts c) from n
+unfolding listed_bytes
+bytes_summed counts from zero = refl
+bytes_summed counts from (suc n) = ap (λ k. slot_of from * counts from + k) (bytes_summed counts (from + 1) n)
+
+no_bytes : (c : ℕ) (xs : List Numbered) → xs ≡ [] → slot_of c * length xs ≡ 0
+no_bytes c xs e = ap (λ k. slot_of c * k) (no_length xs e) ∙ (let none : slot_of c * 0 ≡ 0 = omega arith in none)
 
 -- sums over no class
 pub slots_of_none : (lists : ℕ → List Numbered) (from : ℕ) → listed_slots lists from 0 ≡ 0
@@ -23,79 +77,38 @@ unfolding listed_bytes
 bytes_of_none counts from = refl
 
 -- sums of empty lists
-pub slots_none : (lists : ℕ → List Numbered) (from n : ℕ) → ((c : ℕ) → from ≤ c → c < from + n → lists c ≡ []) → listed_slots lists from n ≡ 0
-unfolding listed_slots
-slots_none lists from zero h = refl
-slots_none lists from (suc n) h =
-    let here = no_length (lists from) (h from (omega arith) (omega arith)) in
-    let ih = slots_none lists (from + 1) n (λ c low high. h c (omega arith) (omega arith)) in
-    omega arith
+pub slots_none : (lists : ℕ → List Numbered) (from n : ℕ) → ((c : ℕ) → from ≤ c → c < from + n → lists c ≡ []) →
+    listed_slots lists from n ≡ 0
+slots_none lists from n h =
+    slots_summed lists from n ∙ summed_none (λ c. length (lists c)) from n (λ c low high. no_length (lists c) (h c low high))
 
-pub bytes_none : (lists : ℕ → List Numbered) (from n : ℕ) → ((c : ℕ) → from ≤ c → c < from + n → lists c ≡ []) → listed_bytes (λ c. length (lists c)) from n ≡ 0
-unfolding listed_bytes
-bytes_none lists from zero h = refl
-bytes_none lists from (suc n) h =
-    let here : slot_of from * length (lists from) ≡ slot_of from * 0 = ap (λ k. slot_of from * k) (no_length (lists from) (h from (omega arith) (omega arith))) in
-    let ih = bytes_none lists (from + 1) n (λ c low high. h c (omega arith) (omega arith)) in
-    omega arith
-
--- sums in two parts
-slots_parts : (lists : ℕ → List Numbered) (from m n : ℕ) → listed_slots lists from (m + n) ≡ listed_slots lists from m + listed_slots lists (from + m) n
-unfolding listed_slots
-slots_parts lists from zero n =
-    let count : listed_slots lists from (0 + n) ≡ listed_slots lists from n = let e : 0 + n ≡ n = omega arith in ap (λ k. listed_slots lists from k) e in
-    let start : listed_slots lists from n ≡ listed_slots lists (from + 0) n = let e : from ≡ from + 0 = omega arith in ap (λ k. listed_slots lists k n) e in
-    let none : listed_slots lists from 0 ≡ 0 = refl in
-    omega arith
-slots_parts lists from (suc m) n =
-    let next : suc m + n ≡ suc (m + n) = omega arith in
-    let count : listed_slots lists from (suc m + n) ≡ listed_slots lists from (suc (m + n)) = ap (λ k. listed_slots lists from k) next in
-    let ih = slots_parts lists (from + 1) m n in
-    let p : from + 1 + m ≡ from + suc m = omega arith in
-    let e : listed_slots lists (from + 1 + m) n ≡ listed_slots lists (from + suc m) n = ap (λ k. listed_slots lists k n) p in
-    omega arith
-
-bytes_parts : (counts : ℕ → ℕ) (from m n : ℕ) → listed_bytes counts from (m + n) ≡ listed_bytes counts from m + listed_bytes counts (from + m) n
-unfolding listed_bytes
-bytes_parts counts from zero n =
-    let count : listed_bytes counts from (0 + n) ≡ listed_bytes counts from n = let e : 0 + n ≡ n = omega arith in ap (λ k. listed_bytes counts from k) e in
-    let start : listed_bytes counts from n ≡ listed_bytes counts (from + 0) n = let e : from ≡ from + 0 = omega arith in ap (λ k. listed_bytes counts k n) e in
-    let none : listed_bytes counts from 0 ≡ 0 = refl in
-    omega arith
-bytes_parts counts from (suc m) n =
-    let next : suc m + n ≡ suc (m + n) = omega arith in
-    let count : listed_bytes counts from (suc m + n) ≡ listed_bytes counts from (suc (m + n)) = ap (λ k. listed_bytes counts from k) next in
-    let ih = bytes_parts counts (from + 1) m n in
-    let p : from + 1 + m ≡ from + suc m = omega arith in
-    let e : listed_bytes counts (from + 1 + m) n ≡ listed_bytes counts (from + suc m) n = ap (λ k. listed_bytes counts k n) p in
-    omega arith
+pub bytes_none : (lists : ℕ → List Numbered) (from n : ℕ) → ((c : ℕ) → from ≤ c → c < from + n → lists c ≡ []) →
+    listed_bytes (λ c. length (lists c)) from n ≡ 0
+bytes_none lists from n h =
+    bytes_summed (λ c. length (lists c)) from n
+    ∙ summed_none (λ c. slot_of c * length (lists c)) from n (λ c low high. no_bytes c (lists c) (h c low high))
 
 -- sums over all
-pub slots_of_some : (lists : ℕ → List Numbered) (first n rest : ℕ) → NoneBut first n lists → listed_slots lists 0 (first + (n + rest)) ≡ listed_slots lists first n
+slots_of_some : (lists : ℕ → List Numbered) (first n rest : ℕ) → NoneBut first n lists →
+    listed_slots lists 0 (first + (n + rest)) ≡ listed_slots lists first n
 slots_of_some lists first n rest h =
-    let start : listed_slots lists (0 + first) (n + rest) ≡ listed_slots lists first (n + rest) = let e : 0 + first ≡ first = omega arith in ap (λ k. listed_slots lists k (n + rest)) e in
-    let a = slots_parts lists 0 first (n + rest) in
-    let b = slots_parts lists first n rest in
-    let low = slots_none lists 0 first (λ c from below. h c (inl (omega arith))) in
-    let high = slots_none lists (first + n) rest (λ c from below. h c (inr from)) in
-    omega arith
+    slots_summed lists 0 (first + (n + rest))
+    ∙ summed_some (λ c. length (lists c)) first n rest (λ c out. no_length (lists c) (h c out))
+    ∙ sym (slots_summed lists first n)
 
-pub bytes_of_some : (lists : ℕ → List Numbered) (first n rest : ℕ) → NoneBut first n lists →
+bytes_of_some : (lists : ℕ → List Numbered) (first n rest : ℕ) → NoneBut first n lists →
     listed_bytes (λ c. length (lists c)) 0 (first + (n + rest)) ≡ listed_bytes (λ c. length (lists c)) first n
 bytes_of_some lists first n rest h =
-    let counts : ℕ → ℕ = λ c. length (lists c) in
-    let start : listed_bytes counts (0 + first) (n + rest) ≡ listed_bytes counts first (n + rest) = let e : 0 + first ≡ first = omega arith in ap (λ k. listed_bytes counts k (n + rest)) e in
-    let a = bytes_parts (λ c. length (lists c)) 0 first (n + rest) in
-    let b = bytes_parts (λ c. length (lists c)) first n rest in
-    let low = bytes_none lists 0 first (λ c from below. h c (inl (omega arith))) in
-    let high = bytes_none lists (first + n) rest (λ c from below. h c (inr from)) in
-    omega arith
+    bytes_summed (λ c. length (lists c)) 0 (first + (n + rest))
+    ∙ summed_some (λ c. slot_of c * length (lists c)) first n rest (λ c out. no_bytes c (lists c) (h c out))
+    ∙ sym (bytes_summed (λ c. length (lists c)) first n)
 
 -- what a purge gives
 give_before : (xs : List Numbered) (acts : List RootAct) → xs ≡ [] → gives xs ++ acts ≡ acts
 give_before xs acts e = ap (λ ys. gives ys ++ acts) e
 
-purge_past : (lists : ℕ → List Numbered) (from n m : ℕ) → ((c : ℕ) → from ≤ c → c < from + n → lists c ≡ []) → purge_acts lists from (n + m) ≡ purge_acts lists (from + n) m
+purge_past : (lists : ℕ → List Numbered) (from n m : ℕ) → ((c : ℕ) → from ≤ c → c < from + n → lists c ≡ []) →
+    purge_acts lists from (n + m) ≡ purge_acts lists (from + n) m
 purge_past lists from zero m h =
     let count : 0 + m ≡ m = omega arith in
     let start : from ≡ from + 0 = omega arith in
@@ -118,7 +131,7 @@ purge_until lists from (suc n) m h =
     let next : suc n + m ≡ suc (n + m) = omega arith in
     ap (λ k. purge_acts lists from k) next ∙ ap (λ acts. gives (lists from) ++ acts) (purge_until lists (from + 1) n m (λ c low. h c (omega arith)))
 
-pub purge_of_some : (lists : ℕ → List Numbered) (first n rest : ℕ) → NoneBut first n lists → purge_acts lists 0 (first + (n + rest)) ≡ purge_acts lists first n
+purge_of_some : (lists : ℕ → List Numbered) (first n rest : ℕ) → NoneBut first n lists → purge_acts lists 0 (first + (n + rest)) ≡ purge_acts lists first n
 purge_of_some lists first n rest h =
     let start : 0 + first ≡ first = omega arith in
     purge_past lists 0 first (n + rest) (λ c from below. h c (inl (omega arith)))
@@ -134,3 +147,23 @@ bytes_sparse lists h = bytes_of_some lists 0 59 111 h
 
 pub purge_sparse : (lists : ℕ → List Numbered) → NoneBut 0 59 lists → purge_acts lists 0 170 ≡ purge_acts lists 0 59
 purge_sparse lists h = purge_of_some lists 0 59 111 h
+
+-- where none but the classes of a version have slots
+abbrev pub NoneButOf : ℕ → (ℕ → List Numbered) → Type 0
+NoneButOf version lists = NoneBut (first_class version) (class_total version) lists
+
+pub slots_of_version : (version : ℕ) (lists : ℕ → List Numbered) → NoneButOf version lists
+    → listed_slots lists 0 170 ≡ listed_slots lists (first_class version) (class_total version)
+slots_of_version version lists h =
+    ap (listed_slots lists 0) (sym (class_parts version)) ∙ slots_of_some lists (first_class version) (class_total version) (170 - past_class version) h
+
+pub bytes_of_version : (version : ℕ) (lists : ℕ → List Numbered) → NoneButOf version lists
+    → listed_bytes (λ c. length (lists c)) 0 170 ≡ listed_bytes (λ c. length (lists c)) (first_class version) (class_total version)
+bytes_of_version version lists h =
+    ap (listed_bytes (λ c. length (lists c)) 0) (sym (class_parts version))
+    ∙ bytes_of_some lists (first_class version) (class_total version) (170 - past_class version) h
+
+pub purge_of_version : (version : ℕ) (lists : ℕ → List Numbered) → NoneButOf version lists
+    → purge_acts lists 0 170 ≡ purge_acts lists (first_class version) (class_total version)
+purge_of_version version lists h =
+    ap (purge_acts lists 0) (sym (class_parts version)) ∙ purge_of_some lists (first_class version) (class_total version) (170 - past_class version) h

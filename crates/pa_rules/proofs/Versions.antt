@@ -1,13 +1,13 @@
 -- What is known of the classes of a version, and of the direct maps in it.
-use Rattle.std.proofs.Common.{◌≡◌, ℕ, ◌+◌, ◌-◌, ◌<◌, ◌≤◌, max, Bool, true, false, sym, subst, arith, inl, inr}
-use Rattle.std.specs.Prelude.{nat_le, if◌then◌else◌}
-use Rattle.std.proofs.lemmas.Bool.{cases_order}
-use Rattle.pa_buckets.specs.Limits.{past_class, greatest_raw}
+use Rattle.std.proofs.Common.{◌≡◌, ℕ, ◌+◌, ◌-◌, ◌*◌, ◌<◌, ◌≤◌, ◌⊎◌, max, Bool, true, false, refl, sym, subst, arith, inl, inr}
+use Rattle.std.specs.Prelude.{nat_le, nat_lt, if◌then◌else◌}
+use Rattle.std.proofs.lemmas.Bool.{cases_order, cases_lt, and_from, and_left, and_right, le-leb, lt-leb, lt-ltb, le-ltb}
+use Rattle.pa_buckets.specs.Limits.{first_class, past_class, greatest_raw}
 use Rattle.pa_buckets.specs.Table.{slot_of}
 use Rattle.pa_buckets.specs.Classes.{IsClassIn}
 use Rattle.pa_buckets.proofs.Facts.{IsRow-of, IsRow_1-of, slot_of-rises, slot_of-rises_2}
 use Rattle.pa_direct.specs.Shapes.{shape_of, IsDirectSize}
-use Rattle.pa_rules.specs.Sizes.{HasClass, IsMapSize}
+use Rattle.pa_rules.specs.Sizes.{HasClass, is_class, class_total, most_with_class, IsMapSize}
 
 real_by : (b : Bool) (c : ℕ) → c < (if b then 59 else 170) → c < 170
 real_by true c real = omega arith
@@ -77,11 +77,69 @@ has_no_class version size c direct of =
     let raw = raw_by (nat_le version 1) in
     omega arith
 
--- ---- version 1
+-- ---- the classes one after the other
 
--- a class of a version that is 1
-pub real_first : (version c : ℕ) → version ≡ 1 → HasClass version c → c < 59
-real_first version c is h = subst (λ v. c < past_class v) is h.1
+-- a version has a class or not
+pub class_cases : (version c : ℕ) → HasClass version c ⊎ (HasClass version c → ⊥)
+class_cases version c = elim (cases_lt c (first_class version)) [
+  | inl low ↦ inr (λ h. let from = h.0 in omega arith)
+  | inr from ↦ elim (cases_lt c (past_class version)) [
+    | inl real ↦ inl (from, real)
+    | inr past ↦ inr (λ h. let real = h.1 in omega arith)
+  ]
+]
+
+pub class_yes : (version c : ℕ) → HasClass version c → is_class version c ≡ true
+class_yes version c h = and_from _ _ (le-leb (first_class version) c h.0) (lt-ltb c (past_class version) h.1)
+
+pub class_no : (version c : ℕ) → (HasClass version c → ⊥) → is_class version c ≡ false
+class_no version c none = elim (cases_lt c (first_class version)) [
+  | inl low ↦ and_left (nat_le (first_class version) c) (nat_lt c (past_class version)) (lt-leb (first_class version) c low)
+  | inr from ↦ elim (cases_lt c (past_class version)) [
+    | inl real ↦ absurd (none (from, real))
+    | inr past ↦ and_right (nat_le (first_class version) c) (nat_lt c (past_class version)) (le-ltb c (past_class version) past)
+  ]
+]
+
+total_by : (b : Bool) → (if b then 0 else 59) + ((if b then 59 else 170) - (if b then 0 else 59)) ≡ (if b then 59 else 170)
+total_by true = refl
+total_by false = refl
+
+few_by : (b : Bool) → (if b then 59 else 170) - (if b then 0 else 59) ≤ 111
+few_by true = omega arith
+few_by false = omega arith
+
+rest_by : (b : Bool) → (if b then 0 else 59) + (((if b then 59 else 170) - (if b then 0 else 59)) + (170 - (if b then 59 else 170))) ≡ 170
+rest_by true = refl
+rest_by false = refl
+
+-- as many classes as it has follow its first one
+pub class_end : (version : ℕ) → first_class version + class_total version ≡ past_class version
+class_end version = total_by (nat_le version 1)
+
+pub class_few : (version : ℕ) → class_total version ≤ 111
+class_few version = few_by (nat_le version 1)
+
+-- those before it, its own, and those after it are all classes
+pub class_parts : (version : ℕ) → first_class version + (class_total version + (170 - past_class version)) ≡ 170
+class_parts version = rest_by (nat_le version 1)
+
+-- a class by its place among those of its version
+pub class_among : (version c : ℕ) → HasClass version c → c - first_class version < class_total version
+class_among version c h = let end = class_end version in let from = h.0 in let real = h.1 in omega arith
+
+row_by : (b : Bool) (a d c e : ℕ) → (if b then 0 else 59) ≤ c → c < (if b then 59 else 170) → (if b then 0 else 59) ≤ e → e < (if b then 59 else 170)
+    → a * ((if b then 59 else 170) - (if b then 0 else 59)) + (c - (if b then 0 else 59)) ≡ d * ((if b then 59 else 170) - (if b then 0 else 59)) + (e - (if b then 0 else 59))
+    → (a ≡ d) × (c ≡ e)
+row_by true a d c e low high down up is = (omega (arith, high, up, is), omega (arith, high, up, is))
+row_by false a d c e low high down up is = (omega (arith, low, high, down, up, is), omega (arith, low, high, down, up, is))
+
+-- rows of as many places as the version has classes: one place is of one row and class
+pub class_row : (version a d c e : ℕ) → HasClass version c → HasClass version e
+    → a * class_total version + (c - first_class version) ≡ d * class_total version + (e - first_class version) → (a ≡ d) × (c ≡ e)
+class_row version a d c e h k is = row_by (nat_le version 1) a d c e h.0 h.1 k.0 k.1 is
+
+-- ---- version 1
 
 -- what a size asks for in a version that is 1
 pub class_first : (version raw c : ℕ) → version ≡ 1 → IsClassIn 1 raw c → IsClassIn version raw c

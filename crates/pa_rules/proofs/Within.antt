@@ -17,13 +17,15 @@ use Rattle.pa_rules.specs.Played.{OpLine, AreLines, op_lines, op_line_of}
 abbrev IsOpLineWithin : ℕ → ℕ → OpLine → Type 0
 IsOpLineWithin partitions threads a = (a.thread < threads) × IsOpWithin partitions a.op
 
-ops_within : (rules : Rules) (partitions threads n phase : ℕ) (ls : List Line) (a : OpLine) → AllByRecursion (IsLineWithin partitions threads) ls → Contains (op_lines rules n phase ls) a → IsOpLineWithin partitions threads a
+ops_within : (rules : Rules) (partitions threads n phase : ℕ) (ls : List Line) (a : OpLine)
+    → AllByRecursion (IsLineWithin partitions threads) ls → Contains (op_lines rules n phase ls) a → IsOpLineWithin partitions threads a
 ops_within rules partitions threads n phase [] a h among = absurd (not_in_none a among)
 ops_within rules partitions threads n phase (Phase ∷ ls) a h among = ops_within rules partitions threads (n + 1) (phase + 1) ls a h.1 among
-ops_within rules partitions threads n phase (Do thread op ∷ ls) a h among = elim (in_cases (record { line = n; thread = thread; phase = phase; rules = rules; op = op }) a (op_lines rules (n + 1) phase ls) among) [
-  | inl e ↦ subst (λ z. IsOpLineWithin partitions threads z) e h.0
-  | inr rest ↦ ops_within rules partitions threads (n + 1) phase ls a h.1 rest
-]
+ops_within rules partitions threads n phase (Do thread op ∷ ls) a h among = elim
+    (in_cases (record { line = n; thread = thread; phase = phase; rules = rules; op = op }) a (op_lines rules (n + 1) phase ls) among) [
+      | inl e ↦ subst (λ z. IsOpLineWithin partitions threads z) e h.0
+      | inr rest ↦ ops_within rules partitions threads (n + 1) phase ls a h.1 rest
+    ]
 
 pub records_within : (t : Trace) (ps : List Played) (x : Played) → IsWithinLimits t → AreLines (rules_of t) t.lines ps → Contains ps x → (x.thread < t.threads) × IsOpWithin t.partitions x.op
 records_within t ps x limits lines among =

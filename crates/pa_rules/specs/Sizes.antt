@@ -1,5 +1,5 @@
 -- Which classes and direct maps a version has, and how many bytes of the slot of a request are usable.
-use Rattle.std.specs.Prelude.{◌≡◌, ℕ, ◌+◌, ◌-◌, ◌<◌, ◌≤◌, max, nat_le, find}
+use Rattle.std.specs.Prelude.{◌≡◌, ℕ, ◌+◌, ◌-◌, ◌<◌, ◌≤◌, ◌&&◌, Bool, max, nat_le, nat_lt, find}
 use Rattle.std.specs.Option.{option_map_or}
 use Rattle.pa_buckets.specs.Limits.{first_class, past_class, greatest_raw}
 use Rattle.pa_buckets.specs.Table.{rows_of, slot_of}
@@ -9,6 +9,14 @@ use Rattle.pa_direct.specs.Shapes.{shape_of, greatest_size}
 -- the version has the class of this number
 abbrev pub HasClass : ℕ → ℕ → Type 0
 HasClass version c = (first_class version ≤ c) × (c < past_class version)
+
+-- the test that it has
+abbrev pub is_class : ℕ → ℕ → Bool
+is_class version c = nat_le (first_class version) c && nat_lt c (past_class version)
+
+-- how many classes the version has
+abbrev pub class_total : ℕ → ℕ
+class_total version = past_class version - first_class version
 
 -- the greatest request that has a class in the version: all bytes of its greatest slot but the count word
 abbrev pub most_with_class : ℕ → ℕ

@@ -19,7 +19,11 @@ seen_again : (s : Seen) (rest : List ℕ) → SeenInBits s → seen_in (seen_tex
 unfolding seen_in
 seen_again s rest fits =
     ap seen_in (cut4 (codes " ") (slot_text s.slot) (codes " ") (hex 16 s.found.0) rest)
-    ∙ rw (behind_again (codes " ") (slot_text s.slot ++ (codes " " ++ (hex 16 s.found.0 ++ rest))), slot_again s.slot (codes " " ++ (hex 16 s.found.0 ++ rest)) fits.0 refl, word_again s.found.0 rest fits.1) refl
+    ∙ rw (
+      behind_again (codes " ") (slot_text s.slot ++ (codes " " ++ (hex 16 s.found.0 ++ rest))),
+      slot_again s.slot (codes " " ++ (hex 16 s.found.0 ++ rest)) fits.0 refl,
+      word_again s.found.0 rest fits.1,
+    ) refl
 
 seen_if_again : (o : Option Seen) (rest : List ℕ) → IfSome o SeenInBits → seen_if_in (seen_text_if o ++ 10 ∷ rest) ≡ Some (o, 10 ∷ rest)
 unfolding seen_if_in after_word

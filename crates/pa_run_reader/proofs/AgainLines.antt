@@ -25,7 +25,8 @@ use Rattle.pa_record.proofs.OtherLines.{root_cut, pool_cut, cell_cut}
 
 -- ---- the pool
 
-take_again : (n : ℕ) (f : Option ℕ) (rest : List ℕ) → PoolActInBits (turns.Take n f) → take_in (decimal n ++ (codes " " ++ (number_or (codes "none") f ++ 10 ∷ rest))) ≡ Some (turns.Take n f, 10 ∷ rest)
+take_again : (n : ℕ) (f : Option ℕ) (rest : List ℕ) → PoolActInBits (turns.Take n f)
+    → take_in (decimal n ++ (codes " " ++ (number_or (codes "none") f ++ 10 ∷ rest))) ≡ Some (turns.Take n f, 10 ∷ rest)
 unfolding take_in
 take_again n f rest fits =
     rw (
@@ -70,7 +71,9 @@ held_again (handles.Own s) rest fits stop = rw (slot_again s rest fits stop) ref
 held_again (handles.Ref s) rest fits stop = rw (slot_again s rest fits stop) refl
 
 cell_again : (k j : ℕ) (e : CellEntry) (rest : List ℕ) → k < 64 → Is32 j → CellInBits e
-    → cell_in (decimal k ++ (codes " " ++ (decimal j ++ (codes " " ++ (decimal e.line ++ (codes " " ++ (held_text e.gave ++ (codes " " ++ (held_text e.found ++ 10 ∷ rest))))))))) ≡ Some (items.Cell k j e, rest)
+    → cell_in (decimal k ++ (codes " " ++ (decimal j ++ (codes " " ++
+    (decimal e.line ++ (codes " " ++ (held_text e.gave ++ (codes " " ++ (held_text e.found ++ 10 ∷ rest))))))))) ≡ Some
+    (items.Cell k j e, rest)
 unfolding cell_in
 cell_again k j e rest cells small fits =
     let found : List ℕ = held_text e.found ++ 10 ∷ rest in

@@ -86,7 +86,8 @@ map_again p s l rest fits =
       field_again (codes "@0 ") 4294967296 l (10 ∷ rest) fits.2 (omega arith) refl,
     ) refl
 
-full_again : (c : Option ℕ) (p : ℕ) (rest : List ℕ) → RootActInBits (acts.Full c p) → full_in (number_or (codes "direct") c ++ (codes " " ++ (decimal p ++ 10 ∷ rest))) ≡ Some (acts.Full c p, 10 ∷ rest)
+full_again : (c : Option ℕ) (p : ℕ) (rest : List ℕ) → RootActInBits (acts.Full c p)
+    → full_in (number_or (codes "direct") c ++ (codes " " ++ (decimal p ++ 10 ∷ rest))) ≡ Some (acts.Full c p, 10 ∷ rest)
 unfolding full_in
 full_again c p rest fits =
     rw (

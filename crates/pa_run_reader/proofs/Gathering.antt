@@ -214,8 +214,10 @@ told_next l g (items.Record e) h s room fits =
     let p : List ℕ = pools_text g.pool in
     let c : List ℕ = cells_text g.cells in
     let t : List ℕ = flat_map report_text g.report in
-    let none = tail4 (codes "run 1\n" ++ flat_map entry_text (g.entries ++ e ∷ [])) r p c t (nested_none root_text 0 g.roots f.0) (pool_none g f.1.pool) (cells_none g f.1.behind.cells) (report_none g f.1.behind.report) in
-    let before = tail4 (codes "run 1\n" ++ flat_map entry_text g.entries) r p c t (nested_none root_text 0 g.roots f.0) (pool_none g f.1.pool) (cells_none g f.1.behind.cells) (report_none g f.1.behind.report) in
+    let none = tail4 (codes "run 1\n" ++ flat_map entry_text (g.entries ++ e ∷ [])) r p c t (nested_none root_text 0 g.roots f.0)
+    (pool_none g f.1.pool) (cells_none g f.1.behind.cells) (report_none g f.1.behind.report) in
+    let before = tail4 (codes "run 1\n" ++ flat_map entry_text g.entries) r p c t (nested_none root_text 0 g.roots f.0)
+    (pool_none g f.1.pool) (cells_none g f.1.behind.cells) (report_none g f.1.behind.report) in
     none ∙ more (codes "run 1\n") (flat_map entry_text g.entries) (flat_map entry_text (g.entries ++ e ∷ [])) (entry_text e) (flat_push entry_text g.entries e)
     ∙ ap (λ (w : List ℕ). w ++ entry_text e) (sym before)
 told_next l g (items.Root p j e) h s room fits =

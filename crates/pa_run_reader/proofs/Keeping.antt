@@ -85,14 +85,23 @@ pub record Kept (g : Gathered) : Type 0 where
   pub cells : AllByRecursion (AllByRecursion CellInBits) g.cells
   pub report : AllByRecursion ReportInBits g.report
 
-all_nested : {A : Type 0} (P : A → Type 0) (lists : List (List A)) (p : ℕ) (x : A) → AllByRecursion (AllByRecursion P) lists → P x → AllByRecursion (AllByRecursion P) (set lists p (get_or lists p [] ++ x ∷ []))
+all_nested : {A : Type 0} (P : A → Type 0) (lists : List (List A)) (p : ℕ) (x : A) → AllByRecursion (AllByRecursion P) lists → P x
+    → AllByRecursion (AllByRecursion P) (set lists p (get_or lists p [] ++ x ∷ []))
 all_nested P lists p x all one =
     all_set (AllByRecursion P) lists p (get_or lists p [] ++ x ∷ []) all (all_more P (get_or lists p []) x (all_at (AllByRecursion P) lists p [] all tt) one)
 
 pub kept_next : (g : Gathered) (i : Item) → Kept g → FitsItem i → Kept (gathered_with i g)
 kept_next g items.Head k fits = k
 kept_next g (items.Record e) k fits =
-    record { room = record { journals = k.room.journals; histories = k.room.histories }; entries = all_more EntryInBits g.entries e k.entries fits; roots = k.roots; slots = k.slots; pool = k.pool; cells = k.cells; report = k.report }
+    record {
+      room = record { journals = k.room.journals; histories = k.room.histories };
+      entries = all_more EntryInBits g.entries e k.entries fits;
+      roots = k.roots;
+      slots = k.slots;
+      pool = k.pool;
+      cells = k.cells;
+      report = k.report;
+    }
 kept_next g (items.Root p j e) k fits = record {
   room = record { journals = length-set g.roots p (get_or g.roots p [] ++ e ∷ []) ∙ k.room.journals; histories = k.room.histories };
   entries = k.entries;
@@ -103,7 +112,15 @@ kept_next g (items.Root p j e) k fits = record {
   report = k.report;
 }
 kept_next g (items.Pool j e) k fits =
-    record { room = record { journals = k.room.journals; histories = k.room.histories }; entries = k.entries; roots = k.roots; slots = k.slots; pool = all_more PoolInBits g.pool e k.pool fits; cells = k.cells; report = k.report }
+    record {
+      room = record { journals = k.room.journals; histories = k.room.histories };
+      entries = k.entries;
+      roots = k.roots;
+      slots = k.slots;
+      pool = all_more PoolInBits g.pool e k.pool fits;
+      cells = k.cells;
+      report = k.report;
+    }
 kept_next g (items.Cell c j e) k fits = record {
   room = record { journals = k.room.journals; histories = length-set g.cells c (get_or g.cells c [] ++ e ∷ []) ∙ k.room.histories };
   entries = k.entries;
@@ -114,7 +131,15 @@ kept_next g (items.Cell c j e) k fits = record {
   report = k.report;
 }
 kept_next g (items.Report x) k fits =
-    record { room = record { journals = k.room.journals; histories = k.room.histories }; entries = k.entries; roots = k.roots; slots = k.slots; pool = k.pool; cells = k.cells; report = all_more ReportInBits g.report x k.report fits }
+    record {
+      room = record { journals = k.room.journals; histories = k.room.histories };
+      entries = k.entries;
+      roots = k.roots;
+      slots = k.slots;
+      pool = k.pool;
+      cells = k.cells;
+      report = all_more ReportInBits g.report x k.report fits;
+    }
 kept_next g items.End k fits = k
 
 -- the item's list is there

@@ -44,7 +44,8 @@ text_push (m ∷ batch) slot x =
     slots_cut m batch (codes " " ++ (numbered_text slot ++ x)) ∙ ap (λ (w : List ℕ). codes " " ++ (numbered_text m ++ w)) (text_push batch slot x)
     ∙ sym (slots_cut m (batch ++ slot ∷ []) x)
 
-one_slot : (k : ℕ) (slot : Numbered) (rest front after : List ℕ) → after_word (codes " ") rest ≡ Some front → numbered_in front ≡ Some (slot, after) → slots_in (suc k) rest ≡ slot_before slot (slots_in k after)
+one_slot : (k : ℕ) (slot : Numbered) (rest front after : List ℕ) → after_word (codes " ") rest ≡ Some front
+    → numbered_in front ≡ Some (slot, after) → slots_in (suc k) rest ≡ slot_before slot (slots_in k after)
 unfolding slots_in
 one_slot k slot rest front after e f = rw (e, f) refl
 
@@ -83,7 +84,8 @@ unfolding slots_in
 bad_slot k rest front e f = rw (e, f) refl
 
 -- what follows a space is no slot
-pub slots_bad : (i : ℕ) (batch : List Numbered) (rest front bytes : List ℕ) → i < 16 → after_word (codes " ") rest ≡ Some front → numbered_in front ≡ None → ReadSlots batch rest bytes i → slots_in 16 bytes ≡ None
+pub slots_bad : (i : ℕ) (batch : List Numbered) (rest front bytes : List ℕ) → i < 16 → after_word (codes " ") rest ≡ Some front
+    → numbered_in front ≡ None → ReadSlots batch rest bytes i → slots_in 16 bytes ≡ None
 slots_bad i batch rest front bytes lt e f so_far =
     let step : 16 - i ≡ suc (16 - (i + 1)) = omega arith in
     so_far.read ∙ ap (λ (k : ℕ). with_slots batch (slots_in k rest)) step ∙ ap (with_slots batch) (bad_slot (16 - (i + 1)) rest front e f)

@@ -251,7 +251,8 @@ all_pairs : {A : Type 0} (P Q : A → Type 0) (xs : List A) → AllByRecursion P
 all_pairs P Q [] p q = tt
 all_pairs P Q (x ∷ xs) p q = ((p.0, q.0), all_pairs P Q xs p.1 q.1)
 
-all_both : {A : Type 0} (P Q : A → Type 0) (lists : List (List A)) → AllByRecursion (AllByRecursion P) lists → AllByRecursion (AllByRecursion Q) lists → AllByRecursion (AllByRecursion (λ x. P x × Q x)) lists
+all_both : {A : Type 0} (P Q : A → Type 0) (lists : List (List A)) → AllByRecursion (AllByRecursion P) lists
+    → AllByRecursion (AllByRecursion Q) lists → AllByRecursion (AllByRecursion (λ x. P x × Q x)) lists
 all_both P Q [] p q = tt
 all_both P Q (xs ∷ lists) p q = (all_pairs P Q xs p.0 q.0, all_both P Q lists p.1 q.1)
 

@@ -17,11 +17,13 @@ digits_grow (c ∷ cs) n =
     ]
 
 -- one digit more
-pub goes_on : (value d first : ℕ) (rest after bytes : List ℕ) → digit_at rest ≡ Some (d, after) → digits_from value rest ≡ digits_from first bytes → digits_from (10 * value + d) after ≡ digits_from first bytes
+pub goes_on : (value d first : ℕ) (rest after bytes : List ℕ) → digit_at rest ≡ Some (d, after)
+    → digits_from value rest ≡ digits_from first bytes → digits_from (10 * value + d) after ≡ digits_from first bytes
 goes_on value d first rest after bytes e same = sym (digit_first value d rest after e) ∙ same
 
 -- a number that has more than 64 bits so far isn't read
-pub too_wide : (value d first : ℕ) (rest after bytes : List ℕ) → digit_at rest ≡ Some (d, after) → digits_from value rest ≡ digits_from first bytes → 18446744073709551616 ≤ 10 * value + d → narrowed (digits_from first bytes) ≡ None
+pub too_wide : (value d first : ℕ) (rest after bytes : List ℕ) → digit_at rest ≡ Some (d, after)
+    → digits_from value rest ≡ digits_from first bytes → 18446744073709551616 ≤ 10 * value + d → narrowed (digits_from first bytes) ≡ None
 too_wide value d first rest after bytes e same large =
     let all = goes_on value d first rest after bytes e same in
     let grown = digits_grow after (10 * value + d) in
@@ -29,7 +31,8 @@ too_wide value d first rest after bytes e same large =
     rw (le-ltb (digits_from first bytes).0 18446744073709551616 top) refl
 
 -- at the end
-pub all_read : (value first : ℕ) (rest bytes : List ℕ) → digit_at rest ≡ None → digits_from value rest ≡ digits_from first bytes → value < 18446744073709551616 → narrowed (digits_from first bytes) ≡ Some (value, rest)
+pub all_read : (value first : ℕ) (rest bytes : List ℕ) → digit_at rest ≡ None → digits_from value rest ≡ digits_from first bytes
+    → value < 18446744073709551616 → narrowed (digits_from first bytes) ≡ Some (value, rest)
 all_read value first rest bytes e same small =
     let last : digits_from first bytes ≡ (value, rest) = sym same ∙ digit_last value rest e in
     ap narrowed last ∙ rw (lt-ltb value 18446744073709551616 small) refl

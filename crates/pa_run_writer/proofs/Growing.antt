@@ -84,8 +84,10 @@ lines_left i js j low is =
     let cut : drop i js ≡ j ∷ drop (i + 1) js = drop-cons js i j low ∙ ap (λ (z : OneJournal). z ∷ drop (suc i) js) (sym is) ∙ ap (λ k. j ∷ drop k js) (sym (add-one i)) in
     ap (λ (z : List OneJournal). lines_from journal_text i (map (λ (j : OneJournal). j.entries) z)) cut
 
-pub next_lines : (i : ℕ) (js : List OneJournal) (j : OneJournal) (out out' told whole : List ℕ) → AreFrom 0 js → i < length js → j ≡ get_or js i j → told ≡ journal_text j.partition j.entries → out' ≡ out ++ told
-    → out ++ lines_from journal_text i (map (λ (j : OneJournal). j.entries) (drop i js)) ≡ whole → out' ++ lines_from journal_text (i + 1) (map (λ (j : OneJournal). j.entries) (drop (i + 1) js)) ≡ whole
+pub next_lines : (i : ℕ) (js : List OneJournal) (j : OneJournal) (out out' told whole : List ℕ) → AreFrom 0 js → i < length js
+    → j ≡ get_or js i j → told ≡ journal_text j.partition j.entries → out' ≡ out ++ told
+    → out ++ lines_from journal_text i (map (λ (j : OneJournal). j.entries) (drop i js)) ≡ whole
+    → out' ++ lines_from journal_text (i + 1) (map (λ (j : OneJournal). j.entries) (drop (i + 1) js)) ≡ whole
 next_lines i js j out out' told whole from low is tells grew h =
     let place : j.partition ≡ i = ap (λ (z : OneJournal). z.partition) is ∙ from_at 0 i js j from low ∙ zero-add i in
     let rest = lines_from journal_text (i + 1) (map (λ (j : OneJournal). j.entries) (drop (i + 1) js)) in

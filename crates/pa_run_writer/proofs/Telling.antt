@@ -34,7 +34,8 @@ abbrev vec_of : {X : Type 0} → Global → (xs : List X) → length xs < 2 ^ 63
 vec_of heap xs few = record { ptr = null_ptr; len = length xs; cap = length xs; alloc = heap; items = xs; ok = (refl, le_refl (length xs)); small = few }
 
 -- what was reported so far, and the rest after it, is the text of a run that has all of it
-pub told_whole : (heap : Global) (es : List Entry) (js : List (List RootEntry)) (pool : Vec PoolEntry Global) (cells : Vec (List CellEntry) Global) (report : Vec ReportLine Global) (begun whole : List ℕ)
+pub told_whole : (heap : Global) (es : List Entry) (js : List (List RootEntry)) (pool : Vec PoolEntry Global)
+    (cells : Vec (List CellEntry) Global) (report : Vec ReportLine Global) (begun whole : List ℕ)
     → ((r : Run) → HasLists es js pool.items cells.items report.items r → IsPrintable r)
     → IsRecordsText es begun → length whole < 2 ^ 63 → length js < 2 ^ 63
     → AllByRecursion (AllByRecursion RootInBits) js → AllByRecursion PoolInBits pool.items → AllByRecursion (AllByRecursion CellInBits) cells.items → AllByRecursion ReportInBits report.items
@@ -56,5 +57,6 @@ told_whole heap es js pool cells report begun whole printable told small few roo
     }
 
 -- texts after each other
-pub grown : (a b c d f g roots pools cells report last : List ℕ) → b ≡ a ++ roots → c ≡ b ++ pools → d ≡ c ++ cells → f ≡ d ++ report → g ≡ f ++ last → g ≡ a ++ roots ++ pools ++ cells ++ report ++ last
+pub grown : (a b c d f g roots pools cells report last : List ℕ) → b ≡ a ++ roots → c ≡ b ++ pools → d ≡ c ++ cells → f ≡ d ++ report
+    → g ≡ f ++ last → g ≡ a ++ roots ++ pools ++ cells ++ report ++ last
 grown a b c d f g roots pools cells report last e1 e2 e3 e4 e5 = cc

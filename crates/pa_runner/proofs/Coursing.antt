@@ -19,7 +19,8 @@ use Rattle.pa_runner.specs.Playing.{in_phase}
 use Rattle.pa_runner.specs.Phases.{AreReady, HaveHeard, HeardFrom, HasPassed, queue_in, worker_in}
 use Rattle.pa_runner.proofs.Behind.{thread_is}
 
-module _ (t : Trace) (n : ℕ) (c : Course) (queues : List (List LineOp)) (before after : List WorkerValue) (first seat : View) (many : length before ≡ t.threads) (passed : HasPassed queues before after first seat)
+module _ (t : Trace) (n : ℕ) (c : Course) (queues : List (List LineOp)) (before after : List WorkerValue) (first seat : View)
+    (many : length before ≡ t.threads) (passed : HasPassed queues before after first seat)
     (aware : IsAware seat) where
   heard_all : HasHeardAll t.threads (worker_in passed.ends) seat
   heard_all = subst (λ m. HasHeardAll m (worker_in passed.ends) seat) many (workers_tell.all (length before) (worker_in passed.ends) first seat passed.heard aware)

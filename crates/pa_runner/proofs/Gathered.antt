@@ -71,7 +71,7 @@ tell_more k before now first seat next d w telling few has is' none took' aware 
       };
     }
 
--- what the next worker needs to hand its stake over
+-- the next worker that tells still has its stake
 pub tell_ready : (k : ℕ) (before now : List WorkerValue) (first seat : View) (d : WorkerValue) → IsTelling k before now first seat → k < length before → HaveStakes before →
     0 < stake_of (get_or now k d).stock.view (get_or now k d).stock.thread
 tell_ready k before now first seat d telling few has =

@@ -36,15 +36,15 @@ module _ (k lines : ℕ) (seat : View) where
     unused = λ t. refl;
   }
 
-  pub new_for : {E : Type 0} (partitions : ℕ) (r : Result WorkerValue E) (v : View) → v ≡ given_after (parcel_of [] lines (Stake k ∷ [])) seat → 0 < stake_of seat k → log_of k seat ≡ [] →
-      IfOk r (IsNewWorker k partitions lines v) → IfOk r (IsNewFor k partitions lines)
-  new_for partitions (Ok w) v is has none new = record {
+  pub new_for : {E : Type 0} (partitions version : ℕ) (r : Result WorkerValue E) (v : View) → v ≡ given_after (parcel_of [] lines (Stake k ∷ [])) seat → 0 < stake_of seat k → log_of k seat ≡ [] →
+      IfOk r (IsNewWorker k partitions version lines v) → IfOk r (IsNewFor k partitions version lines)
+  new_for partitions version (Ok w) v is has none new = record {
     view = v;
     new = new;
     stake = subst (λ (z : View). 0 < stake_of z k) (sym is) (let g = given_stake k seat in omega arith);
     log = ap (log_of k) is ∙ (log_filter (stake_parcel k).stakes k seat.stakes (marked_here k) ∙ none);
   }
-  new_for partitions (Err e) v is has none new = tt
+  new_for partitions version (Err e) v is has none new = tt
 
 -- ---- how many lines are of threads from one on
 
@@ -84,7 +84,7 @@ pub record IsOpening (t : Trace) (k : ℕ) (workers : List WorkerValue) (first s
   pub handed : seat ≡ after_opening t.lines k first
   pub budget : lines_past k t.lines ≤ seat.budget
   pub count : length workers ≡ k
-  pub each : (j : ℕ) → j < k → IsNewFor j t.partitions (lines_by j t.lines) (worker_in workers j)
+  pub each : (j : ℕ) → j < k → IsNewFor j t.partitions t.version (lines_by j t.lines) (worker_in workers j)
 
 pub open_start : (t : Trace) (budget : ℕ) (first : View) → length t.lines ≤ budget → HasAllStakes budget first → IsOpening t 0 [] first first
 open_start t budget first fits all = record {
@@ -123,7 +123,7 @@ module _ (t : Trace) (k : ℕ) (workers : List WorkerValue) (first seat : View) 
   pub open_handed : (next : View) → next ≡ left_after (parcel_of [] (lines_by k t.lines) (Stake k ∷ [])) seat → next ≡ after_opening t.lines (k + 1) first
   open_handed next left = left ∙ (ap (left_after (parcel_of [] (lines_by k t.lines) (Stake k ∷ []))) opening.handed ∙ sym (opening_more t.lines k first))
 
-  pub open_next : (next : View) (w : WorkerValue) → next ≡ left_after (parcel_of [] (lines_by k t.lines) (Stake k ∷ [])) seat → IsNewFor k t.partitions (lines_by k t.lines) w →
+  pub open_next : (next : View) (w : WorkerValue) → next ≡ left_after (parcel_of [] (lines_by k t.lines) (Stake k ∷ [])) seat → IsNewFor k t.partitions t.version (lines_by k t.lines) w →
       IsOpening t (k + 1) (workers ++ w ∷ []) first next
   open_next next w left new =
       let l = left_after (parcel_of [] (lines_by k t.lines) (Stake k ∷ [])) seat in
@@ -141,10 +141,10 @@ module _ (t : Trace) (k : ℕ) (workers : List WorkerValue) (first seat : View) 
         count = length_push workers w ∙ ap (λ n. n + 1) opening.count;
         each = λ j low. elim (cases_eq j k) [
           | inl e ↦
-              subst (λ n. IsNewFor n t.partitions (lines_by n t.lines) (worker_in (workers ++ w ∷ []) n)) (sym e)
-              (subst (IsNewFor k t.partitions (lines_by k t.lines)) (sym (last_in workers w k opening.count)) new)
+              subst (λ n. IsNewFor n t.partitions t.version (lines_by n t.lines) (worker_in (workers ++ w ∷ []) n)) (sym e)
+              (subst (IsNewFor k t.partitions t.version (lines_by k t.lines)) (sym (last_in workers w k opening.count)) new)
           | inr ne ↦
               let long = opening.count in
-              subst (IsNewFor j t.partitions (lines_by j t.lines)) (sym (before_in workers w j (omega arith))) (opening.each j (omega arith))
+              subst (IsNewFor j t.partitions t.version (lines_by j t.lines)) (sym (before_in workers w j (omega arith))) (opening.each j (omega arith))
         ];
       }

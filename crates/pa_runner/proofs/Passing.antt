@@ -47,7 +47,8 @@ pub heard_every : (threads : ℕ) (workers : ℕ → WorkerValue) (first seat : 
 heard_every threads workers first seat heard k small = elim (cases_lt k threads) [ inl few ↦ heard.told k few | inr past ↦ heard.main.own k past small ]
 
 -- A main seat that asked roots gives the stakes back all the same.
-pub heard_asked : (threads count : ℕ) (workers : ℕ → WorkerValue) (first seat next : View) → HasHeardSome threads count workers first seat → HasAsked seat next → HasHeardSome threads count workers first next
+pub heard_asked : (threads count : ℕ) (workers : ℕ → WorkerValue) (first seat next : View) → HasHeardSome threads count workers first seat
+    → HasAsked seat next → HasHeardSome threads count workers first next
 heard_asked threads count workers first seat next heard asked = record {
   main = record {
     own = λ k past small. let h = heard.main.own k past small in let s = asked.keeps.stakes k in omega arith;

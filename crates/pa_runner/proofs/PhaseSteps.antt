@@ -1,11 +1,10 @@
 -- The steps of a trace that is played phase after phase: the start, a line into its queue, the end of a phase, and what the next one begins with.
-use Rattle.std.proofs.Common.{◌≡◌, ℕ, zero, suc, ◌+◌, ◌<◌, ◌≤◌, List, [], ◌∷◌, ◌++◌, length, map, take, get_or, replicate, set, refl, sym, ◌∙◌, ap, subst, arith, inl, inr}
+use Rattle.std.proofs.Common.{◌≡◌, ℕ, zero, suc, ◌+◌, ◌<◌, ◌≤◌, List, [], ◌∷◌, ◌++◌, length, map, take, get_or, replicate, set, refl, sym, ◌∙◌, ap, ap₂, subst, arith, inl, inr}
 use Rattle.std.proofs.Math.Seq.{take_all}
 use Rattle.std.proofs.lemmas.Bool.{cases_eq}
 use Rattle.std.proofs.lemmas.List.{length-set, length-replicate, get_or-set_same, get_or-set_other, get_or_default}
 use Rattle.std.proofs.lemmas.List.Elements.{All-from_recursion, All-get_or}
-use Rattle.pa_trace.specs.Rules.{rules_of, first_rules}
-use Rattle.pa_trace.specs.declared.script.Rules.{Rules}
+use Rattle.pa_trace.specs.Rules.{rules_of}
 use Rattle.pa_op_specs.specs.Stocks.{rules_at}
 use Rattle.pa_record.specs.declared.report.ReportLine.{ReportLine}
 use Rattle.pa_region.specs.declared.view.View.{View}
@@ -124,8 +123,7 @@ module _ (t : Trace) (i phase : ℕ) (workers : List WorkerValue) (queues : List
   -- the workers play by the trace's rules
   rules_are : (k : ℕ) → k < t.threads → rules_at (worker_in workers k).stock ≡ rules_of t
   rules_are k few =
-      let by : ℕ → Rules = λ version. record { version = version; plain_from = t.partitions } in
-      ap first_rules (going.each k few).partitions ∙ ap by (sym within.version)
+      ap₂ (λ version partitions. record { version = version; plain_from = partitions }) (going.each k few).version (going.each k few).partitions
 
   -- what the end of the phase needs
   pub many_here : (0 < length workers) × (length workers ≤ 16)
@@ -152,7 +150,8 @@ module _ (t : Trace) (i phase : ℕ) (workers : List WorkerValue) (queues : List
       let m = going.many in
       let room = (going.each k (omega arith)).room in
       let few = within.few in
-      let count : lines_by k t.lines ≤ length t.lines = subst (λ (ls : List Line). lines_by k ls ≤ length t.lines) (take_all (length t.lines) t.lines (omega arith)) (count_few k (length t.lines) t.lines) in
+      let count : lines_by k t.lines ≤ length t.lines = subst (λ (ls : List Line). lines_by k ls ≤ length t.lines)
+      (take_all (length t.lines) t.lines (omega arith)) (count_few k (length t.lines) t.lines) in
       omega arith
 
   -- the phase that passed
@@ -236,7 +235,8 @@ module _ (t : Trace) (i phase : ℕ) (workers : List WorkerValue) (queues : List
             IsUnderWay t (i + 1) (phase + 1) again cleared last now
         going_next long none answered =
             let m = going.many in
-            let over = is_over (λ k. subst (λ n. lines_in (rules_of t) t.lines n k ≡ lines_in (rules_of t) (take i t.lines) n k) going.here (phase_whole t.lines i begins.low (rules_of t) k begins.is)) in
+            let over = is_over (λ k. subst (λ n. lines_in (rules_of t) t.lines n k ≡ lines_in (rules_of t) (take i t.lines) n k)
+            going.here (phase_whole t.lines i begins.low (rules_of t) k begins.is)) in
             let begun : HasBegun t (going.over + 1) over.course (worker_in again) =
             phase_begins t going.over over.course queues workers after seat next going.many passed aware over.course
             (subst (λ n. HasEnded t n over.course (worker_in passed.ends) next) going.phase_is over.ended) again

@@ -18,7 +18,8 @@ use Rattle.pa_rules.specs.Played.{OpLine}
 use Rattle.pa_totals.specs.Settled.{none_owed}
 use Rattle.pa_op_specs.specs.Workers.{WorkerValue, worker_with_view}
 use Rattle.pa_execution.specs.Courses.{lines_in}
-use Rattle.pa_execution.proofs.Playing.{stays}
+use Rattle.pa_execution.proofs.Playing.{stays, keeps_rules}
+use Rattle.pa_trace.specs.declared.script.Rules.{Rules}
 use Rattle.pa_runner.specs.declared.thread_lines.LineOp.{LineOp}
 use Rattle.pa_runner.specs.Playing.{in_phase, AreBefore, RiseFrom, CanPlay, PlaysLines}
 use Rattle.pa_runner.specs.Opening.{IsNewFor}
@@ -69,10 +70,11 @@ all_push P (y ∷ ys) x all one = (all.0, all_push P ys x all.1 one)
 -- ---- a worker at a place
 
 -- at the start
-pub place_start : (t : Trace) (k : ℕ) (queue : List LineOp) (w : WorkerValue) → IsNewFor k t.partitions (lines_by k t.lines) w → queue ≡ [] → IsAtPlace t 0 k queue w
+pub place_start : (t : Trace) (k : ℕ) (queue : List LineOp) (w : WorkerValue) → IsNewFor k t.partitions t.version (lines_by k t.lines) w → queue ≡ [] → IsAtPlace t 0 k queue w
 place_start t k queue w begins none = subst (λ (q : List LineOp). IsAtPlace t 0 k q w) (sym none) (record {
   thread = begins.new.stock.thread_is;
   partitions = begins.new.stock.partitions_are;
+  version = begins.new.stock.version_is;
   going = begins.new.going;
   stake =
       subst (λ (v : View). 0 < stake_of v w.stock.thread) (sym begins.new.stock.view)
@@ -105,6 +107,7 @@ module _ (t : Trace) (i : ℕ) (low : i < length t.lines) where
     place_mine queue w within at = record {
       thread = at.thread;
       partitions = at.partitions;
+      version = at.version;
       going = at.going;
       stake = at.stake;
       settled = at.settled;
@@ -130,6 +133,7 @@ module _ (t : Trace) (i : ℕ) (low : i < length t.lines) where
     place_other k queue w ne at = record {
       thread = at.thread;
       partitions = at.partitions;
+      version = at.version;
       going = at.going;
       stake = at.stake;
       settled = at.settled;
@@ -158,6 +162,7 @@ module _ (t : Trace) (i : ℕ) (low : i < length t.lines) where
       record {
         thread = thread ∙ at.thread;
         partitions = many ∙ at.partitions;
+        version = ap (λ (by : Rules). by.version) (keeps_rules w ended xs all) ∙ at.version;
         going = played.going;
         stake = subst (λ n. 0 < stake_of v n) (sym (thread ∙ at.thread)) has;
         settled = settled;

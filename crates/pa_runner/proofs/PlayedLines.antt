@@ -12,7 +12,7 @@ use Rattle.std.specs.declared.result.Result.{Result}
 use Rattle.std.specs.declared.result.Result.TheVariants.{Ok, Err}
 use Rattle.std.specs.List.{AllByRecursion}
 use Rattle.pa_trace.specs.Limits.{IsOpWithin}
-use Rattle.pa_trace.specs.Rules.{first_rules}
+use Rattle.pa_trace.specs.declared.script.Rules.{Rules}
 use Rattle.pa_record.specs.declared.entry.Answer.{Answer}
 use Rattle.pa_record.specs.declared.entry.Entry.{Entry}
 use Rattle.pa_lists.proofs.Members.{in_cases, not_in_none}
@@ -26,7 +26,7 @@ use Rattle.pa_op_specs.specs.Plays.{PlaysOp, PlaysAll}
 use Rattle.pa_op_specs.specs.Settling.{SettlingEndsPhase, last_lengthened, settled_worker}
 use Rattle.pa_thread_state.specs.Stopping.{KeepsItsStake}
 use Rattle.pa_op_specs.proofs.Following.{composes}
-use Rattle.pa_execution.proofs.Playing.{stays}
+use Rattle.pa_execution.proofs.Playing.{stays, keeps_rules}
 use Rattle.pa_runner.specs.declared.thread_lines.LineOp.{LineOp}
 use Rattle.pa_runner.specs.Playing.{in_phase, AreBefore, EndsWith, CanPlay, PlaysLines, IsPlayed}
 use Rattle.pa_runner.specs.Stopped.{StopsOp}
@@ -69,7 +69,7 @@ plays_then xs ys u v w first second = record {
       let joined : map op_line_of (played_in (a ++ b)) ≡ map op_line_of (played_in a) ++ map op_line_of (played_in b) =
       ap (map op_line_of) (map-append (λ (x : ToldRecord). x.played) a b) ∙ map-append op_line_of (played_in a) (played_in b) in
       let same : map (in_phase (rules_at v.stock) phase v.stock.thread) ys ≡ map (in_phase (rules_at u.stock) phase u.stock.thread) ys =
-      ap (λ n. map (in_phase (first_rules n) phase v.stock.thread) ys) many ∙ ap (λ k. map (in_phase (rules_at u.stock) phase k) ys) thread in (
+      ap (λ (by : Rules). map (in_phase by phase v.stock.thread) ys) (keeps_rules u v a played) ∙ ap (λ k. map (in_phase (rules_at u.stock) phase k) ys) thread in (
         a ++ b,
         composes u v w a b played more,
         joined ∙ (ap (λ os. os ++ map op_line_of (played_in b)) lines

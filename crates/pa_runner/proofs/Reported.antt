@@ -26,7 +26,8 @@ use Rattle.pa_runner.specs.Reporting.{IsCountedBy, AreCountedBy, IsBalance, IsLi
 
 -- ---- what went in minus what went out
 
-pub left_by : (into out : Count → ℕ) (i j p threads : ℕ) (workers : ℕ → WorkerValue) (seat : View) (a b bytes : ℕ) (t : Tally) → IsCountedBy into p threads workers a → IsCountedBy out p threads workers b →
+pub left_by : (into out : Count → ℕ) (i j p threads : ℕ) (workers : ℕ → WorkerValue) (seat : View) (a b bytes : ℕ) (t : Tally)
+    → IsCountedBy into p threads workers a → IsCountedBy out p threads workers b →
     bytes ≡ added_in seat (4 * p + i) - added_in seat (4 * p + j) → t ≡ record { slots = a - b; bytes = bytes } → IsLeftOf into out i j p threads workers seat t
 left_by into out i j p threads workers seat a b bytes t of_a of_b of_bytes left =
     let s = ap (λ (q : Tally). q.slots) left in
@@ -138,7 +139,8 @@ report_asked phase p r threads workers first seat next before now so aware every
       right = λ x has. line_still phase threads workers seat next x same added (so.right x has);
     }
 
-pub report_more : (phase p r threads : ℕ) (workers : ℕ → WorkerValue) (first seat next : View) (before now after : List ReportLine) (l : ReportLine) → IsReported phase p threads workers first seat before now →
+pub report_more : (phase p r threads : ℕ) (workers : ℕ → WorkerValue) (first seat next : View) (before now after : List ReportLine)
+    (l : ReportLine) → IsReported phase p threads workers first seat before now →
     IsAware first → HasEveryStake first → Lends r [] seat next → (HasEveryStake seat → HasSameLists seat next) → IsLineFor phase threads workers next l → l.partition ≡ p →
     after ≡ now ++ l ∷ [] →
     IsReported phase (p + 1) threads workers first next before after

@@ -33,6 +33,7 @@ RiseTo n (due ∷ rest) last = (n ≤ due.line) × RiseTo (due.line + 1) rest la
 pub record IsAtPlace (t : Trace) (i k : ℕ) (queue : List LineOp) (w : WorkerValue) : Type 0 where
   pub thread : w.stock.thread ≡ k
   pub partitions : w.stock.partitions ≡ t.partitions
+  pub version : w.stock.caches.version ≡ t.version
   pub going : w.stopped ≡ false
   pub stake : HasItsStake w.stock
   pub settled : w.owed ≡ none_owed

@@ -42,18 +42,19 @@ pub fn open_workers<N: Name>(
     let mut workers = Vec::new(alloc);
     for k in 0..trace.threads {
         let lines = counts[k as usize];
-        workers.push(open_worker(alloc, heap, seat, k, trace.partitions, lines)?)?;
+        workers.push(open_worker(alloc, heap, seat, k, trace.partitions, trace.version, lines)?)?;
     }
     Ok(workers)
 }
 
-// The worker of one thread gets its stake, and this many counted steps.
+// The worker of one thread, in a run of this version, gets its stake, and this many counted steps.
 fn open_worker<N: Name>(
     alloc: Global,
     heap: &Heap<N>,
     seat: &mut Seat,
     thread: u32,
     partitions: u32,
+    version: u32,
     lines: u32,
 ) -> Result<Worker<N>, OutOfMemory>
     requires region { seat.old.region ≡ N.region }
@@ -64,8 +65,8 @@ fn open_worker<N: Name>(
     requires budget { lines ≤ seat.old.view.budget }
     ensures region { seat.new.region ≡ N.region }
     ensures left { seat.new.view ≡ left_after (parcel_of [] lines (Stake thread ∷ [])) seat.old.view }
-    ensures new { IfOk result (IsNewFor thread partitions lines) }
+    ensures new { IfOk result (IsNewFor thread partitions version lines) }
 {
     let note = heap.region().hand(seat, &[], lines, &[Mark::Stake(thread)]);
-    Worker::open(alloc, note, thread, partitions, lines)
+    Worker::open(alloc, note, thread, partitions, version, lines)
 }

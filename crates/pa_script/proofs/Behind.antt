@@ -7,6 +7,7 @@ use Rattle.pa_trace.specs.declared.fault.TraceFault.{TraceFault}
 use Rattle.pa_trace.specs.declared.fault.TraceFault.TheVariants.{BadLine, Limit, OutOfMemory}
 use Rattle.pa_trace.specs.declared.field.LineFault.{LineFault}
 use Rattle.pa_trace.specs.declared.field.LineFault.TheVariants.{Outside, Past}
+use Rattle.pa_trace.specs.Rules.{first_head}
 use Rattle.pa_trace.specs.Limits.{IsHeadWithin}
 use Rattle.pa_trace.specs.Faults.{lines_of}
 use Rattle.pa_trace.specs.Cut.{IsOneLine, told}
@@ -132,7 +133,7 @@ head_unread bytes line after d one e short unread = first_is_fault (told 1 d) by
 
 pub head_later : (region partitions threads behind : ℕ) (bytes line after : List ℕ) (e : TraceFault) → IsOneLine line → bytes ≡ line ++ 10 ∷ after
     → length line + 1 ≤ 4194304
-    → IsScriptHeadText region partitions threads line → IsHeadWithin region partitions threads → behind ≡ length line + 1
+    → IsScriptHeadText region partitions threads line → IsHeadWithin (first_head region partitions threads) → behind ≡ length line + 1
     → IsFirstScriptBehind partitions threads 2 behind (lines_of after) e → IsFirstScriptFault e bytes
 head_later region partitions threads behind bytes line after e one parts short text within far h =
     let place : behind ≡ length (line ++ 10 ∷ []) = omega (arith, far, length_push line 10) in

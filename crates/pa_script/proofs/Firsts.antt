@@ -3,6 +3,7 @@ use Rattle.std.proofs.Common.{◌≡◌, ◌∙◌, ℕ, ◌+◌, ◌≤◌, Lis
 use Rattle.std.specs.List.{AllByRecursion}
 use Rattle.std.proofs.lemmas.List.{length_push, length-append}
 use Rattle.pa_trace.specs.declared.fault.TraceFault.{TraceFault}
+use Rattle.pa_trace.specs.Rules.{first_head}
 use Rattle.pa_trace.specs.Limits.{IsHeadWithin}
 use Rattle.pa_trace.specs.Faults.{lines_of, IsFaultOf}
 use Rattle.pa_trace.proofs.Cuts.{no_lines}
@@ -35,9 +36,9 @@ not_over : (partitions threads : ℕ) (l : ScriptLine) (line : List ℕ) → IsS
 not_over partitions threads l line h within over =
     over.2 (subst (λ (x : ScriptLine). IsScriptLineWithin partitions threads x) (one_body l over.0 line h over.1) within)
 
-head_not_over : (r p t : ℕ) (line : List ℕ) → IsScriptHeadLine r p t line → IsHeadWithin r p t → IsScriptHeadOverLimit line → ⊥
+head_not_over : (r p t : ℕ) (line : List ℕ) → IsScriptHeadLine r p t line → IsHeadWithin (first_head r p t) → IsScriptHeadOverLimit line → ⊥
 head_not_over r p t line h within over =
-    over.4 (subst (λ (x : ℕ × ℕ × ℕ). IsHeadWithin x.0 x.1 x.2) (one_head r p t over.0 over.1 over.2 line h over.3) within)
+    over.4 (subst (λ (x : ℕ × ℕ × ℕ). IsHeadWithin (first_head x.0 x.1 x.2)) (one_head r p t over.0 over.1 over.2 line h over.3) within)
 
 -- ---- two first faults are the same
 
@@ -57,7 +58,7 @@ module _ (partitions threads : ℕ) where
   one_behind (line ∷ lines) n before d e (inr g) (inl k) = absurd (sound_line n before line g.0 e g.1 g.2 g.3 k)
   one_behind (line ∷ lines) n before d e (inr g) (inr f) = one_behind lines (n + 1) (before + length line) d e g.4 f.4
 
-sound_head : (line : List ℕ) (r p t : ℕ) (e : TraceFault) → IsScriptHeadLine r p t line → IsHeadWithin r p t → (IsPastScript 1 0 line → ⊥)
+sound_head : (line : List ℕ) (r p t : ℕ) (e : TraceFault) → IsScriptHeadLine r p t line → IsHeadWithin (first_head r p t) → (IsPastScript 1 0 line → ⊥)
     → IsFaultOf 1 (IsPastScript 1 0 line) (IsBadScriptHead line) (IsScriptHeadOverLimit line) e → ⊥
 sound_head line r p t e head within few h =
     no_fault 1 (IsPastScript 1 0 line) (IsBadScriptHead line) (IsScriptHeadOverLimit line) e few (λ bad. bad r p t head) (head_not_over r p t line head within) h
@@ -97,7 +98,7 @@ none_behind partitions threads (l ∷ ls) n before bytes e text within few short
     none_here partitions threads n before l line (lines_of text.1) e text.2 within.0 (omega arith) (omega (arith, taken))
     (none_behind partitions threads ls (n + 1) (before + length (line ++ 10 ∷ [])) text.1 e text.3 within.1 (omega arith) (omega (arith, taken, length_push line 10))) here
 
-none_of : (r p t : ℕ) (line : List ℕ) (lines : List (List ℕ)) (e : TraceFault) → IsScriptHeadText r p t line → IsHeadWithin r p t → length line + 1 ≤ 4194304
+none_of : (r p t : ℕ) (line : List ℕ) (lines : List (List ℕ)) (e : TraceFault) → IsScriptHeadText r p t line → IsHeadWithin (first_head r p t) → length line + 1 ≤ 4194304
     → (IsFirstScriptBehind p t 2 (length (line ++ 10 ∷ [])) lines e → ⊥) → IsFirstScriptOf ((line ++ 10 ∷ []) ∷ lines) e → ⊥
 none_of r p t line lines e text within short rest (inl h) =
     sound_head (line ++ 10 ∷ []) r p t e (line, text, refl) within (not_past 1 0 line (omega arith) (omega arith)) h

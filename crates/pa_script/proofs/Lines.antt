@@ -11,7 +11,8 @@ use Rattle.pa_trace.specs.declared.script.Op.TheVariants.{Alloc, Copy, Reset, Fr
 use Rattle.pa_trace.specs.Limits.{IsHeadWithin}
 use Rattle.pa_trace.specs.Reading.{◌>>=◌, below, within, line_in}
 use Rattle.pa_trace.proofs.Fields.{bind_ok, three_at, three_takes, three_again, three_handed, three_is}
-use Rattle.pa_trace.proofs.Limits.{tested, below_fit, within_fit, head_ok, checked_head, head_with, head_cases, head_within, within_head}
+use Rattle.pa_trace.specs.Rules.{first_head}
+use Rattle.pa_trace.proofs.Limits.{tested, below_fit, within_fit, head_ok, checked_head, head_cases, head_within, within_head}
 use Rattle.pa_trace.proofs.Limits.{let_through, kept_out, IsNotRead, line_read, line_not_read}
 use Rattle.pa_trace.proofs.Shapes.{three_shape, shape_of}
 use Rattle.pa_script.specs.declared.script.ScriptLine.{ScriptLine}
@@ -195,33 +196,39 @@ module _ (partitions threads : ℕ) (few : partitions ≤ 4294967296) (few_threa
 abbrev head_at : List ℕ → Result (ℕ × ℕ × ℕ) LineFault
 head_at bytes = three_at bytes (codes "script 1 region ") (codes " partitions ") (codes " threads ")
 
-head_is : (bytes : List ℕ) → script_head_in bytes ≡ (head_at bytes >>= checked_head)
+-- a head of version 1, if its numbers are within the limits
+abbrev checked_first : ℕ × ℕ × ℕ → Result Head LineFault
+checked_first x = checked_head (first_head x.0 x.1 x.2)
+
+head_is : (bytes : List ℕ) → script_head_in bytes ≡ (head_at bytes >>= checked_first)
 unfolding script_head_in
-head_is bytes = rw three_is (head_cases (head_at bytes))
+head_is bytes = rw three_is (head_cases 1 (head_at bytes))
 
 pub script_head_read : (bytes : List ℕ) (h : Head) → script_head_in bytes ≡ Ok h
-    → IsScriptHeadText h.region h.partitions h.threads bytes × IsHeadWithin h.region h.partitions h.threads
+    → IsScriptHeadText h.region h.partitions h.threads bytes × IsHeadWithin h × (h.version ≡ 1)
 script_head_read bytes h e =
-    let b = bind_ok (head_at bytes) checked_head h (sym (head_is bytes) ∙ e) in
-    let t = let_through (head_ok b.0) (head_with b.0.0 b.0.1 b.0.2) h b.2 in
-    subst (λ (h : Head). IsScriptHeadText h.region h.partitions h.threads bytes × IsHeadWithin h.region h.partitions h.threads) t.1
-    (three_takes bytes (codes "script 1 region ") (codes " partitions ") (codes " threads ") b.0 b.1, head_within b.0.0 b.0.1 b.0.2 t.0)
+    let b = bind_ok (head_at bytes) checked_first h (sym (head_is bytes) ∙ e) in
+    let first : Head = first_head b.0.0 b.0.1 b.0.2 in
+    let t = let_through (head_ok first) first h b.2 in
+    subst (λ (h : Head). IsScriptHeadText h.region h.partitions h.threads bytes × IsHeadWithin h × (h.version ≡ 1)) t.1
+    (three_takes bytes (codes "script 1 region ") (codes " partitions ") (codes " threads ") b.0 b.1, head_within first t.0, refl)
 
 -- what a head that was not read is
 abbrev pub IsScriptHeadNotRead : LineFault → List ℕ → Type 0
 IsScriptHeadNotRead Outside bytes = (region partitions threads : ℕ) → IsScriptHeadText region partitions threads bytes → ⊥
-IsScriptHeadNotRead Past bytes = (region partitions threads : ℕ) × IsScriptHeadText region partitions threads bytes × (IsHeadWithin region partitions threads → ⊥)
+IsScriptHeadNotRead Past bytes = (region partitions threads : ℕ) × IsScriptHeadText region partitions threads bytes × (IsHeadWithin (first_head region partitions threads) → ⊥)
 
 head_again : (region partitions threads : ℕ) (text : List ℕ) → IsScriptHeadText region partitions threads text → head_at text ≡ Ok (region, partitions, threads)
 head_again region partitions threads text h =
     ap head_at h.6 ∙ three_again (codes "script 1 region ") (codes " partitions ") (codes " threads ") region partitions threads h.0 h.1 h.2 (λ x. refl) (λ x. refl) h.3 h.4 h.5
 
-head_refused : (bytes : List ℕ) (r : Result (ℕ × ℕ × ℕ) LineFault) (d : LineFault) → head_at bytes ≡ r → (r >>= checked_head) ≡ Err d
+head_refused : (bytes : List ℕ) (r : Result (ℕ × ℕ × ℕ) LineFault) (d : LineFault) → head_at bytes ≡ r → (r >>= checked_first) ≡ Err d
     → IsScriptHeadNotRead d bytes
 head_refused bytes (Ok x) d same e =
-    let t = kept_out (head_ok x) (head_with x.0 x.1 x.2) d e in
+    let first : Head = first_head x.0 x.1 x.2 in
+    let t = kept_out (head_ok first) first d e in
     let takes = three_takes bytes (codes "script 1 region ") (codes " partitions ") (codes " threads ") x same in
-    let past : IsScriptHeadNotRead Past bytes = (x.0, x.1, x.2, takes, λ h. both_ways (head_ok x) t.0 (within_head x.0 x.1 x.2 h)) in
+    let past : IsScriptHeadNotRead Past bytes = (x.0, x.1, x.2, takes, λ h. both_ways (head_ok first) t.0 (within_head first h)) in
     subst (λ (k : LineFault). IsScriptHeadNotRead k bytes) (sym t.1) past
 head_refused bytes (Err f) d same e =
     let out : IsScriptHeadNotRead Outside bytes =

@@ -15,6 +15,7 @@ use Rattle.pa_script.specs.Faults.{IsScriptFault}
 use Rattle.pa_script.specs.Reading.{script_head_in, script_line_in}
 use Rattle.pa_script.specs.Unread.{script_with, IsScriptReadUpTo, IsScriptLineRead, IsScriptEndRead, IsScriptFaultRead}
 use Rattle.pa_script.proofs.Lines.{script_head_read, script_head_not_read, script_line_read, script_line_not_read}
+use Rattle.pa_trace.proofs.Versions.{first_within as first_head_within}
 use Rattle.pa_script.proofs.Behind.{first_past, first_unread, first_later, first_end, first_is_fault, head_unread, head_later, over_room, in_room, under_room}
 
 -- line n, of `len` bytes when `left` may still come, is one line or one byte too many
@@ -29,8 +30,10 @@ module _ (bytes first rest : List ℕ) (one : IsOneLine first) (parts : bytes �
   head_begins head is =
       let room = under_room 1 4194304 (length first + 1) fits in
       let read = script_head_read first head is in
+      let first_within = first_head_within head read.2 read.1 in
       let taken : length bytes ≡ length first + (length rest + 1) = ap length parts ∙ simp length-append (omega arith) in
       record {
+        version = read.2;
         head = read.1;
         lines = tt;
         few = omega arith;
@@ -38,7 +41,7 @@ module _ (bytes first rest : List ℕ) (one : IsOneLine first) (parts : bytes �
         room = omega arith;
         taken = omega (arith, taken, room.1);
         text = λ more h. (first, rest, read.0, h, parts);
-        fault = λ e h. head_later head.region head.partitions head.threads (4194304 - (4194304 - (length first + 1))) bytes first rest e one parts room.1 read.0 read.1 (omega (arith, room.1)) h;
+        fault = λ e h. head_later head.region head.partitions head.threads (4194304 - (4194304 - (length first + 1))) bytes first rest e one parts room.1 read.0 first_within (omega (arith, room.1)) h;
       }
 
   pub head_faulty : (d : LineFault) → script_head_in first ≡ Err d → IsScriptFault (told 1 d) bytes
@@ -83,6 +86,7 @@ module _ (u : Unread) (line after : List ℕ) (one : IsOneLine line) (parts : u.
           let so_far = h.taken in
           let read = script_line_read partitions threads (omega (arith, head.1.1)) (omega (arith, head.2.1)) line l is in
           record {
+            version = h.version;
             head = head;
             lines = all_more (IsScriptLineWithin partitions threads) ls l h.lines read.1;
             few = omega (arith, length_push ls l, number, room.0);
@@ -106,7 +110,7 @@ end_reached u none = record {
   read = λ bytes ls h.
       let so_far = h.taken in
       record {
-        limits = record { head = h.head; lines = h.lines; few = h.few };
+        limits = record { head = first_head_within u.head h.version h.head; lines = h.lines; few = h.few };
         text = subst (λ z. IsScriptText (script_with u.head z) bytes) (append-nil ls) (h.text [] none);
         short = omega (arith, so_far, ap length none);
       };

@@ -3,6 +3,7 @@ use Rattle.std.specs.Prelude.{◌≡◌, ℕ, ◌+◌, ◌<◌, ◌⊎◌, List,
 use Rattle.pa_trace.specs.declared.fault.TraceFault.{TraceFault}
 use Rattle.pa_trace.specs.declared.fault.TraceFault.TheVariants.{BadLine, Limit, OutOfMemory}
 use Rattle.pa_trace.specs.Faults.{lines_of, IsFaultOf}
+use Rattle.pa_trace.specs.Rules.{first_head}
 use Rattle.pa_trace.specs.Limits.{IsHeadWithin, most_bytes}
 use Rattle.pa_script.specs.declared.script.ScriptLine.{ScriptLine}
 use Rattle.pa_script.specs.Grammar.{IsScriptHeadText, IsScriptLineText}
@@ -32,7 +33,8 @@ IsBadScriptLine line = (l : ScriptLine) → IsScriptBodyLine l line → ⊥
 -- as a head, the line is in the grammar and a number passes its limit
 abbrev pub IsScriptHeadOverLimit : List ℕ → Type 0
 IsScriptHeadOverLimit line =
-    (region partitions threads : ℕ) × IsScriptHeadLine region partitions threads line × (IsHeadWithin region partitions threads → ⊥)
+    (region partitions threads : ℕ) × IsScriptHeadLine region partitions threads line
+    × (IsHeadWithin (first_head region partitions threads) → ⊥)
 
 -- as a line after a head, the line is in the grammar and a number passes its limit
 abbrev pub IsScriptLineOverLimit : ℕ → ℕ → List ℕ → Type 0
@@ -53,8 +55,9 @@ abbrev pub IsFirstScriptOf : List (List ℕ) → TraceFault → Type 0
 IsFirstScriptOf [] e = e ≡ BadLine 1
 IsFirstScriptOf (line ∷ lines) e =
     IsFaultOf 1 (IsPastScript 1 0 line) (IsBadScriptHead line) (IsScriptHeadOverLimit line) e
-    ⊎ ((region partitions threads : ℕ) × IsScriptHeadLine region partitions threads line × IsHeadWithin region partitions threads
-    × (IsPastScript 1 0 line → ⊥) × IsFirstScriptBehind partitions threads 2 (length line) lines e)
+    ⊎ ((region partitions threads : ℕ) × IsScriptHeadLine region partitions threads line
+    × IsHeadWithin (first_head region partitions threads) × (IsPastScript 1 0 line → ⊥)
+    × IsFirstScriptBehind partitions threads 2 (length line) lines e)
 
 -- the first faulty line of a text, and its fault
 abbrev pub IsFirstScriptFault : TraceFault → List ℕ → Type 0

@@ -1,4 +1,4 @@
--- The text of a script: that of a trace, with one op more and another first word. Numbers are of any length here.
+-- The text of a script: that of a trace of version 1, with one op more and another first word. Numbers are of any length here.
 use Rattle.std.specs.Prelude.{◌≡◌, ℕ, List, [], ◌∷◌, ◌++◌, codes}
 use Rattle.pa_text.specs.Numeral.{IsNumeral}
 use Rattle.pa_trace.specs.Grammar.{IsLineText}

@@ -1,10 +1,11 @@
--- The limits of a script: those of a trace, with fewer lines, registers and cells.
+-- The limits of a script: those of a trace of version 1, with fewer lines, registers and cells.
 use Rattle.std.specs.Prelude.{ℕ, ◌<◌, ◌≤◌, List, length}
 use Rattle.std.specs.List.{AllByRecursion}
 use Rattle.pa_trace.specs.declared.script.Line.{Line}
 use Rattle.pa_trace.specs.declared.script.Line.TheVariants.{Phase, Do}
 use Rattle.pa_trace.specs.declared.script.Op.{Op}
 use Rattle.pa_trace.specs.declared.script.Op.TheVariants.{Alloc, Copy, Reset, Free, Write, Read, Swap, Purge}
+use Rattle.pa_trace.specs.Rules.{first_head}
 use Rattle.pa_trace.specs.Limits.{IsHeadWithin, IsLineWithin, most_bytes}
 use Rattle.pa_script.specs.declared.script.Script.{Script}
 use Rattle.pa_script.specs.declared.script.ScriptLine.{ScriptLine}
@@ -42,7 +43,7 @@ IsScriptLineWithin partitions threads (Resize thread reg size) = (thread < threa
 
 -- a script within the limits: at most 10,000 lines, the head included
 pub record IsScriptWithin (s : Script) : Type 0 where
-  pub head : IsHeadWithin s.region s.partitions s.threads
+  pub head : IsHeadWithin (first_head s.region s.partitions s.threads)
   pub lines : AllByRecursion (IsScriptLineWithin s.partitions s.threads) s.lines
   pub few : length s.lines < most_script_lines
 

@@ -16,9 +16,10 @@ use Rattle.pa_script.specs.Faults.{IsFirstScriptBehind, IsFirstScriptFault, IsSc
 abbrev pub script_with : Head → List ScriptLine → Script
 script_with head ls = record { region = head.region; partitions = head.partitions; threads = head.threads; lines = ls }
 
--- Of these bytes the head and these lines are read, all within the limits, and this is unread.
+-- Of these bytes the head, which is of version 1, and these lines are read, all within the limits, and this is unread.
 pub record IsScriptReadUpTo (bytes : List ℕ) (ls : List ScriptLine) (u : Unread) : Type 0 where
-  pub head : IsHeadWithin u.head.region u.head.partitions u.head.threads
+  pub version : u.head.version ≡ 1
+  pub head : IsHeadWithin u.head
   pub lines : AllByRecursion (IsScriptLineWithin u.head.partitions u.head.threads) ls
   pub few : length ls < most_script_lines
   pub number : u.number ≡ length ls + 2

@@ -9,7 +9,7 @@ use pa_trace::{Head, Line, LineFault, Op, below, head_of, line_in, three_numbers
 /// How many registers a script may name, and how many cells: 0 to 62.
 pub const NAMED: u32 = 63;
 
-// The head, which is the whole line.
+// The head, which is the whole line: it is of version 1.
 #[tactic(auto, unfolding(crate::specs::Reading::script_head_in))]
 pub(crate) fn script_head_in(bytes: &[u8]) -> Result<Head, LineFault>
     ensures { result ≡ script_head_in bytes.now }
@@ -20,7 +20,7 @@ pub(crate) fn script_head_in(bytes: &[u8]) -> Result<Head, LineFault>
         b" partitions ",
         b" threads ",
     )?;
-    head_of(region, partitions, threads)
+    head_of(1, region, partitions, threads)
 }
 
 // A line after the head, without its LF.

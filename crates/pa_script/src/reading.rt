@@ -27,6 +27,7 @@ pub fn read_script(alloc: Global, bytes: &[u8]) -> Result<Script, TraceFault>
         region,
         partitions,
         threads,
+        ..
     } = reader.head();
     Ok(Script {
         region,

@@ -27,7 +27,7 @@ Enabled Reset c h = 1 ≤ c
 Enabled Free c h = h ≡ 1
 Enabled Write c h = (h ≡ 1) × (c ≡ 0)
 
--- the greatest count with which a step may be made: only a copy makes it grow
+-- what a step asks of the count so that it stays in its bits: a copy, that it is below 8,388,607; the others, nothing
 abbrev pub HasRoom : Step → ℕ → Type 0
 HasRoom Issue c = Unit {0}
 HasRoom Copy c = c < 8388607

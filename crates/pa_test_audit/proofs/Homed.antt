@@ -14,11 +14,13 @@ use Rattle.pa_audit_holders.specs.declared.homes.Home.{Home}
 use Rattle.pa_audit_holders.specs.Homes.{AreHomedIn, HasOneHome, home_by}
 use Rattle.pa_test_audit.specs.Sparse.{IsSparse, AreSparseIn}
 
-class_home : (roots : Journals) (at : ℕ → Option Home) (s : SlotName) (p c : ℕ) → ((q : ℕ) → AreHomedIn roots at q) → IsOfClass roots s p c → (len : ℕ) × (at (name_key s) ≡ Some (record { partition = p; class = Some c; bytes = len }))
+class_home : (roots : Journals) (at : ℕ → Option Home) (s : SlotName) (p c : ℕ) → ((q : ℕ) → AreHomedIn roots at q)
+    → IsOfClass roots s p c → (len : ℕ) × (at (name_key s) ≡ Some (record { partition = p; class = Some c; bytes = len }))
 class_home roots at s p c h (e, asked, slots, (i, within, is), act, member) =
     (slot_of c, h p i e s (slice_get-get_or (roots p) i e within ∙ ap Some is) (subst (λ (a : RootAct). Contains (leaves_by a) s) (sym act) member) ∙ ap (λ (a : RootAct). Some (home_by p a)) act)
 
-map_home : (roots : Journals) (at : ℕ → Option Home) (s : SlotName) (p : ℕ) → ((q : ℕ) → AreHomedIn roots at q) → IsDirect roots s p → (len : ℕ) × (at (name_key s) ≡ Some (record { partition = p; class = None; bytes = len }))
+map_home : (roots : Journals) (at : ℕ → Option Home) (s : SlotName) (p : ℕ) → ((q : ℕ) → AreHomedIn roots at q) → IsDirect roots s p
+    → (len : ℕ) × (at (name_key s) ≡ Some (record { partition = p; class = None; bytes = len }))
 map_home roots at s p h (e, asked, len, (i, within, is), act) =
     (len, h p i e s (slice_get-get_or (roots p) i e within ∙ ap Some is) (subst (λ (a : RootAct). Contains (leaves_by a) s) (sym act) (first_in s [])) ∙ ap (λ (a : RootAct). Some (home_by p a)) act)
 
@@ -31,14 +33,14 @@ sparse_class roots s p c h (e, asked, slots, (i, within, is), act, member) =
 same_home : (at : ℕ → Option Home) (k : ℕ) (a b : Home) → at k ≡ Some a → at k ≡ Some b → (a.partition ≡ b.partition) × (a.class ≡ b.class)
 same_home at k a b x y = let same = of_some a b (sym x ∙ y) in (ap (λ (z : Home). z.partition) same, ap (λ (z : Home). z.class) same)
 
-pub one_home_of : (roots : Journals) (at : ℕ → Option Home) (s : SlotName) → ((q : ℕ) → AreHomedIn roots at q) → ((q : ℕ) → AreSparseIn roots q) → HasOneHome roots s
+pub one_home_of : (roots : Journals) (at : ℕ → Option Home) (s : SlotName) → ((q : ℕ) → AreHomedIn roots at q) → ((q : ℕ) → AreSparseIn roots q) → HasOneHome 1 roots s
 one_home_of roots at s h sparse = record {
   class = λ p q c d x y.
       let (len, a) = class_home roots at s p c h x in
       let (size, b) = class_home roots at s q d h y in
       let (part, class) = same_home at (name_key s) (record { partition = p; class = Some c; bytes = len }) (record { partition = q; class = Some d; bytes = size }) a b in
       (part, of_some c d class);
-  real = λ p c x. sparse_class roots s p c (sparse p) x;
+  real = λ p c x. (omega arith, sparse_class roots s p c (sparse p) x);
   direct = λ p q x y.
       let (len, a) = map_home roots at s p h x in
       let (size, b) = map_home roots at s q h y in

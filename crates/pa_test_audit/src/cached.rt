@@ -36,7 +36,7 @@ fn found_in(
         return Ok(None);
     }
     let ends = record_ends(alloc, records, phases)?;
-    let books = Books::of(alloc, 2, records, roots, &homes)?;
+    let books = Books::of(alloc, RULES.version, 2, records, roots, &homes)?;
     let found = caches_meet(alloc, &books, 2, ends.as_slice())?;
     Ok(Some(found))
 }

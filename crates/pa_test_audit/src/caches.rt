@@ -43,7 +43,7 @@ fn first_of(
     if !are_homed(&homes, roots) {
         return Ok(First::Unfit);
     }
-    let books = Books::of(alloc, 1, records, roots, &homes)?;
+    let books = Books::of(alloc, RULES.version, 1, records, roots, &homes)?;
     let found = caches_meet(alloc, &books, 16, &[])?;
     match found.misfit {
         Some(at) => Ok(First::Record(at)),
@@ -53,7 +53,7 @@ fn first_of(
 
 // Whether the records are of 16 threads, four partitions and version 1.
 pub(crate) fn are_within(records: &[Played]) -> bool
-    ensures { IsTrue result → All IsOfThreads records.now }
+    ensures { IsTrue result → All (IsOfThreads 1) records.now }
 {
     for found in records {
         if !is_within(*found) {
@@ -64,7 +64,7 @@ pub(crate) fn are_within(records: &[Played]) -> bool
 }
 
 fn is_within(found: Played) -> bool
-    ensures { IsTrue result → IsOfThreads found }
+    ensures { IsTrue result → IsOfThreads 1 found }
 {
     match found.op {
         Op::Alloc { partition, .. } => {
@@ -189,7 +189,7 @@ fn is_journal_sparse(roots: &[DenseJournal], partition: u32, journal: &DenseJour
 // Whether each slot of the journals has one home, of version 1 if it has a class.
 pub(crate) fn are_homed(homes: &ByKey<Home>, roots: &[DenseJournal]) -> bool
     requires { length roots.now < 4294967296 }
-    ensures { IsTrue result → (s : Name) → HasOneHome (journal_at roots.now) s }
+    ensures { IsTrue result → (s : Name) → HasOneHome 1 (journal_at roots.now) s }
 {
     let mut partition: u32 = 0;
     for journal in roots {

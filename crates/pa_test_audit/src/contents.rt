@@ -116,7 +116,7 @@ fn contents_of(
         return Ok(Some(u32::MAX));
     }
     let salt = Salt::of(records, &[]);
-    if let Some(_at) = registers_meet(alloc, salt, records, cells)? {
+    if let Some(_at) = registers_meet(alloc, salt, RULES.version, records, cells)? {
         return Ok(Some(u32::MAX));
     }
     if let Some(_at) = slots_meet(alloc, salt, records)? {

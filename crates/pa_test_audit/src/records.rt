@@ -100,7 +100,13 @@ fn registers_of(
 {
     let records = records_of(alloc, RULES, lines, entries)?;
     if all_within(&records) {
-        registers_meet(alloc, Salt::of(&records, &[]), &records, cells)
+        registers_meet(
+            alloc,
+            Salt::of(&records, &[]),
+            RULES.version,
+            &records,
+            cells,
+        )
     } else {
         Ok(Some(u32::MAX))
     }

@@ -1,4 +1,4 @@
-use pa_trace::{Line, Op, TraceFault, read_trace, write_trace};
+use pa_trace::{Line, Op, TraceFault, read_trace, read_trace_to, write_trace};
 use std::alloc::{AllocError, Global};
 use std::test::Fail;
 
@@ -93,7 +93,7 @@ const OVER: [&str; 16] = [
 ];
 
 // Lines that are no head, or no whole line.
-const BAD_HEADS: [&str; 22] = [
+const BAD_HEADS: [&str; 26] = [
     "",
     "\n",
     "t",
@@ -110,7 +110,11 @@ const BAD_HEADS: [&str; 22] = [
     "trace 1  region 1 partitions 1 threads 1\n",
     " trace 1 region 1 partitions 1 threads 1\n",
     "trase 1 region 1 partitions 1 threads 1\n",
-    "trace 2 region 1 partitions 1 threads 1\n",
+    "trace 0 region 1 partitions 1 threads 1\n",
+    "trace 3 region 1 partitions 1 threads 1\n",
+    "trace 3 region 65 partitions 1 threads 1\n",
+    "trace 18446744073709551617 region 1 partitions 1 threads 1\n",
+    "trace 02 region 1 partitions 1 threads 1\n",
     "trace 01 region 1 partitions 1 threads 1\n",
     "trace 1 region 1 threads 1 partitions 1\n",
     "run 1\n",
@@ -119,9 +123,12 @@ const BAD_HEADS: [&str; 22] = [
 ];
 
 // Heads that pass a limit.
-const HEADS_OVER: [&str; 9] = [
+const HEADS_OVER: [&str; 12] = [
     "trace 1 region 0 partitions 1 threads 1\n",
     "trace 1 region 17 partitions 1 threads 1\n",
+    "trace 1 region 64 partitions 1 threads 1\n",
+    "trace 2 region 0 partitions 1 threads 1\n",
+    "trace 2 region 65 partitions 1 threads 1\n",
     "trace 1 region 1 partitions 0 threads 1\n",
     "trace 1 region 1 partitions 5 threads 1\n",
     "trace 1 region 1 partitions 1 threads 0\n",
@@ -187,14 +194,38 @@ fn reads_and_writes_each_line(rt: HostRuntime) -> Result<(), Fail> {
 #[test]
 fn reads_heads(rt: HostRuntime) -> Result<(), Fail> {
     for (text, head) in [
-        ("trace 1 region 1 partitions 1 threads 1\n", (1, 1, 1)),
-        ("trace 1 region 16 partitions 4 threads 16\n", (16, 4, 16)),
+        ("trace 1 region 1 partitions 1 threads 1\n", (1, 1, 1, 1)),
+        (
+            "trace 1 region 16 partitions 4 threads 16\n",
+            (1, 16, 4, 16),
+        ),
+        ("trace 2 region 17 partitions 1 threads 1\n", (2, 17, 1, 1)),
+        (
+            "trace 2 region 64 partitions 4 threads 16\n",
+            (2, 64, 4, 16),
+        ),
     ] {
         let trace = read_trace(rt.alloc(), text.as_bytes())?;
-        assert!(rt; (trace.region, trace.partitions, trace.threads) == head);
+        assert!(rt; (trace.version, trace.region, trace.partitions, trace.threads) == head);
         assert!(rt; trace.lines.as_slice().len() == 0);
         assert!(rt; write_trace(rt.alloc(), &trace)?.as_slice() == text.as_bytes());
     }
+    Ok(())
+}
+
+// Whoever knows version 1 alone finds a head of version 2 outside the grammar, also one that passes a limit.
+#[test]
+fn knows_a_version(rt: HostRuntime) -> Result<(), Fail> {
+    for text in [
+        "trace 2 region 1 partitions 1 threads 1\n",
+        "trace 2 region 65 partitions 1 threads 1\n",
+        "trace 2 region 1 partitions 1 threads 1\nx",
+    ] {
+        let fault = read_trace_to(rt.alloc(), 1, text.as_bytes()).err();
+        assert!(rt; fault == Some(TraceFault::BadLine(1)), "{text}");
+    }
+    let first = b"trace 1 region 1 partitions 1 threads 1\n0 P\n";
+    assert!(rt; read_trace_to(rt.alloc(), 1, first)?.lines.as_slice().len() == 1);
     Ok(())
 }
 

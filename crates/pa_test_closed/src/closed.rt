@@ -47,7 +47,7 @@ pub(crate) fn closed_after<R: Threads + Wait + Sync>(
     first: &[u8],
     rest: &[Lines],
 ) -> Result<Option<(u32, Closed)>, Fail>
-    ensures few { IfOk result (λ some. IfSome some (λ left. left.0 ≤ 16)) }
+    ensures few { IfOk result (λ some. IfSome some (λ left. left.0 ≤ 64)) }
     ensures long { IfOk result (λ some. IfSome some (λ left. length left.1 ≡ 262144 * left.0)) }
 {
     let text = text_of(alloc, first, rest)?;
@@ -75,7 +75,7 @@ pub(crate) const RING: &[Lines] = &[
 
 // Whether this word of this many super pages is there, and is this one.
 pub(crate) fn has_word(supers: u32, words: &Closed, at: u32, word: u64) -> bool
-    requires few { supers ≤ 16 }
+    requires few { supers ≤ 64 }
     requires long { length words.now ≡ 262144 * supers }
 {
     at % 8 == 0 && at < 2_097_152 * supers && words.word(at) == word

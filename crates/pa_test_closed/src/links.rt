@@ -265,7 +265,7 @@ fn link_to(start: u32, born: u32) -> u64 {
 
 // Whether the words of this many super pages have these slots of a list, from the least address on or from the greatest.
 fn are_chained(supers: u32, words: &Closed, slots: &Chained, falling: bool) -> bool
-    requires few { supers ≤ 16 }
+    requires few { supers ≤ 64 }
     requires long { length words.now ≡ 262144 * supers }
 {
     let (first, distance, count, born, last) = *slots;
@@ -290,7 +290,7 @@ fn are_chained(supers: u32, words: &Closed, slots: &Chained, falling: bool) -> b
 
 // Whether the words of this many super pages have the words that this row says.
 fn are_alike(supers: u32, words: &Closed, row: &Alike) -> bool
-    requires few { supers ≤ 16 }
+    requires few { supers ≤ 64 }
     requires long { length words.now ≡ 262144 * supers }
 {
     let (first, distance, count, word) = *row;
@@ -311,7 +311,7 @@ fn are_alike(supers: u32, words: &Closed, row: &Alike) -> bool
 
 // Whether the words of this many super pages have all that the case says.
 fn have_words(supers: u32, words: &Closed, case: &Case) -> bool
-    requires few { supers ≤ 16 }
+    requires few { supers ≤ 64 }
     requires long { length words.now ≡ 262144 * supers }
 {
     for slots in case.rising {

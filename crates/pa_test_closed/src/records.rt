@@ -321,7 +321,7 @@ const OLD_WORDS: Case = Case {
 
 // The four words at each of these places, in hexadecimal, and nothing of a place that isn't there.
 fn text_at(alloc: Global, supers: u32, words: &Closed, places: &[u32]) -> Result<Text, Fail>
-    requires few { supers ≤ 16 }
+    requires few { supers ≤ 64 }
     requires long { length words.now ≡ 262144 * supers }
 {
     let mut text = Text::new(alloc);

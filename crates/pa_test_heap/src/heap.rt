@@ -55,7 +55,7 @@ fn play<N: Name, R: Abort>(rt: &R, alloc: Global, region: Region, seat: Seat) ->
 {
     let (heap, mut seat) = Heap::<N>::open(alloc, 1, region, seat, 3)?;
     let note = hand_over(heap.region(), &mut seat);
-    let mut worker = Worker::<N>::open(alloc, note, 2, 1, 3)?;
+    let mut worker = Worker::<N>::open(alloc, note, 2, 1, 1, 3)?;
     assert!(rt; worker.copy(&heap, 2, 0, 63) == Answer::Nothing);
     assert!(rt; worker.write(&heap, 3, 5, 7) == Answer::Nothing);
     assert!(rt; worker.deref(&heap, 5, 63, 0) == Answer::Nothing);
@@ -116,7 +116,7 @@ fn purge_twice<N: Name, R: Abort + Wait>(
 {
     let (heap, mut seat) = Heap::<N>::open(alloc, 1, region, seat, 3)?;
     let note = hand_over(heap.region(), &mut seat);
-    let mut worker = Worker::<N>::open(alloc, note, 2, 2, 3)?;
+    let mut worker = Worker::<N>::open(alloc, note, 2, 2, 1, 3)?;
     let first = worker.purge(rt, &heap, 4)?;
     let second = worker.purge(rt, &heap, 7)?;
     assert!(rt; has_purged_nothing(&worker, [first, second]));

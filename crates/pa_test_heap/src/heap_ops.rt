@@ -90,7 +90,7 @@ fn play<N: Name, R: Abort + Wait>(
 {
     let (heap, mut seat) = Heap::<N>::open(alloc, 1, region, seat, LINES)?;
     let note = hand_over(heap.region(), &mut seat);
-    let mut worker = Worker::<N>::open(alloc, note, 0, 1, LINES)?;
+    let mut worker = Worker::<N>::open(alloc, note, 0, 1, 1, LINES)?;
     let made = worker.alloc(rt, &heap, 2, 0, 0, 8)?;
     let written = worker.write(&heap, 3, 0, 7);
     let copied = worker.copy(&heap, 4, 0, 1);
@@ -107,4 +107,51 @@ fn play<N: Name, R: Abort + Wait>(
 fn a_freed_slot_waits_for_its_last_raw_ptr(rt: HostRuntime) -> Result<(), Fail> {
     let (region, seat) = Region::new(rt.alloc(), 1, LINES)?;
     play::<Brand, _>(&rt, rt.alloc(), region, seat)
+}
+
+// A worker of version 2 makes a slot of that version's classes, frees it and purges: its list has four slots, and then none.
+fn play_dense<N: Name, R: Abort + Wait>(
+    rt: &R,
+    alloc: Global,
+    region: Region,
+    seat: Seat,
+) -> Result<(), Fail>
+    requires regions { (region ≡ N.region) × (seat.region ≡ N.region) }
+    requires first { seat.view ≡ first_view 262144 7 }
+{
+    let (heap, mut seat) = Heap::<N>::open(alloc, 1, region, seat, LINES)?;
+    let note = hand_over(heap.region(), &mut seat);
+    let mut worker = Worker::<N>::open(alloc, note, 0, 1, 2, LINES)?;
+    let made = worker.alloc(rt, &heap, 2, 0, 0, 130)?;
+    let freed = worker.free(rt, &heap, 3, 0)?;
+    let listed = worker.cached(0);
+    let purged = worker.purge(rt, &heap, 4)?;
+    assert!(rt;
+        made == Answer::Made {
+            seen: seen(0),
+            usable: 136
+        }
+    );
+    assert!(rt;
+        freed
+            == Answer::Done {
+                seen: seen(0x100_0001)
+            }
+    );
+    assert!(rt;
+        listed
+            == Tally {
+                slots: 4,
+                bytes: 576
+            }
+    );
+    assert!(rt; purged == Answer::Purged { slots: 4 });
+    assert!(rt; worker.cached(0) == Tally { slots: 0, bytes: 0 });
+    Ok(())
+}
+
+#[test]
+fn a_worker_of_version_2_has_its_classes(rt: HostRuntime) -> Result<(), Fail> {
+    let (region, seat) = Region::new(rt.alloc(), 1, LINES)?;
+    play_dense::<Brand, _>(&rt, rt.alloc(), region, seat)
 }

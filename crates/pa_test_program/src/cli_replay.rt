@@ -82,6 +82,55 @@ s 3 0 live 0 0 quarantined 0 0 cached 8 128 root 248 3968 committed 4096 reserve
 end
 ";
 
+// Traces of version 2, each with what `replay` writes: a class of eight to a doubling, the greatest class, the least direct map, and a
+// region of 64 super pages.
+const DENSE: [(&[u8], &[u8]); 4] = [
+    (
+        b"trace 2 region 1 partitions 1 threads 1
+0 A r0 p0 130
+",
+        b"run 1
+e 2 0 made 00004000.0 136 0000000000000000
+r 0 0 2 fill 67 0 00004000.0@0 00004090.0@0 00004120.0@0 000041b0.0@0
+p 0 2 0 take 1 0
+s 1 0 live 1 144 quarantined 0 0 cached 3 432 root 24 3456 committed 4096 reserved 2097152 full 0 active 1 empty 0 decommitted 0
+end
+",
+    ),
+    (
+        b"trace 2 region 1 partitions 1 threads 1
+0 A r0 p0 983032
+",
+        b"run 1
+e 2 0 made 00004000.0 983032 0000000000000000
+r 0 0 2 fill 169 0 00004000.0@0
+p 0 2 0 take 1 0
+s 1 0 live 1 983040 quarantined 0 0 cached 0 0 root 0 0 committed 983040 reserved 2097152 full 1 active 0 empty 0 decommitted 0
+end
+",
+    ),
+    (
+        b"trace 2 region 1 partitions 1 threads 1
+0 A r0 p0 983033
+",
+        b"run 1
+e 2 0 made 00004000.0 987128 0000000000000000
+r 0 0 2 map 0 00004000.0@0 987136
+p 0 2 0 take 1 0
+s 1 0 live 1 987136 quarantined 0 0 cached 0 0 root 0 0 committed 987136 reserved 2097152 full 0 active 0 empty 0 decommitted 0
+end
+",
+    ),
+    (
+        b"trace 2 region 64 partitions 1 threads 1
+",
+        b"run 1
+s 1 0 live 0 0 quarantined 0 0 cached 0 0 root 0 0 committed 0 reserved 0 full 0 active 0 empty 0 decommitted 0
+end
+",
+    ),
+];
+
 // The answers that line 8 may have: before the free, while it poisons, and after it.
 const READS: [&[u8]; 3] = [
     b"word 00004000.0 0000000002000003 0000000000000000",
@@ -111,6 +160,15 @@ fn one_thread_is_replayed_in_its_order(rt: HostRuntime) -> Result<(), Fail> {
     for piece in [1, 7, 1000] {
         let text = replayed(&rt, rt.alloc(), TRACE, piece)?;
         assert!(rt; text.as_slice() == TEXT);
+    }
+    Ok(())
+}
+
+#[test]
+fn traces_of_version_2_are_replayed(rt: HostRuntime) -> Result<(), Fail> {
+    for (trace, text) in DENSE {
+        let got = replayed(&rt, rt.alloc(), trace, 1000)?;
+        assert!(rt; got.as_slice() == text);
     }
     Ok(())
 }
@@ -147,7 +205,7 @@ fn a_read_beside_a_free_has_one_of_three_answers(rt: HostRuntime) -> Result<(), 
 #[test]
 fn what_is_refused_tells_no_run(rt: HostRuntime) -> Result<(), Fail> {
     let replay = words(rt.alloc(), &["replay"])?;
-    let faulty: [(&[u8], &[u64], Status); 5] = [
+    let faulty: [(&[u8], &[u64], Status); 7] = [
         (b"", &[], Status::BadLine(1)),
         (
             b"trace 1 region 1 partitions 1 threads 1\n0 P\n0 P",
@@ -158,6 +216,16 @@ fn what_is_refused_tells_no_run(rt: HostRuntime) -> Result<(), Fail> {
             b"trace 1 region 17 partitions 1 threads 1\n0\n",
             &[],
             Status::Limit(1),
+        ),
+        (
+            b"trace 2 region 65 partitions 1 threads 1\n",
+            &[],
+            Status::Limit(1),
+        ),
+        (
+            b"trace 3 region 1 partitions 1 threads 1 plain 0\n",
+            &[],
+            Status::BadLine(1),
         ),
         (TRACE, &[1], Status::ReadFault),
         (

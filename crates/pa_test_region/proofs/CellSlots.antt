@@ -53,7 +53,8 @@ pub copy_can : EntryLeaves → (v : View) (ns : List ℕ) (word : ℕ) → IsFre
 copy_can leaves v ns word fresh =
     let budget = fresh.budget in
     let own : own_as (issued_view v ns word) test_slot Clean ≡ 1 =
-    ap (λ (os : List OwnTitle). sum_by (λ (o : OwnTitle). one (same_title o.title test_slot && same_state o.state Clean)) (record { title = test_slot; state = Clean; idle = true } ∷ os)) fresh.owns in (
+    ap (λ (os : List OwnTitle). sum_by (λ (o : OwnTitle). one (same_title o.title test_slot && same_state o.state Clean))
+    (record { title = test_slot; state = Clean; idle = true } ∷ os)) fresh.owns in (
       omega arith,
       (issued_stake leaves v ns word fresh.stake).1,
       omega arith,
@@ -61,7 +62,8 @@ copy_can leaves v ns word fresh =
     )
 
 -- the seat that made the slot has its Own and one Ref
-pub slot_made : EntryLeaves → EnterLeaves → (v : View) (ns : List ℕ) (word found : ℕ) → IsFresh v → ns ≡ root_numbers test_entry → HasTestSlot (after_count Copy test_slot found (issued_view v ns word))
+pub slot_made : EntryLeaves → EnterLeaves → (v : View) (ns : List ℕ) (word found : ℕ) → IsFresh v → ns ≡ root_numbers test_entry
+    → HasTestSlot (after_count Copy test_slot found (issued_view v ns word))
 slot_made leaves lists v ns word found fresh is =
     let cut = after_cut test_slot v in
     let issued = issued_view v ns word in
@@ -88,7 +90,8 @@ slot_made leaves lists v ns word found fresh is =
 -- after both were handed over the seat can lend its stake
 pub both_left : GiversLackHandles → (v : View) → HasTestSlot v → CanLend (left_after (parcel_of (item.Ref test_slot ∷ []) 0 []) (left_after (parcel_of (item.Own test_slot ∷ []) 0 []) v))
 both_left lacks v has =
-    let own : 0 < own_as v test_slot Clean = (let e = ap (λ (os : List OwnTitle). sum_by (λ (o : OwnTitle). one (same_title o.title test_slot && same_state o.state Clean)) os) has.owns in omega arith) in
+    let own : 0 < own_as v test_slot Clean = (let e = ap (λ (os : List OwnTitle). sum_by
+    (λ (o : OwnTitle). one (same_title o.title test_slot && same_state o.state Clean)) os) has.owns in omega arith) in
     let clean : unclean_of v ≡ 0 = ap (λ (os : List OwnTitle). sum_by (λ (o : OwnTitle). one (is_unclean o.state)) os) has.owns in
     let first = lacks true test_slot 0 v own in
     let other : 0 < ref_of v test_slot = (let e = ap (λ (ts : List Title). sum_by (λ (t : Title). one (same_title t test_slot)) ts) has.refs in omega arith) in

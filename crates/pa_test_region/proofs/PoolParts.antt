@@ -21,7 +21,8 @@ pub begins_same : (a b : Share) → b ≡ a → IsBeginning (list_of 4 a.view) (
 begins_same a b same = ([], subst (λ (s : Share). list_of 4 s.view ≡ list_of 4 a.view ++ []) (sym same) (sym (append-nil (list_of 4 a.view))))
 
 -- the note of a take can come back at once
-pub comes_back : (partition first count index : ℕ) (seat note : View) (p : PoolValue) → HasSeenTake partition index first count seat → IsNoteOf first count index note p → ComesBack partition index first count seat note
+pub comes_back : (partition first count index : ℕ) (seat note : View) (p : PoolValue) → HasSeenTake partition index first count seat
+    → IsNoteOf first count index note p → ComesBack partition index first count seat note
 comes_back partition first count index seat note p seen is = record {
   seen = seen;
   run = record {
@@ -40,13 +41,15 @@ some_of (Ok x) o P Q R e p q f = subst (λ y. IfSome y R) (sym e) (f x p q)
 some_of (Err y) o P Q R e p q f = subst (λ z. IfSome z R) (sym e) tt
 
 -- what can come back can come back later
-pub stays_back : (partition taken first count : ℕ) (v w note : View) → IsBeginning (list_of 4 v) (list_of 4 w) → ComesBack partition taken first count v note → ComesBack partition taken first count w note
+pub stays_back : (partition taken first count : ℕ) (v w note : View) → IsBeginning (list_of 4 v) (list_of 4 w)
+    → ComesBack partition taken first count v note → ComesBack partition taken first count w note
 stays_back partition taken first count v w note begins back = record { seen = seen_stays partition taken first count v w begins back.seen; run = back.run }
 
 -- all that a pool's seat doesn't have
 abbrev pub others : List Mark
 others =
-    Stake 0 ∷ Stake 1 ∷ Stake 2 ∷ Stake 3 ∷ Stake 4 ∷ Stake 5 ∷ Stake 6 ∷ Stake 7 ∷ Stake 8 ∷ Stake 9 ∷ Stake 10 ∷ Stake 11 ∷ Stake 12 ∷ Stake 13 ∷ Stake 14 ∷ Stake 15 ∷ Keeper 0 ∷ Keeper 1 ∷ Keeper 2 ∷ Keeper 3
+    Stake 0 ∷ Stake 1 ∷ Stake 2 ∷ Stake 3 ∷ Stake 4 ∷ Stake 5 ∷ Stake 6 ∷ Stake 7 ∷ Stake 8 ∷ Stake 9 ∷ Stake 10 ∷ Stake 11 ∷ Stake 12 ∷
+    Stake 13 ∷ Stake 14 ∷ Stake 15 ∷ Keeper 0 ∷ Keeper 1 ∷ Keeper 2 ∷ Keeper 3
     ∷ Keeper 5 ∷ []
 
 -- a view that gets it can lend a stake

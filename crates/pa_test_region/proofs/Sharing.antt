@@ -33,7 +33,11 @@ use Rattle.pa_region.proofs.SeatStakes.{least_below}
 pub freed_stays : EntryLeaves → (t : Title) (word : ℕ) (v w : View) → HasStake v → w ≡ after_count Free t word (poisoned t v) → unclean_of v ≡ 0 → Stays v w
 freed_stays law t word v w has e clean =
     let a : unclean_of w ≡ sum_by (λ (o : OwnTitle). one (is_unclean o.state)) (without (is_own_of t) (changed (is_own_of t) (poisoned_to (content_count t)) v.owns)) = ap unclean_of e in
-    let b : sum_by (λ (o : OwnTitle). one (is_unclean o.state)) (without (is_own_of t) (changed (is_own_of t) (poisoned_to (content_count t)) v.owns)) ≡ sum_by (λ (o : OwnTitle). one (is_unclean o.state)) (without (is_own_of t) v.owns) = ap (λ os. sum_by (λ (o : OwnTitle). one (is_unclean o.state)) os) (without_changed t (poisoned_to (content_count t)) (λ o. refl) v.owns) in
+    let b : sum_by (λ (o : OwnTitle). one (is_unclean o.state))
+    (without (is_own_of t) (changed (is_own_of t) (poisoned_to (content_count t)) v.owns)) ≡ sum_by
+    (λ (o : OwnTitle). one (is_unclean o.state)) (without (is_own_of t) v.owns) = ap
+    (λ os. sum_by (λ (o : OwnTitle). one (is_unclean o.state)) os)
+    (without_changed t (poisoned_to (content_count t)) (λ o. refl) v.owns) in
     let c = without_less (is_own_of t) (λ (o : OwnTitle). one (is_unclean o.state)) v.owns in
     record {
       stakes = (law (Counted t Free word (value_of Free t (poisoned t v))) v w has (ap (λ (x : View). x.stakes) e)).stakes;

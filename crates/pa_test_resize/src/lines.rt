@@ -8,7 +8,7 @@ use pa_model::{Player, play};
 use pa_player::{ListOutput, Told};
 use pa_record::{Answer, Run, write_run};
 use pa_slot::OutOfMemory;
-use pa_trace::{Line, Op, Trace, read_trace};
+use pa_trace::{Head, Line, Op, Trace, read_trace};
 use pa_trace_writer::{Kept, LineList};
 use std::alloc::Global;
 use std::test::Fail;
@@ -36,7 +36,7 @@ fn driven(alloc: Global, trace: &Trace) -> Result<(Vec<Answer>, Run), OutOfMemor
     requires { IsWithinLimits trace.now }
     ensures { IfOk result (λ both. IsPrintable both.1) }
 {
-    let mut player = Player::new(alloc, trace.region, trace.partitions, trace.threads)?;
+    let mut player = Player::new(alloc, trace.head())?;
     let mut answers = Vec::new(alloc);
     for line in trace.lines.as_slice() {
         play_line(&mut player, *line, &mut answers)?;
@@ -85,7 +85,13 @@ phase
 // The slot that a register owns is known from its allocation until its free.
 #[test]
 fn knows_what_registers_own(rt: HostRuntime) -> Result<(), Fail> {
-    let mut player = Player::new(rt.alloc(), 1, 2, 1)?;
+    let head = Head {
+        version: 1,
+        region: 1,
+        partitions: 2,
+        threads: 1,
+    };
+    let mut player = Player::new(rt.alloc(), head)?;
     assert!(rt; player.own(0, 5).is_none());
     let op = Op::Alloc {
         reg: 5,

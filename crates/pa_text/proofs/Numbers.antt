@@ -35,7 +35,8 @@ pub record ReadsOn (value : ℕ) (rest : List ℕ) (first : ℕ) (bytes : List �
   pub goes_on : digits_from number rest ≡ digits_from first bytes
 
 -- one digit more
-pub reads_on : (value d first : ℕ) (rest after bytes : List ℕ) → digit_at rest ≡ Some (d, after) → d < 10 → value < 4294967296 → ReadsOn value rest first bytes → ReadsOn (10 * value + d) after first bytes
+pub reads_on : (value d first : ℕ) (rest after bytes : List ℕ) → digit_at rest ≡ Some (d, after) → d < 10 → value < 4294967296
+    → ReadsOn value rest first bytes → ReadsOn (10 * value + d) after first bytes
 reads_on value d first rest after bytes e low small read = record {
   number = 10 * read.number + d;
   stands = elim read.stands [ inl same ↦ inl (ap (λ n. 10 * n + d) same) | inr past ↦ absurd (omega arith) ];

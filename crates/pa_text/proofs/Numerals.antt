@@ -224,7 +224,8 @@ decimal_numeral n lt = decimal_by_steps (λ m ds. IsNumeral m ds) one_digit one_
 pub begins_read : (bytes : List ℕ) (n : ℕ) (rest : List ℕ) → BeginsWith bytes n rest → number_at bytes ≡ Some (n, rest)
 begins_read bytes n rest h = ap number_at h.parts ∙ number_again n h.digits rest h.numeral h.stop
 
-found_in : (bytes : List ℕ) (o : Option (ℕ × List ℕ)) (value : Option ℕ) (rest : List ℕ) → number_at bytes ≡ o → Some (value, rest) ≡ option_map fitted o → (n : ℕ) × BeginsWith bytes n rest × (value ≡ fit n)
+found_in : (bytes : List ℕ) (o : Option (ℕ × List ℕ)) (value : Option ℕ) (rest : List ℕ) → number_at bytes ≡ o
+    → Some (value, rest) ≡ option_map fitted o → (n : ℕ) × BeginsWith bytes n rest × (value ≡ fit n)
 found_in bytes None value rest same e = absurd cc
 found_in bytes (Some x) value rest same e =
     let parts = some_pair_parts value (fit x.0) rest x.1 e in
@@ -236,10 +237,14 @@ is_found bytes value rest e = found_in bytes (number_at bytes) value rest refl e
 pub is_none : (bytes : List ℕ) → None ≡ option_map fitted (number_at bytes) → (n : ℕ) (rest : List ℕ) → BeginsWith bytes n rest → ⊥
 is_none bytes e n rest h = let same : ◌≡◌ {A = Option (Option ℕ × List ℕ)} None (Some (fit n, rest)) = e ∙ ap (option_map fitted) (begins_read bytes n rest h) in absurd cc
 
-pub answers_found : (bytes : List ℕ) (r : Option (Option ℕ × Bor (List ℕ))) → option_map {U = Option ℕ × List ℕ} (λ x. (x.0, x.1.now)) r ≡ option_map fitted (number_at bytes) → IfSome r (λ x. (n : ℕ) × BeginsWith bytes n x.1.now × (x.0 ≡ fit n))
+pub answers_found : (bytes : List ℕ) (r : Option (Option ℕ × Bor (List ℕ)))
+    → option_map {U = Option ℕ × List ℕ} (λ x. (x.0, x.1.now)) r ≡ option_map fitted (number_at bytes)
+    → IfSome r (λ x. (n : ℕ) × BeginsWith bytes n x.1.now × (x.0 ≡ fit n))
 answers_found bytes None e = tt
 answers_found bytes (Some x) e = is_found bytes x.0 x.1.now e
 
-pub answers_none : (bytes : List ℕ) (r : Option (Option ℕ × Bor (List ℕ))) → option_map {U = Option ℕ × List ℕ} (λ x. (x.0, x.1.now)) r ≡ option_map fitted (number_at bytes) → IfNone r ((n : ℕ) (rest : List ℕ) → BeginsWith bytes n rest → ⊥)
+pub answers_none : (bytes : List ℕ) (r : Option (Option ℕ × Bor (List ℕ)))
+    → option_map {U = Option ℕ × List ℕ} (λ x. (x.0, x.1.now)) r ≡ option_map fitted (number_at bytes)
+    → IfNone r ((n : ℕ) (rest : List ℕ) → BeginsWith bytes n rest → ⊥)
 answers_none bytes None e = is_none bytes e
 answers_none bytes (Some x) e = tt

@@ -12,6 +12,7 @@ use Rattle.pa_root.specs.Handing.{FillGives, MapGives}
 use Rattle.pa_op_specs.specs.Stocks.{StockValue, IsStock, titles_in}
 use Rattle.pa_thread_state.specs.Allocating.{BecomesList, Receives, CanLoad, FillsList, MapsTitle}
 use Rattle.pa_thread_state.proofs.Fetching.{fill_loads}
+use Rattle.pa_rules.specs.Sizes.{HasClass}
 use Rattle.pa_thread_state.proofs.Receiving.{first_rest}
 
 -- The thread state after a list's fill came, by what its parts say: the root gave titles, and the note was taken in.
@@ -20,7 +21,7 @@ fill_received s a b n asked receives = receives.after_is ∙ ap (λ (z : StockVa
 
 pub fill_can_load : (line p c : ℕ) (s a b : StockValue) (n : View) (ts : List Title) (t : Title) (rest : List Title) → a ≡ record s { view = a.view } →
     FillGives s.thread p line c (fill_of c) s.view a.view n ts → t ≡ slice_index_or ts 0 t → rest ≡ remove ts 0 → Receives n a b → IsStock s →
-    IsAware s.view → IsAware a.view → IsAware b.view → p < 4 → c < 59 → titles_in s.caches p c ≡ [] → CanLoad p c rest b
+    IsAware s.view → IsAware a.view → IsAware b.view → p < 4 → HasClass s.caches.version c → titles_in s.caches p c ≡ [] → CanLoad p c rest b
 fill_can_load line p c s a b n ts t rest asked gives first others receives is aware one two low small empty =
     let e = fill_received s a b n asked receives in
     let all = first_rest ts t rest gives.some first others in
@@ -29,7 +30,7 @@ fill_can_load line p c s a b n ts t rest asked gives first others receives is aw
     (aware, one, receives.aware, subst (λ (z : StockValue). IsAware z.view) e two) receives.long low small empty)
 
 pub fills_list : (line p c : ℕ) (s a b d : StockValue) (n : View) (ts : List Title) (t : Title) (rest : List Title) → a ≡ record s { view = a.view } →
-    FillGives s.thread p line c (fill_of c) s.view a.view n ts → t ≡ slice_index_or ts 0 t → rest ≡ remove ts 0 → Receives n a b → IsAware a.view → IsAware b.view → c < 59 →
+    FillGives s.thread p line c (fill_of c) s.view a.view n ts → t ≡ slice_index_or ts 0 t → rest ≡ remove ts 0 → Receives n a b → IsAware a.view → IsAware b.view → HasClass s.caches.version c →
     titles_in s.caches p c ≡ [] → BecomesList p c rest b d → FillsList line p c t s d
 fills_list line p c s a b d n ts t rest asked gives first others receives one two small empty loaded = record {
   asked = a.view;
@@ -38,7 +39,7 @@ fills_list line p c s a b d n ts t rest asked gives first others receives one tw
   gives = subst (λ xs. FillGives s.thread p line c (fill_of c) s.view a.view n xs) (first_rest ts t rest gives.some first others) gives;
   awares = (one, receives.aware, subst (λ (z : StockValue). IsAware z.view) receives.after_is two);
   long = receives.long;
-  small = small;
+  real = small;
   empty = empty;
   loaded = subst (λ (z : StockValue). BecomesList p c rest z d) (fill_received s a b n asked receives) loaded;
 }

@@ -5,7 +5,7 @@ use Rattle.std.proofs.lemmas.List.Elements.{All-contains}
 use Rattle.pa_slot.specs.declared.title.Title.{Title}
 use Rattle.pa_buckets.specs.Table.{slot_of}
 use Rattle.pa_buckets.specs.Bands.{fill_of}
-use Rattle.pa_buckets.proofs.Facts.{fill_of-limit, IsRow_1-of}
+use Rattle.pa_buckets.proofs.Facts.{fill_of-limit, IsRow-of}
 use Rattle.pa_layout.specs.Pages.{supers_for}
 use Rattle.pa_record.specs.declared.root.RootAct.{RootAct}
 use Rattle.pa_record.specs.declared.root.RootAct.TheVariants as act
@@ -22,6 +22,8 @@ use Rattle.pa_cells.specs.Handles.{HasSeenMade}
 use Rattle.pa_op_specs.specs.Stocks.{StockValue, IsStock, titles_in, listed_slot}
 use Rattle.pa_thread_state.specs.Changes.{IsBack}
 use Rattle.pa_thread_state.specs.Allocating.{CanLoad}
+use Rattle.pa_rules.specs.Sizes.{HasClass}
+use Rattle.pa_rules.proofs.Versions.{real_in}
 use Rattle.pa_root.proofs.Entered.{for_made}
 use Rattle.pa_thread_state.proofs.Taking.{Asking, Took, for_asking, two_asking, still_there, named, took_free, took_new}
 
@@ -40,7 +42,7 @@ module _ (line p c want : ℕ) (s : StockValue) (u n : View) (ts : List Title) (
   pub fill_took : Took s u n ts
   fill_took = record { keeps = fill_asking.keeps; has = gives.has; awares = awares; long = long }
 
-  pub fill_made : c < 59 → (t : Title) → Contains ts t → HasSeenMade (listed_slot p c t) (united u n)
+  pub fill_made : c < 170 → (t : Title) → Contains ts t → HasSeenMade (listed_slot p c t) (united u n)
   fill_made small t among =
       let a : RootAct = act.Fill c gives.asked (numbered_by n ts) in
       let (m, at) = for_made gives.index s.thread p line gives.asked (Some gives.first) a s.view u gives.enters in
@@ -57,13 +59,14 @@ module _ (line p c want : ℕ) (s : StockValue) (u n : View) (ts : List Title) (
 
 -- all but the first of a fill can be loaded
 pub fill_loads : (line p c : ℕ) (s : StockValue) (u n : View) (t : Title) (rest : List Title) (gives : FillGives s.thread p line c (fill_of c) s.view u n (t ∷ rest)) → IsStock s →
-    (awares : IsAware s.view × IsAware u × IsAware n × IsAware (united u n)) → length u.words ≡ length n.words → p < 4 → c < 59 → titles_in s.caches p c ≡ [] →
+    (awares : IsAware s.view × IsAware u × IsAware n × IsAware (united u n)) → length u.words ≡ length n.words → p < 4 → HasClass s.caches.version c → titles_in s.caches p c ≡ [] →
     CanLoad p c rest (record s { view = united u n })
 fill_loads line p c s u n t rest gives is awares long low small empty =
     let took = fill_took line p c (fill_of c) s u n (t ∷ rest) gives is awares long low in
-    let e = fill_of-limit c (omega arith) in
+    let real = real_in s.caches.version c small in
+    let e = fill_of-limit c real in
     let few = gives.few in
-    let eight = (IsRow_1-of c small).few_fill in
+    let eight = (IsRow-of c real).few_fill in
     record {
       partition = low;
       empty = empty;
@@ -73,7 +76,7 @@ fill_loads line p c s u n t rest gives is awares long low small empty =
       batch = omega arith;
       free = λ x among. took_free s u n (t ∷ rest) is took x (later_in t x rest among);
       new = λ q d x listed among. took_new s u n (t ∷ rest) is took q d x listed (later_in t x rest among);
-      made = λ x among. fill_made line p c (fill_of c) s u n (t ∷ rest) gives is awares long low small x (later_in t x rest among);
+      made = λ x among. fill_made line p c (fill_of c) s u n (t ∷ rest) gives is awares long low real x (later_in t x rest among);
     }
 
 -- ---- a direct map

@@ -1,6 +1,6 @@
 -- Titles that go back to their root: what the seat and the thread state have then, and one entry after another.
 use Rattle.std.proofs.Common.{◌≡◌, ℕ, zero, suc, ◌+◌, ◌-◌, ◌<◌, ◌≤◌, Bool, true, false, List, [], ◌∷◌, ◌++◌, length, map, refl, sym, ◌∙◌, ap, subst, arith, ◌⊎◌, inl, inr, append_assoc}
-use Rattle.std.specs.Prelude.{◌==◌, ◌≢◌, AllPairs, Contains, if◌then◌else◌, slice_index_or, slice_set}
+use Rattle.std.specs.Prelude.{◌==◌, ◌≢◌, AllPairs, Contains, if◌then◌else◌, slice_index_or}
 use Rattle.std.specs.List.{sum_by}
 use Rattle.std.proofs.lemmas.List.{append-nil, map-append, length-set, get_or-set_same}
 use Rattle.std.proofs.lemmas.Bool.Decides.{eqb_tells}
@@ -40,19 +40,21 @@ use Rattle.pa_root.specs.Filling.{free_item, frees_parcel}
 use Rattle.pa_root.specs.Handing.{HasSeenFill, GiveTakes, root_entry, numbered_by}
 use Rattle.pa_root.proofs.Parcels.{KeepsBut, keeps_but}
 use Rattle.pa_root.proofs.Showing.{all_stakes}
-use Rattle.pa_op_specs.specs.Stocks.{StockValue, IsStock, cache_place, no_cache, titles_in, listed_slot, register_in}
+use Rattle.pa_op_specs.specs.Stocks.{StockValue, WorkerLists, IsStock, cache_place, no_cache, titles_in, listed_slot, register_in}
 use Rattle.pa_thread_state.specs.Giving.{Gives, GivesBatch, HandsBack, TakesBack, with_titles}
 use Rattle.pa_op_specs.proofs.Registers.{set_at}
 use Rattle.pa_op_specs.proofs.Stocks.{stock_kept}
 use Rattle.pa_thread_state.proofs.Parking.{made_for_more, owns_kept, refs_kept}
-use Rattle.pa_thread_state.proofs.Fronting.{titles_at}
+use Rattle.pa_thread_state.proofs.Fronting.{within_lists}
+use Rattle.pa_thread_state.proofs.Places.{one_place, titles_here}
+use Rattle.pa_rules.specs.Sizes.{HasClass}
 use Rattle.pa_op_specs.proofs.Entered.{TellsOf, Entering, if_none, entering_both, one_enters}
 use Rattle.pa_op_specs.proofs.Quiet.{same_titles}
-use Rattle.pa_thread_state.specs.Allocating.{BecomesList}
+use Rattle.pa_thread_state.specs.Allocating.{BecomesList, with_list_at}
 use Rattle.pa_op_specs.specs.Workers.{HasItsStake}
 use Rattle.pa_link.specs.Chains.{Relinked}
 use Rattle.pa_thread_state.proofs.Chained.{stock_relinked}
-use Rattle.pa_thread_state.proofs.Lists.{set_titles, this_list, in_rest, in_batch, rest_or_batch}
+use Rattle.pa_thread_state.proofs.TitleLists.{set_titles, this_list, in_rest, in_batch, rest_or_batch}
 use Rattle.pa_root.proofs.Seeing.{free_kept}
 
 -- ---- a seat hands free titles over
@@ -179,11 +181,11 @@ rest_listed lists p c keep q d t among = elim (eqb_tells q p) [
   | inr n ↦ rw n.0 at among
 ]
 
-pub batch_gives : KeptNumbersStay → (s : StockValue) (w : View) (caches : List CacheList) (line p c keep : ℕ) → IsStock s → IsAware s.view → IsAware w → p < 4 →
+pub batch_gives : KeptNumbersStay → (s : StockValue) (w : View) (caches : WorkerLists) → caches.version ≡ s.caches.version → (line p c keep : ℕ) → IsStock s → IsAware s.view → IsAware w → p < 4 →
     AllPairs ◌≢◌ (batch_after keep (titles_in s.caches p c)) → HandsBack s.thread line p (batch_after keep (titles_in s.caches p c)) s.view w →
     ((q d : ℕ) → titles_in caches q d ≡ with_titles p c (rest_after keep (titles_in s.caches p c)) (titles_in s.caches) q d) →
     GivesBatch line p c keep s (record s { view = w; caches = caches })
-batch_gives law s w caches line p c keep is aware now low once hands kept =
+batch_gives law s w caches version line p c keep is aware now low once hands kept =
     let ts = batch_after keep (titles_in s.caches p c) in
     let enters = hands_enters s.thread line p ts s.view w hands (omega arith) in
     let has = batch_free s p c keep is in
@@ -194,6 +196,7 @@ batch_gives law s w caches line p c keep is aware now low once hands kept =
       stakes = enters.stakes;
       budget = hands_budget s.thread line p ts s.view w hands;
       same = (refl, refl, refl);
+      version = version;
       lists = enters.lists;
       grows = enters.grows;
       numbers = hands_numbers s.thread line p ts s.view w hands aware once has law now;
@@ -204,11 +207,11 @@ batch_gives law s w caches line p c keep is aware now low once hands kept =
     }
 
 -- the thread state stays sound
-pub batch_stock : SlotsStaySeen → (s : StockValue) (w : View) (new : CacheList) (line p c keep : ℕ) → IsStock s → IsAware s.view → p < 4 → c < 59 →
+pub batch_stock : SlotsStaySeen → (s : StockValue) (w : View) (new : CacheList) (line p c keep : ℕ) → IsStock s → IsAware s.view → p < 4 → HasClass s.caches.version c →
     AllPairs ◌≢◌ (titles_in s.caches p c) → AllPairs ◌≢◌ (batch_after keep (titles_in s.caches p c)) →
     HandsBack s.thread line p (batch_after keep (titles_in s.caches p c)) s.view w →
     IsCache new → new.class ≡ c → new.titles ≡ rest_after keep (titles_in s.caches p c) →
-    IsStock (record s { view = w; caches = slice_set s.caches (cache_place p c) new })
+    IsStock (record s { view = w; caches = with_list_at p c new s.caches })
 batch_stock stays s w new line p c keep is aware low small whole once hands sound class titles = record {
   partitions = is.partitions;
   handles = record {
@@ -219,8 +222,8 @@ batch_stock stays s w new line p c keep is aware low small whole once hands soun
     made = λ k. made_for_more stays s.view w enters.lists (register_in s.registers k) (is.handles.made k);
   };
   lists = record {
-    count = length-set s.caches (cache_place p c) new ∙ is.lists.count;
-    sound = λ k. subst IsCache (sym (at k)) (pick (k == cache_place p c) sound (is.lists.sound k));
+    count = length-set s.caches.lists place new ∙ is.lists.count;
+    sound = λ k. subst IsCache (sym (at k)) (pick (k == place) sound (is.lists.sound k));
     classes = λ q d lower near. class_at q d lower near;
     few = λ q d. fewer q d;
     free = λ q d t among. free q d t among;
@@ -240,8 +243,11 @@ batch_stock stays s w new line p c keep is aware low small whole once hands soun
     has : (t : Title) → Contains ts t → 0 < free_of s.view t
     has = batch_free s p c keep is
 
-    after : List CacheList
-    after = slice_set s.caches (cache_place p c) new
+    place : ℕ
+    place = cache_place s.caches.version p c
+
+    after : WorkerLists
+    after = with_list_at p c new s.caches
 
     kept : (q d : ℕ) → titles_in after q d ≡ with_titles p c (rest_after keep (titles_in s.caches p c)) (titles_in s.caches) q d
     kept q d = set_titles s.caches p c new q d low small is.lists.count ∙ ap (λ us. with_titles p c us (titles_in s.caches) q d) titles
@@ -249,17 +255,19 @@ batch_stock stays s w new line p c keep is aware low small whole once hands soun
     was : (q d : ℕ) (t : Title) → Contains (titles_in after q d) t → Contains (titles_in s.caches q d) t
     was q d t among = rest_listed (titles_in s.caches) p c keep q d t (subst (λ us. Contains us t) (kept q d) among)
 
-    at : (k : ℕ) → slice_index_or after k no_cache ≡ (if k == cache_place p c then new else slice_index_or s.caches k no_cache)
-    at k = set_at s.caches (cache_place p c) k new no_cache (let long = is.lists.count in omega arith)
+    at : (k : ℕ) → slice_index_or after.lists k no_cache ≡ (if k == place then new else slice_index_or s.caches.lists k no_cache)
+    at k = set_at s.caches.lists place k new no_cache (within_lists s p c is low small)
 
     pick : (b : Bool) {x y : CacheList} → IsCache x → IsCache y → IsCache (if b then x else y)
     pick true a b = a
     pick false a b = b
 
-    class_at : (q d : ℕ) → q < 4 → d < 59 → (slice_index_or after (cache_place q d) no_cache).class ≡ d
-    class_at q d lower near = elim (eqb_tells (cache_place q d) (cache_place p c)) [
-      | inl y ↦ (let e = ap (λ (x : CacheList). x.class) (rw y.0 at (at (cache_place q d))) in let f = y.1 in omega arith)
-      | inr n ↦ ap (λ (x : CacheList). x.class) (rw n.0 at (at (cache_place q d))) ∙ is.lists.classes q d lower near
+    class_at : (q d : ℕ) → q < 4 → HasClass s.caches.version d → (slice_index_or after.lists (cache_place s.caches.version q d) no_cache).class ≡ d
+    class_at q d lower near = elim (eqb_tells (cache_place s.caches.version q d) place) [
+      | inl y ↦
+          ap (λ (x : CacheList). x.class) (rw y.0 at (at (cache_place s.caches.version q d)))
+          ∙ (class ∙ sym (one_place s.caches.version q d p c near small y.1).1)
+      | inr n ↦ ap (λ (x : CacheList). x.class) (rw n.0 at (at (cache_place s.caches.version q d))) ∙ is.lists.classes q d lower near
     ]
 
     fewer : (q d : ℕ) → length (titles_in after q d) ≤ limit_of d
@@ -300,6 +308,7 @@ gives_before line p batch left s u after re gives =
       stakes = same.stakes;
       budget = same.budget;
       same = same.same;
+      version = same.version;
       lists = same.lists;
       grows = same.grows;
       numbers = same.numbers;
@@ -333,7 +342,7 @@ module _ (s b : StockValue) (p c keep : ℕ) (is : IsStock s) (takes : BecomesLi
   taken_stake stake = subst (λ k. 0 < stake_of b.view k) (sym taken_thread) (let e = taken_stakes s.thread in omega arith)
 
   -- both, by what the calls say
-  pub batch_done : KeptNumbersStay → SlotsStaySeen → (w : View) (titles : List Title) (line : ℕ) → IsStock b → IsAware b.view → IsAware w → p < 4 → c < 59 →
+  pub batch_done : KeptNumbersStay → SlotsStaySeen → (w : View) (titles : List Title) (line : ℕ) → IsStock b → IsAware b.view → IsAware w → p < 4 → HasClass s.caches.version c →
       titles ≡ batch_after keep (titles_in s.caches p c) → AllPairs ◌≢◌ titles → HandsBack b.thread line p titles b.view w →
       IsStock (record b { view = w }) × GivesBatch line p c keep s (record b { view = w })
   batch_done law stays w titles line now aware after low small batch once hands =
@@ -342,16 +351,17 @@ module _ (s b : StockValue) (p c keep : ℕ) (is : IsStock s) (takes : BecomesLi
       let new : CacheList = record { class = c; titles = rest_after keep ts } in
       let once_here = subst (AllPairs ◌≢◌) batch once in
       let hands_here = subst (λ k. HandsBack k line p (batch_after keep ts) b.view w) taken_thread (subst (λ us. HandsBack b.thread line p us b.view w) batch hands) in
-      let whole : AllPairs ◌≢◌ ts = subst (AllPairs ◌≢◌) (titles_at s.caches p c small) (is.lists.sound (cache_place p c)).different in
-      let sound : IsCache new = subst IsCache (ap (λ (z : StockValue). slice_index_or z.caches (cache_place p c) no_cache) takes.after_is
-      ∙ get_or-set_same s.caches (cache_place p c) new no_cache (let n = is.lists.count in omega arith)) (now.lists.sound (cache_place p c)) in
-      let same : record b { view = w } ≡ record m { view = w; caches = slice_set s.caches (cache_place p c) new } =
+      let whole : AllPairs ◌≢◌ ts = subst (AllPairs ◌≢◌) (sym (titles_here s.caches p c small)) (is.lists.sound (cache_place s.caches.version p c)).different in
+      let sound : IsCache new = subst IsCache (ap (λ (z : StockValue). slice_index_or z.caches.lists (cache_place s.caches.version p c) no_cache) takes.after_is
+      ∙ get_or-set_same s.caches.lists (cache_place s.caches.version p c) new no_cache (within_lists s p c is low small))
+      (now.lists.sound (cache_place s.caches.version p c)) in
+      let same : record b { view = w } ≡ record m { view = w; caches = with_list_at p c new s.caches } =
       ap (λ (z : StockValue). record z { view = w }) takes.after_is in (
         subst IsStock (sym same) (batch_stock stays m w new line p c keep linked aware low small whole once_here hands_here sound refl refl),
         subst (GivesBatch line p c keep s) (sym same)
             (gives_before line p (batch_after keep ts) (with_titles p c (rest_after keep ts) (titles_in s.caches)) s b.view
-            (record m { view = w; caches = slice_set s.caches (cache_place p c) new }) takes.relinked
-            (batch_gives law m w (slice_set s.caches (cache_place p c) new) line p c keep linked aware after low once_here hands_here
+            (record m { view = w; caches = with_list_at p c new s.caches }) takes.relinked
+            (batch_gives law m w (with_list_at p c new s.caches) refl line p c keep linked aware after low once_here hands_here
             (λ q d. set_titles s.caches p c new q d low small is.lists.count))),
       )
 
@@ -385,6 +395,7 @@ gives_none line p s = record {
   stakes = λ k. refl;
   budget = refl;
   same = (refl, refl, refl);
+  version = refl;
   lists = λ k. ([], sym (append-nil (list_of k s.view)));
   grows = λ t. omega arith;
   numbers = λ n t well free. refl;
@@ -404,6 +415,7 @@ gives_left line p acts left other a b gives same = record {
   stakes = gives.stakes;
   budget = gives.budget;
   same = gives.same;
+  version = gives.version;
   lists = gives.lists;
   grows = gives.grows;
   numbers = gives.numbers;
@@ -429,6 +441,7 @@ gives_on line p acts more left later a b d first second = record {
   stakes = λ k. second.stakes k ∙ first.stakes k;
   budget = second.budget ∙ first.budget;
   same = (second.same.0 ∙ first.same.0, second.same.1 ∙ first.same.1, second.same.2 ∙ first.same.2);
+  version = second.version ∙ first.version;
   lists = λ k. begins_on (list_of k a.view) (list_of k b.view) (list_of k d.view) (first.lists k) (second.lists k);
   grows = λ t. let e = first.grows t in let f = second.grows t in omega arith;
   numbers = λ n t well free. second.numbers n t well free ∙ first.numbers n t well (let e = second.fewer t in omega arith);

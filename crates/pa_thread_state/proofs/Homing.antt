@@ -2,12 +2,14 @@
 use Rattle.std.proofs.Common.{◌≡◌, ℕ, ◌<◌, List, [], ◌∷◌, map, Option, Some, None, Result, Ok, Err, refl, sym, ◌∙◌, ap, subst, arith, inl, inr}
 use Rattle.std.specs.Prelude.{◌==◌, ◌≢◌, All, AllPairs, Contains, OnOk, OnErr}
 use Rattle.std.specs.List.{sum_by}
+use Rattle.std.proofs.lemmas.Bool.{cases_eq}
 use Rattle.std.proofs.lemmas.List.{append-nil}
 use Rattle.std.proofs.lemmas.List.Sums.{sum_by-append}
 use Rattle.pa_slot.specs.declared.title.Title.{Title}
 use Rattle.pa_slot.specs.Titles.{same_title}
 use Rattle.pa_slot.specs.Holdings.{one}
 use Rattle.pa_buckets.specs.Bands.{limit_of}
+use Rattle.pa_buckets.specs.Table.{slot_of}
 use Rattle.pa_record.specs.declared.numbered.Numbered.{Numbered}
 use Rattle.pa_record.specs.declared.root.RootEntry.{RootEntry}
 use Rattle.pa_record.specs.declared.root.RootAct.{RootAct}
@@ -32,20 +34,21 @@ use Rattle.pa_region.specs.Aware.{IsAware}
 use Rattle.pa_region.specs.Shares.{Share}
 use Rattle.pa_region.proofs.LendBack.{kept_number}
 use Rattle.pa_rules.specs.Caches.{SameLists}
+use Rattle.pa_rules.specs.Sizes.{HasClass}
 use Rattle.pa_root.specs.Filling.{frees_parcel}
 use Rattle.pa_root.specs.Handing.{HasOnly, HasSeenFill, HasSeenMap, root_entry}
 use Rattle.pa_root.proofs.Parcels.{can_hand, note_has, keeps_but}
 use Rattle.pa_root.proofs.Together.{no_own_clean}
-use Rattle.pa_cache.specs.Chained.{CacheParts, HoldsList}
+use Rattle.pa_cache.specs.Chained.{HoldsList}
 use Rattle.pa_cells.specs.declared.handle.Handle.{Handle}
 use Rattle.pa_cells.specs.Handles.{HandsOut, HasSeenMade, SlotsStaySeen}
 use Rattle.pa_op_specs.specs.Stocks.{StockValue, IsStock, register_in, titles_in, listed_in, listed_slot}
 use Rattle.pa_thread_state.specs.Changes.{IsBack}
-use Rattle.pa_thread_state.specs.Homing.{ComesHome, GoesHome, IsSettled, Spills, without_title, note_of_title}
+use Rattle.pa_thread_state.specs.Homing.{ComesHome, GoesHome, IsSettled, KeepsNoList, Spills, without_title, note_of_title}
 use Rattle.pa_op_specs.proofs.Quiet.{same_titles}
 use Rattle.pa_op_specs.proofs.Seeing.{made_kept, made_for_kept}
 use Rattle.pa_thread_state.proofs.Parking.{made_for_more}
-use Rattle.pa_thread_state.proofs.Chained.{lists_in}
+use Rattle.pa_thread_state.specs.Lists.{WorkerCaches, lists_in}
 use Rattle.pa_thread_state.proofs.Staying.{HasThem, kept_has, same_has, after_as}
 use Rattle.pa_op_specs.proofs.Stocks.{stock_kept}
 use Rattle.pa_op_specs.proofs.Entered.{Entering, entering_none}
@@ -152,24 +155,34 @@ seen_fill h v class made of =
     let (n, there, is) = map_cases (λ (x : Numbered). x.slot) slots (name_of h.title) named in
     (e.line, class, asked, slots, n, long, there, is, numbers_among (list_of h.partition v) m e _ among says act)
 
--- a class of which a slot was seen made is one of version 1
-pub known_class : (h : Handle) (v : View) (class : ℕ) → HasSeenMade h v → h.class ≡ Some class → class < 59
-known_class h v class made of =
+-- a slot of a class that was seen made has its class's size
+pub made_long : (h : Handle) (v : View) (class : ℕ) → HasSeenMade h v → h.class ≡ Some class → h.title.len ≡ slot_of class
+made_long h v class made of =
     let (m, e, among, says, out) = made.entry in
     let by : HandsOut (Some class) h.title e.act = subst (λ k. HandsOut k h.title e.act) of out in
     let (asked, slots, act, named, long, small) = by in
-    small
+    long
+
+-- a class that the version doesn't have, or whose limit is 0, keeps no list
+pub no_list : (h : Handle) (s : StockValue) (class : ℕ) → h.class ≡ Some class → (HasClass s.caches.version class × (0 < limit_of class) → ⊥) →
+    KeepsNoList h s
+no_list h s class of none k is real =
+    let same : k ≡ class = cc in
+    elim (cases_eq (limit_of k) 0) [
+      | inl e ↦ e
+      | inr some ↦ absurd (none (subst (λ z. HasClass s.caches.version z × (0 < limit_of z)) same (real, omega (arith, some))))
+    ]
 
 -- a slot that went home alone is settled, if its class keeps no list; and so is one whose list spilled
-pub home_settles : {A E : Type 0} (line class : ℕ) (h : Handle) (s after : StockValue) (result : Result A E) → h.class ≡ Some class → class < 59 → limit_of class ≡ 0 →
+pub home_settles : {A E : Type 0} (line : ℕ) (h : Handle) (s after : StockValue) (result : Result A E) → KeepsNoList h s →
     OnOk result (GoesHome line h s after) → OnOk result (IsSettled line h s after)
-home_settles line class h s after (Ok x) of small none home = inl (λ k is. (let same : class ≡ k = cc in subst (λ z. (z < 59) × (limit_of z ≡ 0)) same (small, none)), home)
-home_settles line class h s after (Err e) of small none home = tt
+home_settles line h s after (Ok x) none home = inl (none, home)
+home_settles line h s after (Err e) none home = tt
 
-pub spill_settles : {A E : Type 0} (line class : ℕ) (h : Handle) (s after : StockValue) (result : Result A E) → h.class ≡ Some class → class < 59 → 0 < limit_of class →
-    OnOk result (Spills line h class s after) → OnOk result (IsSettled line h s after)
-spill_settles line class h s after (Ok x) of small some spills = inr (class, of, small, some, spills)
-spill_settles line class h s after (Err e) of small some spills = tt
+pub spill_settles : {A E : Type 0} (line class : ℕ) (h : Handle) (s after : StockValue) (result : Result A E) → h.class ≡ Some class →
+    HasClass s.caches.version class → 0 < limit_of class → OnOk result (Spills line h class s after) → OnOk result (IsSettled line h s after)
+spill_settles line class h s after (Ok x) of real some spills = inr (class, of, real, some, spills)
+spill_settles line class h s after (Err e) of real some spills = tt
 
 -- the stake was lent for it
 pub comes_lends : (class : Option ℕ) (r p line : ℕ) (v w note : View) (t : Title) → ComesHome class r p line v w note t → (es : List Entry) × Lends r es v w
@@ -186,15 +199,15 @@ home_lists s h w r es is aware back left_aware after_aware lends p class =
     kept_number (without_title h.title s.view) w well.0 t left_aware after_aware lends.keeps well.1 (left_listed s h is aware back p class t among))
 
 -- the seat that lent its stake for it, or kept it, has a sound thread state with its lists
-pub delivered_has : {A E : Type 0} → SlotsStaySeen → (s : StockValue) (cs : List CacheParts) (w note : View) (class : Option ℕ) (r p line : ℕ) (t : Title)
-    (result : Result A E) → s.caches ≡ lists_in s.view cs → IsStock s → All (HoldsList s.view) cs →
+pub delivered_has : {A E : Type 0} → SlotsStaySeen → (s : StockValue) (cs : WorkerCaches) (w note : View) (class : Option ℕ) (r p line : ℕ) (t : Title)
+    (result : Result A E) → s.caches ≡ lists_in s.view cs → IsStock s → All (HoldsList s.view) cs.parts →
     OnOk result (ComesHome class r p line s.view w note t) → OnErr result (w ≡ s.view) → HasThem s w s.registers cs
 delivered_has stays s cs w note class r p line t (Ok x) are is has comes same =
     kept_has stays s w cs are is has (comes_lends class r p line s.view w note t comes).1.keeps
 delivered_has stays s cs w note class r p line t (Err e) are is has comes same = same_has s w cs are is has same
 
 -- if the call failed and left the seat its view, the thread state with its lists is as it was
-pub delivered_same : {A E : Type 0} (s : StockValue) (cs : List CacheParts) (w : View) (result : Result A E) → HasThem s w s.registers cs →
+pub delivered_same : {A E : Type 0} (s : StockValue) (cs : WorkerCaches) (w : View) (result : Result A E) → HasThem s w s.registers cs →
     OnErr result (w ≡ s.view) → OnErr result (record s { view = w; caches = lists_in w cs } ≡ s)
 delivered_same s cs w (Ok x) them same = tt
 delivered_same s cs w (Err e) them same = after_as s w s.view s.registers cs same them

@@ -3,7 +3,6 @@ pub mod Copying
 pub mod Looking
 pub mod Reading
 pub mod Writing
-pub mod Adding
 pub mod Ready
 pub mod Handing
 pub mod Beginning
@@ -16,7 +15,7 @@ pub mod Exchanged
 pub mod Censusing
 pub mod Homing
 pub mod Fronts
-pub mod Lists
+pub mod TitleLists
 pub mod HandedBack
 pub mod Tails
 pub mod Purging
@@ -30,5 +29,7 @@ pub mod Released
 pub mod Allocated
 pub mod Settled
 pub mod Chained
+pub mod Places
+pub mod Summing
 pub mod Staying
 pub mod Refused

@@ -1,5 +1,5 @@
 -- The front of a list leaves it: the thread state after it.
-use Rattle.std.proofs.Common.{◌≡◌, ℕ, ◌+◌, ◌*◌, ◌<◌, [], ◌++◌, length, Option, Some, None, refl, sym, ◌∙◌, ap, subst, arith}
+use Rattle.std.proofs.Common.{◌≡◌, ℕ, ◌<◌, [], ◌++◌, length, Option, Some, None, refl, sym, ◌∙◌, ap, subst, arith}
 use Rattle.std.specs.Prelude.{◌↔◌, Contains, IsNone, IfSome, slice_set}
 use Rattle.std.specs.Option.{option_to_list}
 use Rattle.std.proofs.lemmas.List.{length-append, set-get_or}
@@ -7,21 +7,26 @@ use Rattle.std.proofs.lemmas.List.Elements.{Contains-append_right}
 use Rattle.pa_slot.specs.declared.title.Title.{Title}
 use Rattle.pa_buckets.specs.Table.{slot_of}
 use Rattle.pa_cache.specs.Caches.{CacheList, IsCache}
-use Rattle.pa_op_specs.specs.Stocks.{StockValue, IsStock, no_cache, titles_in}
+use Rattle.pa_rules.specs.Sizes.{HasClass}
+use Rattle.pa_op_specs.specs.Stocks.{StockValue, IsStock, cache_place, no_cache, titles_in}
 use Rattle.pa_thread_state.specs.Allocating.{Pops, with_listed}
 use Rattle.pa_thread_state.proofs.Fronting.{CacheAt}
 use Rattle.pa_thread_state.proofs.Relisting.{relisted_stock}
 
 -- a cache with other titles in its place
-pub listed_caches : (s : StockValue) (p c place : ℕ) (cache new : CacheList) → CacheAt s p c place cache → place ≡ 59 * p + c → new.class ≡ cache.class →
-    (new ≡ record { class = c; titles = new.titles }) × (slice_set s.caches place new ≡ with_listed p c new.titles s.caches)
+pub listed_caches : (s : StockValue) (p c place : ℕ) (cache new : CacheList) → CacheAt s p c place cache → place ≡ cache_place s.caches.version p c → new.class ≡ cache.class →
+    (new ≡ record { class = c; titles = new.titles }) × (record s.caches { lists = slice_set s.caches.lists place new } ≡ with_listed p c new.titles s.caches)
 listed_caches s p c place cache new at where_is class =
-    let e : new ≡ record { class = c; titles = new.titles } = ap (λ k. record { class = k; titles = new.titles }) (class ∙ at.class_is) in
-    (e, ap (λ x. slice_set s.caches place x) e ∙ ap (λ k. slice_set s.caches k (record { class = c; titles = new.titles })) where_is)
+    let e : new ≡ record { class = c; titles = new.titles } = ap (λ k. record { class = k; titles = new.titles }) (class ∙ at.class_is) in (
+      e,
+      ap (λ x. record s.caches { lists = slice_set s.caches.lists place x }) e
+          ∙ ap (λ k. record s.caches { lists = slice_set s.caches.lists k (record { class = c; titles = new.titles }) }) where_is,
+    )
 
 -- the thread state stays sound
-pub popped_stock : (s : StockValue) (p c place : ℕ) (cache new : CacheList) (o : Option Title) → IsStock s → p < 4 → c < 59 → CacheAt s p c place cache → place ≡ 59 * p + c →
-    new.class ≡ cache.class → cache.titles ≡ option_to_list o ++ new.titles → IsCache new → IsStock (record s { caches = slice_set s.caches place new })
+pub popped_stock : (s : StockValue) (p c place : ℕ) (cache new : CacheList) (o : Option Title) → IsStock s → p < 4 → HasClass s.caches.version c → CacheAt s p c place cache →
+    place ≡ cache_place s.caches.version p c → new.class ≡ cache.class → cache.titles ≡ option_to_list o ++ new.titles → IsCache new →
+    IsStock (record s { caches = record s.caches { lists = slice_set s.caches.lists place new } })
 popped_stock s p c place cache new o is low small at where_is class front sound =
     let e = listed_caches s p c place cache new at where_is class in
     let was : titles_in s.caches p c ≡ option_to_list o ++ new.titles = sym at.titles_are ∙ front in
@@ -38,16 +43,18 @@ popped_stock s p c place cache new o is low small at where_is class front sound 
     }))
 
 -- what was popped
-pub pops : (s : StockValue) (p c place : ℕ) (cache new : CacheList) (o : Option Title) → c < 59 → CacheAt s p c place cache → place ≡ 59 * p + c →
-    new.class ≡ cache.class → cache.titles ≡ option_to_list o ++ new.titles → (IsNone o ↔ (cache.titles ≡ [])) → IfSome o (λ t. t.len ≡ slot_of cache.class) →
-    Pops p c o s (record s { caches = slice_set s.caches place new })
+pub pops : (s : StockValue) (p c place : ℕ) (cache new : CacheList) (o : Option Title) → HasClass s.caches.version c → CacheAt s p c place cache →
+    place ≡ cache_place s.caches.version p c → new.class ≡ cache.class → cache.titles ≡ option_to_list o ++ new.titles →
+    (IsNone o ↔ (cache.titles ≡ [])) → IfSome o (λ t. t.len ≡ slot_of cache.class) →
+    Pops p c o s (record s { caches = record s.caches { lists = slice_set s.caches.lists place new } })
 pops s p c place cache new None small at where_is class front none size =
     let same : new ≡ cache = ap (λ k. record { class = k; titles = new.titles }) class ∙ ap (λ ts. record { class = cache.class; titles = ts }) (sym front) in (
-      ap (λ cs. record s { caches = cs }) (ap (λ x. slice_set s.caches place x) (same ∙ at.is) ∙ set-get_or s.caches place no_cache),
+      ap (λ ls. record s { caches = record s.caches { lists = ls } })
+          (ap (λ x. slice_set s.caches.lists place x) (same ∙ at.is) ∙ set-get_or s.caches.lists place no_cache),
       sym at.titles_are ∙ none.0 refl,
     )
 pops s p c place cache new (Some t) small at where_is class front none size = record {
-  small = small;
+  real = small;
   rest = new.titles;
   was = sym at.titles_are ∙ front;
   long = size ∙ ap slot_of at.class_is;

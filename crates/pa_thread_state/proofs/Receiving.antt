@@ -1,5 +1,5 @@
 -- What a root gives is taken in: the thread state in between and after.
-use Rattle.std.proofs.Common.{◌≡◌, ℕ, ◌<◌, ◌≤◌, List, [], ◌∷◌, length, Option, Some, None, refl, sym, ◌∙◌, ap, subst, arith}
+use Rattle.std.proofs.Common.{◌≡◌, ℕ, ◌≤◌, List, [], ◌∷◌, length, Option, Some, None, refl, sym, ◌∙◌, ap, subst, arith}
 use Rattle.std.specs.Prelude.{◌==◌, Result, Ok, Err, IfErr, All, slice_index_or}
 use Rattle.std.specs.List.{remove}
 use Rattle.std.proofs.lemmas.List.Elements.{All-contains, All-contains_itself}
@@ -22,13 +22,14 @@ use Rattle.pa_root.specs.declared.fault.FillFault.TheVariants.{Full, OutOfMemory
 use Rattle.pa_root.specs.Handing.{HasOnly, EntersFor, IsFullFor}
 use Rattle.pa_root.proofs.Together.{no_own_clean}
 use Rattle.pa_cache.specs.Caches.{IsCache, HoldsFree}
-use Rattle.pa_cache.specs.Chained.{CacheParts, HoldsList}
+use Rattle.pa_cache.specs.Chained.{HoldsList}
 use Rattle.pa_cells.specs.Handles.{SlotsStaySeen}
 use Rattle.pa_op_specs.specs.Stocks.{StockValue, IsStock, register_in}
 use Rattle.pa_thread_state.specs.Allocating.{CanLoad, GivesNone, FindsNone, with_listed}
 use Rattle.pa_op_specs.proofs.Stocks.{stock_kept}
 use Rattle.pa_thread_state.proofs.Parking.{made_for_more}
-use Rattle.pa_thread_state.proofs.Chained.{lists_in}
+use Rattle.pa_rules.specs.Sizes.{HasClass}
+use Rattle.pa_thread_state.specs.Lists.{WorkerCaches, lists_in}
 use Rattle.pa_thread_state.proofs.Staying.{HasThem, kept_has, same_has}
 use Rattle.pa_thread_state.proofs.Relisting.{relisted_stock}
 
@@ -42,8 +43,8 @@ for_keeps j r p line None found a v u one = one.lends.keeps
 for_keeps j r p line (Some k) found a v u two = two.lends.keeps
 
 -- the thread state is sound when the root gave nothing, and has its lists
-pub none_has : SlotsStaySeen → (s : StockValue) (cs : List CacheParts) (a b : Share) (r line p count : ℕ) (class : Option ℕ) (fault : FillFault) →
-    s.caches ≡ lists_in s.view cs → IsStock s → All (HoldsList s.view) cs → a.view ≡ s.view → GivesNone r line p count class a b fault →
+pub none_has : SlotsStaySeen → (s : StockValue) (cs : WorkerCaches) (a b : Share) (r line p count : ℕ) (class : Option ℕ) (fault : FillFault) →
+    s.caches ≡ lists_in s.view cs → IsStock s → All (HoldsList s.view) cs.parts → a.view ≡ s.view → GivesNone r line p count class a b fault →
     HasThem s b.view s.registers cs
 none_has stays s cs a b r line p count class (Full j) are is has at full =
     kept_has stays s b.view cs are is has (subst (λ v. Keeps v b.view) at full.enters.lends.keeps)
@@ -78,7 +79,7 @@ received_stock stays s n titles is has both =
     (λ h m. stays h s.view (united s.view n) m (left_begins s.view n h.partition both)) (λ t. omega (arith, sum_by-append (λ (u : Title). one (same_title u t)) s.view.frees n.frees))
 
 -- the thread state with a list that was loaded
-pub loaded_stock : (s : StockValue) (p c : ℕ) (ts : List Title) (words : ℕ) → IsStock s → CanLoad p c ts s → c < 59 → IsCache (record { class = c; titles = ts }) →
+pub loaded_stock : (s : StockValue) (p c : ℕ) (ts : List Title) (words : ℕ) → IsStock s → CanLoad p c ts s → HasClass s.caches.version c → IsCache (record { class = c; titles = ts }) →
     All (IsWellFormed words) ts → IsStock (record s { caches = with_listed p c ts s.caches })
 loaded_stock s p c ts words is can small sound placed =
     relisted_stock s p c ts is can.partition small sound can.few

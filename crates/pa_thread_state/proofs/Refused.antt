@@ -1,10 +1,9 @@
 -- What a root refused: the seat that took it in again, a batch that is on no list, and a slot that is left over.
-use Rattle.std.proofs.Common.{◌≡◌, ℕ, ◌+◌, ◌-◌, ◌<◌, List, [], ◌∷◌, ◌++◌, Result, Ok, Err, Some, None, sym, ◌∙◌, ap, subst, arith, inl, inr}
+use Rattle.std.proofs.Common.{◌≡◌, ℕ, ◌<◌, List, [], ◌∷◌, ◌++◌, Result, Ok, Err, Some, None, sym, ◌∙◌, ap, subst, arith, inl, inr}
 use Rattle.std.specs.Prelude.{◌≢◌, AllPairs, Contains, OnErr, slice_index}
 use Rattle.std.proofs.lemmas.List.{append-nil}
 use Rattle.pa_slot.specs.declared.title.Title.{Title}
 use Rattle.pa_slot.specs.Holdings.{FreeTitle}
-use Rattle.pa_buckets.specs.Bands.{limit_of}
 use Rattle.pa_region.specs.declared.view.Stake.{Stake}
 use Rattle.pa_region.specs.declared.view.View.{View}
 use Rattle.pa_region.specs.Views.{free_of, seen_of}
@@ -24,11 +23,12 @@ use Rattle.pa_op_specs.proofs.Seeing.{made_kept}
 use Rattle.pa_thread_state.specs.Allocating.{BecomesList, with_listed}
 use Rattle.pa_thread_state.specs.Changes.{IsBack}
 use Rattle.pa_thread_state.specs.Giving.{TakesBack}
-use Rattle.pa_thread_state.specs.Homing.{without_title, note_of_title}
+use Rattle.pa_thread_state.specs.Homing.{KeepsNoList, without_title, note_of_title}
 use Rattle.pa_thread_state.specs.Stopping.{KeepsAll, RefusesBatch, StopsTail, IsLeftOver}
-use Rattle.pa_thread_state.proofs.Fronting.{titles_at}
+use Rattle.pa_thread_state.proofs.Places.{titles_here}
+use Rattle.pa_rules.specs.Sizes.{HasClass}
 use Rattle.pa_thread_state.proofs.HandedBack.{begins_again, rest_listed, taken_free}
-use Rattle.pa_thread_state.proofs.Lists.{set_titles, in_batch, rest_or_batch}
+use Rattle.pa_thread_state.proofs.TitleLists.{set_titles, in_batch, rest_or_batch}
 use Rattle.pa_thread_state.proofs.Relisting.{listed_cases}
 use Rattle.pa_thread_state.proofs.Staying.{words_again}
 
@@ -82,11 +82,11 @@ came_back seen longest h s part mid after note back part_is note_is parted mid_i
 
 -- ---- a batch that is on no list
 
-batch_alone : (s b : StockValue) (p c keep : ℕ) → IsStock s → p < 4 → c < 59 → BecomesList p c (rest_after keep (titles_in s.caches p c)) s b →
+batch_alone : (s b : StockValue) (p c keep : ℕ) → IsStock s → p < 4 → HasClass s.caches.version c → BecomesList p c (rest_after keep (titles_in s.caches p c)) s b →
     (t : Title) → Contains (batch_after keep (titles_in s.caches p c)) t → (q d : ℕ) → Contains (titles_in b.caches q d) t → ⊥
 batch_alone s b p c keep is low small takes t batch q d there =
     let ts = titles_in s.caches p c in
-    let whole : AllPairs ◌≢◌ ts = subst (AllPairs ◌≢◌) (titles_at s.caches p c small) (is.lists.sound (cache_place p c)).different in
+    let whole : AllPairs ◌≢◌ ts = subst (AllPairs ◌≢◌) (sym (titles_here s.caches p c small)) (is.lists.sound (cache_place s.caches.version p c)).different in
     let now : Contains (titles_in (with_listed p c (rest_after keep ts) s.caches) q d) t =
     subst (λ (z : StockValue). Contains (titles_in z.caches q d) t) takes.after_is there in
     elim (listed_cases s.caches p c (rest_after keep ts) q d low small is.lists.count) [
@@ -95,7 +95,7 @@ batch_alone s b p c keep is low small takes t batch q d there =
     ]
 
 -- it was taken off its list, and the seat took it in again
-pub refused : (s b after : StockValue) (w : View) (p c keep : ℕ) → IsStock s → p < 4 → c < 59 →
+pub refused : (s b after : StockValue) (w : View) (p c keep : ℕ) → IsStock s → p < 4 → HasClass s.caches.version c →
     BecomesList p c (rest_after keep (titles_in s.caches p c)) s b → TakesBack b.view w → after ≡ record b { view = w } → RefusesBatch p c keep s after
 refused s b after w p c keep is low small takes back after_is = record {
   between = b;
@@ -153,12 +153,12 @@ stopped_is_back stays line p c keep h s after back stops =
     }
 
 -- The handle of a direct map has no class. So any class of it would keep no list.
-pub no_class : (h : Handle) → h.class ≡ None → (class : ℕ) → h.class ≡ Some class → limit_of class ≡ 0
-no_class h none class some = absurd (let bad : None ≡ Some class = sym none ∙ some in cc)
+pub no_class : (h : Handle) (s : StockValue) → h.class ≡ None → KeepsNoList h s
+no_class h s none class some real = absurd (let bad : None ≡ Some class = sym none ∙ some in cc)
 
 -- it was to go to its root alone
 pub left_alone : {A E : Type 0} (line : ℕ) (h : Handle) (s after : StockValue) (result : Result A E) →
-    ((class : ℕ) → h.class ≡ Some class → limit_of class ≡ 0) → OnErr result (KeepsAll s after) → OnErr result (IsBack h after) →
+    KeepsNoList h s → OnErr result (KeepsAll s after) → OnErr result (IsBack h after) →
     OnErr result (IsLeftOver line h s after)
 left_alone line h s after (Ok x) none keeps back = tt
 left_alone line h s after (Err e) none keeps back = record { back = back; stopped = inl (none, keeps) }

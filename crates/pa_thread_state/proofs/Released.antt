@@ -36,7 +36,8 @@ reset_back s mid r h seen is aware below ref gone free =
       made = subst (λ (z : StockValue). HasSeenMade h z.view) (sym gone.after_is) (made_kept h s.view (after_count steps.Reset h.title seen.found.0 s.view) refl knows.1);
     }
 
-pub free_back : (s mid : StockValue) (r : ℕ) (h : Handle) (seen : Seen) → IsStock s → IsAware s.view → r < 64 → register_in s.registers r ≡ Own h → LetsGo steps.Free h r Freed (poisoned h.title s.view) seen s mid →
+pub free_back : (s mid : StockValue) (r : ℕ) (h : Handle) (seen : Seen) → IsStock s → IsAware s.view → r < 64
+    → register_in s.registers r ≡ Own h → LetsGo steps.Free h r Freed (poisoned h.title s.view) seen s mid →
     free_of mid.view h.title ≡ 1 → IsBack h mid
 free_back s mid r h seen is aware below own gone free =
     let knows = register_has s r h is below (inl own) in

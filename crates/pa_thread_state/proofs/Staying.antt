@@ -1,8 +1,7 @@
 -- Calls that leave a worker's lists: each listed title is free still, and has the first word that it had.
-use Rattle.std.proofs.Common.{◌≡◌, ℕ, ◌+◌, ◌/◌, ◌<◌, Bool, true, false, List, length, refl, sym, ◌∙◌, ap, subst, arith, ◌⊎◌, inl, inr, ltb}
+use Rattle.std.proofs.Common.{◌≡◌, ℕ, ◌+◌, ◌*◌, ◌/◌, ◌<◌, Bool, true, false, List, length, refl, sym, ◌∙◌, ap, subst, arith, ◌⊎◌, inl, inr, ltb}
 use Rattle.std.specs.Prelude.{All, Contains, slice_index, if◌then◌else◌}
 use Rattle.std.proofs.lemmas.Bool.{cases_lt}
-use Rattle.std.proofs.lemmas.List.{length-map}
 use Rattle.pa_slot.specs.declared.title.Title.{Title}
 use Rattle.pa_slot.specs.Titles.{IsWellFormed, content_count, count_place}
 use Rattle.pa_slot.specs.Links.{first_word}
@@ -18,15 +17,16 @@ use Rattle.pa_region.proofs.Filled.{filled_beside}
 use Rattle.pa_region.proofs.Merging.{merged_at}
 use Rattle.pa_region.proofs.TakeLaws.{left_known}
 use Rattle.pa_root.proofs.Seeing.{free_kept}
-use Rattle.pa_cache.specs.Caches.{CacheList}
-use Rattle.pa_cache.specs.Chained.{CacheParts, HoldsList, list_in}
+use Rattle.pa_rules.specs.Sizes.{class_total}
+use Rattle.pa_cache.specs.Chained.{HoldsList}
 use Rattle.pa_cells.specs.Handles.{SlotsStaySeen}
-use Rattle.pa_op_specs.specs.Stocks.{StockRegister, StockValue, IsStock, titles_in}
+use Rattle.pa_op_specs.specs.Stocks.{StockRegister, StockValue, WorkerLists, IsStock, titles_in}
 use Rattle.pa_thread_state.proofs.Parking.{kept_stock}
-use Rattle.pa_thread_state.proofs.Chained.{lists_in, lists_kept}
+use Rattle.pa_thread_state.specs.Lists.{WorkerCaches, lists_in}
+use Rattle.pa_thread_state.proofs.Chained.{as_many, lists_kept}
 
 -- the thread state that these make: its lists are those that the view has of the caches
-abbrev pub stock_of : (thread partitions : ℕ) → View → List StockRegister → List CacheParts → StockValue
+abbrev pub stock_of : (thread partitions : ℕ) → View → List StockRegister → WorkerCaches → StockValue
 stock_of thread partitions v rs cs = record { thread = thread; partitions = partitions; view = v; registers = rs; caches = lists_in v cs }
 
 -- each listed title has in the other view the first word that it has
@@ -35,15 +35,17 @@ FirstsStay s w =
     (p class : ℕ) (t : Title) → Contains (titles_in s.caches p class) t → first_word w.words (name_of t) ≡ first_word s.view.words (name_of t)
 
 -- A seat with view w has of the caches the lists that the thread state has, which is sound with it.
-pub record HasThem (s : StockValue) (w : View) (rs : List StockRegister) (cs : List CacheParts) : Type 0 where
+pub record HasThem (s : StockValue) (w : View) (rs : List StockRegister) (cs : WorkerCaches) : Type 0 where
   pub same : lists_in w cs ≡ s.caches
   pub stock : IsStock (record s { view = w; registers = rs; caches = lists_in w cs })
-  pub holds : All (HoldsList w) cs
+  pub holds : All (HoldsList w) cs.parts
 
-pub has_still : (s : StockValue) (w : View) (rs : List StockRegister) (cs : List CacheParts) → s.caches ≡ lists_in s.view cs → IsStock s →
-    All (HoldsList s.view) cs → IsStock (record s { view = w; registers = rs }) → FirstsStay s w → HasThem s w rs cs
+pub has_still : (s : StockValue) (w : View) (rs : List StockRegister) (cs : WorkerCaches) → s.caches ≡ lists_in s.view cs → IsStock s →
+    All (HoldsList s.view) cs.parts → IsStock (record s { view = w; registers = rs }) → FirstsStay s w → HasThem s w rs cs
 has_still s w rs cs are was has now firsts =
-    let long : length cs ≡ 236 = sym (length-map cs (list_in s.view)) ∙ (ap (λ (ls : List CacheList). length ls) (sym are) ∙ was.lists.count) in
+    let many : length (lists_in s.view cs).lists ≡ 4 * class_total cs.version =
+    subst (λ (ls : WorkerLists). length ls.lists ≡ 4 * class_total ls.version) are was.lists.count in
+    let long = as_many s.view cs many in
     let kept = lists_kept s.view w cs long has (λ p class t among.
     let there = subst (λ ls. Contains (titles_in ls p class) t) (sym are) among in
     (now.lists.free p class t there, firsts p class t there)) in
@@ -55,12 +57,12 @@ has_still s w rs cs are was has now firsts =
     }
 
 -- a seat whose view w is x has the thread's lists, if with x the thread state is sound and first words of listed titles stay
-pub has_as : (s : StockValue) (w x : View) (rs : List StockRegister) (cs : List CacheParts) → w ≡ x → s.caches ≡ lists_in s.view cs → IsStock s →
-    All (HoldsList s.view) cs → IsStock (record s { view = x; registers = rs }) → FirstsStay s x → HasThem s w rs cs
+pub has_as : (s : StockValue) (w x : View) (rs : List StockRegister) (cs : WorkerCaches) → w ≡ x → s.caches ≡ lists_in s.view cs → IsStock s →
+    All (HoldsList s.view) cs.parts → IsStock (record s { view = x; registers = rs }) → FirstsStay s x → HasThem s w rs cs
 has_as s w x rs cs e are was has now firsts = subst (λ v. HasThem s v rs cs) (sym e) (has_still s x rs cs are was has now firsts)
 
 -- if the seat has the thread's lists, the thread state made of its parts is the one before with view x and registers rs
-pub after_as : (s : StockValue) (w x : View) (rs : List StockRegister) (cs : List CacheParts) → w ≡ x → HasThem s w rs cs →
+pub after_as : (s : StockValue) (w x : View) (rs : List StockRegister) (cs : WorkerCaches) → w ≡ x → HasThem s w rs cs →
     record s { view = w; registers = rs; caches = lists_in w cs } ≡ record s { view = x; registers = rs }
 after_as s w x rs cs e them =
     ap (λ ls. record s { view = w; registers = rs; caches = ls }) them.same ∙ ap (λ v. record s { view = v; registers = rs }) e
@@ -79,11 +81,11 @@ pub firsts_keep : (s : StockValue) (w : View) → IsStock s → Keeps s.view w �
 firsts_keep s w is keeps p class t among = keeps.words (t.start / 8) (knows_first s p class t is among)
 
 -- a seat still has the thread's lists if its view keeps all it had, or is unchanged
-pub kept_has : SlotsStaySeen → (s : StockValue) (w : View) (cs : List CacheParts) → s.caches ≡ lists_in s.view cs → IsStock s →
-    All (HoldsList s.view) cs → Keeps s.view w → HasThem s w s.registers cs
+pub kept_has : SlotsStaySeen → (s : StockValue) (w : View) (cs : WorkerCaches) → s.caches ≡ lists_in s.view cs → IsStock s →
+    All (HoldsList s.view) cs.parts → Keeps s.view w → HasThem s w s.registers cs
 kept_has stays s w cs are is has keeps = has_still s w s.registers cs are is has (kept_stock stays s w is keeps) (firsts_keep s w is keeps)
 
-pub same_has : (s : StockValue) (w : View) (cs : List CacheParts) → s.caches ≡ lists_in s.view cs → IsStock s → All (HoldsList s.view) cs →
+pub same_has : (s : StockValue) (w : View) (cs : WorkerCaches) → s.caches ≡ lists_in s.view cs → IsStock s → All (HoldsList s.view) cs.parts →
     w ≡ s.view → HasThem s w s.registers cs
 same_has s w cs are is has same = has_as s w s.view s.registers cs same are is has is (λ p class t among. refl)
 

@@ -13,7 +13,7 @@ use Rattle.pa_op_specs.specs.Stocks.{StockValue, IsStock, titles_in, listed_in}
 use Rattle.pa_op_specs.specs.Workers.{HasItsStake}
 use Rattle.pa_thread_state.specs.Giving.{Gives, GivesTail, GivesBatch, GivesBatches, with_titles}
 use Rattle.pa_op_specs.proofs.Quiet.{same_titles}
-use Rattle.pa_thread_state.proofs.Lists.{this_list, other_list, in_batch}
+use Rattle.pa_thread_state.proofs.TitleLists.{this_list, other_list, in_batch}
 use Rattle.pa_thread_state.proofs.HandedBack.{gives_none, gives_left, gives_on}
 use Rattle.pa_rules.proofs.Batches.{gives_more}
 
@@ -33,7 +33,8 @@ some_none line p c keep s =
     let whole : ts ≡ outside keep (keep + 16 * 0) ts = sym (ap (λ m. outside keep m ts) e ∙ take-append-drop keep ts) in
     record {
       acts = [];
-      given = gives_left line p [] (titles_in s.caches) (with_titles p c (outside keep (keep + 16 * 0) ts) (titles_in s.caches)) s s (gives_none line p s) (λ q d. same q d (outside keep (keep + 16 * 0) ts) whole);
+      given = gives_left line p [] (titles_in s.caches) (with_titles p c (outside keep (keep + 16 * 0) ts) (titles_in s.caches)) s s
+          (gives_none line p s) (λ q d. same q d (outside keep (keep + 16 * 0) ts) whole);
       rest = ap (λ m. gives (numbered_by s.view (drop m ts))) e ∙ ap gives (sym (drop-map (at_number_seen s.view) keep ts));
     }
   where
@@ -98,7 +99,8 @@ some_more line p c keep n s now next is some batch more =
     ∙ ap (λ vs. take keep ts ++ vs) (sym (drop-drop 16 keep us) ∙ (ap (drop 16) later ∙ (drop-drop 16 m ts ∙ ap (λ k. drop k ts) at))) in
     record {
       acts = some.acts ++ act ∷ [];
-      given = gives_left line p (some.acts ++ act ∷ []) (with_titles p c (rest_after keep us) (titles_in now.caches)) (with_titles p c (outside keep (keep + 16 * (n + 1)) ts) (titles_in s.caches)) s next
+      given = gives_left line p (some.acts ++ act ∷ []) (with_titles p c (rest_after keep us) (titles_in now.caches))
+          (with_titles p c (outside keep (keep + 16 * (n + 1)) ts) (titles_in s.caches)) s next
           (gives_on line p some.acts (act ∷ []) (with_titles p c (outside keep m ts) (titles_in s.caches)) (with_titles p c (rest_after keep us) (titles_in now.caches)) s now next some.given batch)
           (with_same p c (rest_after keep us) (outside keep (keep + 16 * (n + 1)) ts) (titles_in now.caches) (titles_in s.caches) stays
           (λ q d other. some.given.kept q d ∙ other_list p c (outside keep m ts) (titles_in s.caches) q d other));

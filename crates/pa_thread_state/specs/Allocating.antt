@@ -3,7 +3,6 @@ use Rattle.std.specs.Prelude.{◌≡◌, ℕ, ◌-◌, ◌<◌, ◌≤◌, List,
 use Rattle.pa_slot.specs.declared.title.Title.{Title}
 use Rattle.pa_slot.specs.declared.word.Step.TheVariants.{Issue}
 use Rattle.pa_slot.specs.Count.{number_of}
-use Rattle.pa_buckets.specs.Limits.{sparse_count}
 use Rattle.pa_buckets.specs.Bands.{fill_of, limit_of}
 use Rattle.pa_buckets.specs.Table.{slot_of}
 use Rattle.pa_record.specs.declared.entry.Answer.{Answer}
@@ -19,18 +18,23 @@ use Rattle.pa_region.specs.Aware.{IsAware}
 use Rattle.pa_region.specs.Shares.{Share}
 use Rattle.pa_link.specs.Chains.{Relinked}
 use Rattle.pa_quarantine.specs.Filling.{zeroed}
-use Rattle.pa_cache.specs.Caches.{CacheList}
 use Rattle.pa_root.specs.declared.fault.FillFault.{FillFault}
 use Rattle.pa_root.specs.declared.fault.FillFault.TheVariants.{Full, OutOfMemory}
 use Rattle.pa_root.specs.Handing.{HasOnly, FillGives, MapGives, IsFullFor}
 use Rattle.pa_cells.specs.declared.handle.Handle.{Handle}
 use Rattle.pa_cells.specs.Handles.{HasSeenMade}
+use Rattle.pa_rules.specs.Sizes.{HasClass}
+use Rattle.pa_cache.specs.Caches.{CacheList}
 use Rattle.pa_rules.specs.declared.register.Register.TheVariants.{Own}
-use Rattle.pa_op_specs.specs.Stocks.{StockValue, cache_place, titles_in, listed_slot}
+use Rattle.pa_op_specs.specs.Stocks.{StockValue, WorkerLists, cache_place, titles_in, listed_slot}
+
+-- the caches with this one for a partition and a class
+abbrev pub with_list_at : ℕ → ℕ → CacheList → WorkerLists → WorkerLists
+with_list_at p class list caches = record caches { lists = slice_set caches.lists (cache_place caches.version p class) list }
 
 -- the caches when the list of a partition and a class has these titles
-abbrev pub with_listed : ℕ → ℕ → List Title → List CacheList → List CacheList
-with_listed p class titles caches = slice_set caches (cache_place p class) (record { class = class; titles = titles })
+abbrev pub with_listed : ℕ → ℕ → List Title → WorkerLists → WorkerLists
+with_listed p class titles caches = with_list_at p class (record { class = class; titles = titles }) caches
 
 -- These titles became the list of a partition and a class, and links were stored for them.
 pub record BecomesList (p class : ℕ) (titles : List Title) (before after : StockValue) : Type 0 where
@@ -39,7 +43,7 @@ pub record BecomesList (p class : ℕ) (titles : List Title) (before after : Sto
 
 -- The front left the list of a partition and a class.
 pub record TakesFront (p class : ℕ) (t : Title) (before after : StockValue) : Type 0 where
-  pub small : class < sparse_count
+  pub real : HasClass before.caches.version class
   pub rest : List Title
   pub was : titles_in before.caches p class ≡ t ∷ rest
   pub long : t.len ≡ slot_of class
@@ -93,7 +97,7 @@ pub record FillsList (line p class : ℕ) (t : Title) (before after : StockValue
   pub gives : FillGives before.thread p line class (fill_of class) before.view asked note (t ∷ rest)
   pub awares : IsAware asked × IsAware note × IsAware (united asked note)
   pub long : length asked.words ≡ length note.words
-  pub small : class < sparse_count
+  pub real : HasClass before.caches.version class
   pub empty : titles_in before.caches p class ≡ []
   pub loaded : BecomesList p class rest (record before { view = united asked note }) after
 

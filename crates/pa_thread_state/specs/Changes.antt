@@ -1,10 +1,9 @@
 -- How single calls of a worker's seat change its thread state.
-use Rattle.std.specs.Prelude.{◌≡◌, ℕ, ◌+◌, ◌<◌, ◌≤◌, Bool, true, false, List, ◌∷◌, length, Some, Contains, slice_set}
+use Rattle.std.specs.Prelude.{◌≡◌, ℕ, ◌+◌, ◌<◌, ◌≤◌, Bool, true, false, ◌∷◌, length, Some, Contains, slice_set}
 use Rattle.pa_slot.specs.declared.title.Title.{Title}
 use Rattle.pa_slot.specs.declared.word.Step.{Step}
 use Rattle.pa_slot.specs.declared.word.Step.TheVariants.{Copy, Write}
 use Rattle.pa_slot.specs.Titles.{IsWellFormed}
-use Rattle.pa_buckets.specs.Limits.{sparse_count}
 use Rattle.pa_buckets.specs.Bands.{limit_of}
 use Rattle.pa_slot.specs.declared.title.OwnState.TheVariants.{Clean, Dirty}
 use Rattle.pa_slot.specs.Count.{CanStep}
@@ -16,11 +15,11 @@ use Rattle.pa_region.specs.Moves.{IsFound, after_count, after_look}
 use Rattle.pa_region.specs.Loads.{after_read}
 use Rattle.pa_link.specs.Chains.{Relinked}
 use Rattle.pa_quarantine.specs.Filling.{filled}
-use Rattle.pa_cache.specs.Caches.{CacheList}
 use Rattle.pa_cells.specs.declared.handle.Handle.{Handle}
 use Rattle.pa_cells.specs.Handles.{HasSeenMade}
+use Rattle.pa_rules.specs.Sizes.{HasClass}
 use Rattle.pa_rules.specs.declared.register.Register.TheVariants.{Ref}
-use Rattle.pa_op_specs.specs.Stocks.{StockRegister, StockValue, cache_place, titles_in}
+use Rattle.pa_op_specs.specs.Stocks.{StockRegister, StockValue, WorkerLists, cache_place, titles_in}
 
 -- The seat looked at the handle's slot, and saw this.
 pub record LooksAtSlot (h : Handle) (seen : Seen) (before after : StockValue) : Type 0 where
@@ -61,9 +60,11 @@ pub record PointsTo (h : Handle) (to : ℕ) (seen : Seen) (before after : StockV
   pub found : IsFound h.title seen.found.0 before.view
 
 -- the caches with this title at the front of the list of a partition and a class
-abbrev pub put_in_front : ℕ → ℕ → Title → List CacheList → List CacheList
+abbrev pub put_in_front : ℕ → ℕ → Title → WorkerLists → WorkerLists
 put_in_front p class t caches =
-    slice_set caches (cache_place p class) (record { class = class; titles = t ∷ titles_in caches p class })
+    record caches {
+      lists = slice_set caches.lists (cache_place caches.version p class) (record { class = class; titles = t ∷ titles_in caches p class });
+    }
 
 -- The title became the front of the list of its partition and class, and a link was stored for it.
 pub record BecomesFront (h : Handle) (class : ℕ) (before after : StockValue) : Type 0 where
@@ -86,13 +87,15 @@ pub record IsBack (h : Handle) (s : StockValue) : Type 0 where
   pub new : (p class : ℕ) → Contains (titles_in s.caches p class) h.title → ⊥
   pub made : HasSeenMade h s.view
 
--- the slot can't go to a list as that is: it is a direct map's, or the list of its class is as long as it may be
+-- the slot can't go to a list as that is: it is a direct map's or of a class of another version, or the list of its class is as long as it
+-- may be
 abbrev pub NeedsRoot : Handle → StockValue → Type 0
-NeedsRoot h s = (class : ℕ) → h.class ≡ Some class → limit_of class ≤ length (titles_in s.caches h.partition class)
+NeedsRoot h s =
+    (class : ℕ) → h.class ≡ Some class → HasClass s.caches.version class → limit_of class ≤ length (titles_in s.caches h.partition class)
 
 -- The slot was put at the front of the list of its class, which had room, or nothing was done, and the slot needs the root.
 abbrev pub IsPut : Bool → Handle → (before after : StockValue) → Type 0
 IsPut true h before after =
-    (class : ℕ) × (h.class ≡ Some class) × (class < sparse_count) × (length (titles_in before.caches h.partition class) < limit_of class)
+    (class : ℕ) × (h.class ≡ Some class) × HasClass before.caches.version class × (length (titles_in before.caches h.partition class) < limit_of class)
     × BecomesFront h class before after
 IsPut false h before after = (after ≡ before) × NeedsRoot h before

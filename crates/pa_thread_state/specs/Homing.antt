@@ -2,11 +2,11 @@
 -- the list's tail went back.
 use Rattle.std.specs.Prelude.{◌≡◌, ℕ, ◌-◌, ◌/◌, ◌<◌, ◌⊎◌, [], ◌∷◌, Option, Some, None}
 use Rattle.pa_slot.specs.declared.title.Title.{Title}
-use Rattle.pa_buckets.specs.Limits.{sparse_count}
 use Rattle.pa_buckets.specs.Bands.{limit_of}
 use Rattle.pa_region.specs.declared.view.View.{View}
 use Rattle.pa_region.specs.Hands.{left_after, given_after}
 use Rattle.pa_rules.specs.Caches.{SameLists}
+use Rattle.pa_rules.specs.Sizes.{HasClass}
 use Rattle.pa_root.specs.Filling.{frees_parcel}
 use Rattle.pa_root.specs.Handing.{GiveTakes, UnmapTakes}
 use Rattle.pa_cells.specs.declared.handle.Handle.{Handle}
@@ -41,8 +41,13 @@ pub record Spills (line : ℕ) (h : Handle) (class : ℕ) (before after : StockV
   pub gives : GivesTail line h.partition class (limit_of class / 2 - 1) before between
   pub front : BecomesFront h class between after
 
--- The slot is where it belongs. A direct map, or a slot of a class that keeps no list, is in its root. Else its list spilled.
+-- the slot's class keeps no list, if it has one and that is of the version
+abbrev pub KeepsNoList : Handle → StockValue → Type 0
+KeepsNoList h s = (class : ℕ) → h.class ≡ Some class → HasClass s.caches.version class → limit_of class ≡ 0
+
+-- The slot is where it belongs. A direct map, or a slot of a class that keeps no list, as those of another version, is in its root. Else
+-- its list spilled.
 abbrev pub IsSettled : ℕ → Handle → (before after : StockValue) → Type 0
 IsSettled line h before after =
-    (((class : ℕ) → h.class ≡ Some class → (class < sparse_count) × (limit_of class ≡ 0)) × GoesHome line h before after)
-    ⊎ ((class : ℕ) × (h.class ≡ Some class) × (class < sparse_count) × (0 < limit_of class) × Spills line h class before after)
+    (KeepsNoList h before × GoesHome line h before after)
+    ⊎ ((class : ℕ) × (h.class ≡ Some class) × HasClass before.caches.version class × (0 < limit_of class) × Spills line h class before after)

@@ -8,3 +8,4 @@ pub mod Releasing
 pub mod Purging
 pub mod Allocating
 pub mod Stopping
+pub mod Lists

@@ -3,11 +3,11 @@ use Rattle.std.specs.Prelude.{◌≡◌, ℕ, ◌+◌, ◌-◌, ◌*◌, ◌/◌
 use Rattle.pa_slot.specs.declared.title.Title.{Title}
 use Rattle.pa_slot.specs.declared.word.Step.{Step}
 use Rattle.pa_slot.specs.Run.{IsReturning}
-use Rattle.pa_buckets.specs.Limits.{sparse_count}
 use Rattle.pa_buckets.specs.Bands.{limit_of}
 use Rattle.pa_record.specs.declared.entry.Seen.{Seen}
 use Rattle.pa_region.specs.declared.view.View.{View}
 use Rattle.pa_region.specs.Views.{free_of}
+use Rattle.pa_rules.specs.Sizes.{HasClass}
 use Rattle.pa_cache.specs.Caches.{batch_after, rest_after}
 use Rattle.pa_cells.specs.declared.handle.Handle.{Handle}
 use Rattle.pa_op_specs.specs.Stocks.{StockRegister, StockValue, titles_in}
@@ -15,7 +15,8 @@ use Rattle.pa_op_specs.specs.Workers.{HasItsStake}
 use Rattle.pa_thread_state.specs.Allocating.{BecomesList}
 use Rattle.pa_thread_state.specs.Changes.{IsBack, LetsGo, NeedsRoot}
 use Rattle.pa_thread_state.specs.Giving.{GivesBatches, TakesBack, with_titles}
-use Rattle.pa_thread_state.specs.Purging.{GivesLists}
+use Rattle.pa_thread_state.specs.Homing.{KeepsNoList}
+use Rattle.pa_thread_state.specs.Purging.{GivesLists, IsCleared}
 
 -- The thread state is of the same thread, and has its stake.
 pub record KeepsItsStake (before after : StockValue) : Type 0 where
@@ -47,20 +48,20 @@ pub record StopsTail (line p class keep : ℕ) (before after : StockValue) : Typ
   pub gave : GivesBatches line p class keep batches before between
   pub refused : RefusesBatch p class keep between after
 
--- Of a purge of partition p the lists of the first `classes` classes went back. Then the next list's tail stopped, or those were all,
--- and the root wasn't purged.
+-- Of a purge of partition p the lists of the classes before `classes` went back. Then the tail of that class's list stopped, or no list
+-- has a title any more, and the root wasn't purged.
 pub record StopsPartition (line p : ℕ) (before after : StockValue) : Type 0 where
   pub classes : ℕ
   pub between : StockValue
   pub gave : GivesLists line p classes before between
-  pub stopped : ((classes < sparse_count) × StopsTail line p classes 0 between after) ⊎ ((classes ≡ sparse_count) × (after ≡ between))
+  pub stopped : (HasClass before.caches.version classes × StopsTail line p classes 0 between after) ⊎ (IsCleared p between × (after ≡ between))
 
 -- A slot that a step returned isn't where it belongs: its title is free in the seat and on no list. It was to go to its root alone,
 -- and nothing else is another, or the tail of its list stopped, of which more than half the limit was to go back.
 pub record IsLeftOver (line : ℕ) (h : Handle) (before after : StockValue) : Type 0 where
   pub back : IsBack h after
   pub stopped :
-      (((class : ℕ) → h.class ≡ Some class → limit_of class ≡ 0) × KeepsAll before after)
+      (KeepsNoList h before × KeepsAll before after)
       ⊎ ((class : ℕ) × (h.class ≡ Some class) × (0 < limit_of class) × StopsTail line h.partition class (limit_of class / 2 - 1) before after)
 
 -- A reset or a free ran out of memory. Its step is made, and the register has `instead`, as if it hadn't. The step returned the slot,

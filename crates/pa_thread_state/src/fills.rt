@@ -1,7 +1,7 @@
 ghost use Rattle.std.specs.Prelude.{◌≡◌, ℕ, ◌<◌, [], None, Some, IfOk, IfErr, List, All};
-ghost use Rattle.pa_buckets.specs.Limits.{sparse_count};
 ghost use Rattle.pa_buckets.specs.Bands.{fill_of};
 ghost use Rattle.pa_trace.specs.Limits.{most_partitions};
+ghost use Rattle.pa_rules.specs.Sizes.{HasClass};
 ghost use Rattle.pa_cache.specs.Caches.{HoldsFree};
 ghost use Rattle.pa_direct.specs.Shapes.{IsShape};
 ghost use Rattle.pa_slot.specs.declared.title.Title.{Title};
@@ -14,7 +14,6 @@ ghost use Rattle.pa_thread_state.specs.Allocating.{BecomesList, CanLoad, FillsLi
 
 use crate::asks::{fill_from, map_from};
 use crate::heap::Heap;
-use crate::listing::place_of;
 use crate::stock::Stock;
 use arrayvec::ArrayVec;
 use pa_buckets::Class;
@@ -39,7 +38,7 @@ impl<N: Name> Stock<N> {
     ) -> Result<Title, FillFault>
         requires stake { HasItsStake self.old }
         requires partition { partition < most_partitions }
-        requires small { class < sparse_count }
+        requires class { HasClass self.old.caches.version class }
         requires empty { titles_in self.old.caches partition class ≡ [] }
         ensures filled { IfOk result (λ t. FillsList line partition class t self.old self.new) }
         ensures none { IfErr result (FindsNone line partition 1 (Some class) self.old self.new) }
@@ -146,16 +145,14 @@ impl<N: Name> Stock<N> {
     // Loads these titles into the empty list of a partition and a class.
     fn load(&mut self, heap: &Heap<N>, partition: u32, class: Class, titles: &[Title])
         requires can { CanLoad partition class titles.now self.old }
-        requires small { class < sparse_count }
-        ensures small { class < sparse_count }
+        requires class { HasClass self.old.caches.version class }
         ensures loaded { BecomesList partition class titles.now self.old self.new }
     {
         other_lists_stay();
         self.kept();
         all_placed(&self.seat, titles);
-        let place = place_of(partition, class);
-        let cache = &mut self.caches[place];
-        cache.load(heap.region(), &mut self.seat, titles);
+        self.caches
+            .load(heap.region(), &mut self.seat, partition, class, titles);
     }
 }
 

@@ -1,9 +1,9 @@
 //! Slots of a list that go back to the root of their partition.
 ghost use Rattle.std.specs.Prelude.{◌≡◌, ◌≢◌, ℕ, ◌+◌, ◌*◌, ◌<◌, ◌≤◌, length, map, take, AllPairs, Contains, OnOk, OnErr, IfErr};
 ghost use Rattle.pa_record.specs.declared.root.RootAct.TheVariants.{Give};
-ghost use Rattle.pa_buckets.specs.Limits.{sparse_count};
 ghost use Rattle.pa_trace.specs.Limits.{most_partitions};
 ghost use Rattle.pa_region.specs.Views.{least_stake};
+ghost use Rattle.pa_rules.specs.Sizes.{HasClass};
 ghost use Rattle.pa_region.specs.Lending.{CanLend};
 ghost use Rattle.pa_region.specs.Hands.{left_after, given_after, IsParted};
 ghost use Rattle.pa_cache.specs.Caches.{HoldsFree, batch_after, rest_after};
@@ -16,7 +16,6 @@ ghost use Rattle.pa_thread_state.specs.Giving.{GivesTail, GivesBatch, HandsBack,
 ghost use Rattle.pa_thread_state.specs.Stopping.{KeepsItsStake, RefusesBatch, StopsTail};
 
 use crate::heap::Heap;
-use crate::listing::place_of;
 use crate::roots::with_root;
 use crate::stock::Stock;
 use arrayvec::ArrayVec;
@@ -47,7 +46,7 @@ impl<N: Name> Stock<N> {
     ) -> Result<(), OutOfMemory>
         requires stake { HasItsStake self.old }
         requires partition { partition < most_partitions }
-        requires small { class < sparse_count }
+        requires class { HasClass self.old.caches.version class }
         ensures gives { OnOk result (GivesTail line partition class keep self.old self.new) }
         ensures stake { OnErr result (KeepsItsStake self.old self.new) }
         ensures stops { OnErr result (StopsTail line partition class keep self.old self.new) }
@@ -67,7 +66,7 @@ impl<N: Name> Stock<N> {
     // How many batches the titles of a list after its first `keep` make.
     fn batches_behind(&self, partition: u32, class: Class, keep: u32) -> u32
         requires partition { partition < most_partitions }
-        requires small { class < sparse_count }
+        requires class { HasClass self.now.caches.version class }
         ensures all { length (titles_in self.now.caches partition class) ≤ keep + 16 * result }
         ensures no_more { (n : ℕ) → n < result → keep + 16 * n < length (titles_in self.now.caches partition class) }
     {
@@ -89,16 +88,15 @@ impl<N: Name> Stock<N> {
     ) -> ArrayVec<Title, 16>
         requires region { region.now ≡ N.region }
         requires partition { partition < most_partitions }
-        requires small { class < sparse_count }
+        requires class { HasClass self.old.caches.version class }
         ensures titles { result.items ≡ batch_after keep (titles_in self.old.caches partition class) }
         ensures different { AllPairs ◌≢◌ result.items }
         ensures rest { BecomesList partition class (rest_after keep (titles_in self.old.caches partition class)) self.old self.new }
     {
         other_lists_stay();
         self.kept();
-        let place = place_of(partition, class);
-        let cache = &mut self.caches[place];
-        cache.spill(region, &mut self.seat, keep)
+        self.caches
+            .spill(region, &mut self.seat, partition, class, keep)
     }
 
     // Gives the first 16 titles of a list after its first `keep` back, or all of them if there are fewer. If it runs out of memory,
@@ -114,7 +112,7 @@ impl<N: Name> Stock<N> {
     ) -> Result<(), OutOfMemory>
         requires stake { HasItsStake self.old }
         requires partition { partition < most_partitions }
-        requires small { class < sparse_count }
+        requires class { HasClass self.old.caches.version class }
         requires some { keep < length (titles_in self.old.caches partition class) }
         ensures gives { OnOk result (GivesBatch line partition class keep self.old self.new) }
         ensures stake { OnErr result (KeepsItsStake self.old self.new) }

@@ -1,9 +1,9 @@
 //! Slots that a step returned and that their lists have no room for.
 ghost use Rattle.std.specs.Prelude.{◌≡◌, ◌-◌, ◌/◌, ◌<◌, ◌≤◌, List, [], ◌∷◌, length, Some, OnOk, IfErr, OnErr};
 ghost use Rattle.pa_slot.specs.declared.title.Title.{Title};
-ghost use Rattle.pa_buckets.specs.Limits.{sparse_count};
 ghost use Rattle.pa_buckets.specs.Bands.{limit_of};
 ghost use Rattle.pa_region.specs.Views.{least_stake};
+ghost use Rattle.pa_rules.specs.Sizes.{HasClass};
 ghost use Rattle.pa_region.specs.Hands.{IsParted, united};
 ghost use Rattle.pa_region.specs.Lending.{CanLend};
 ghost use Rattle.pa_root.specs.Handing.{HasOnly};
@@ -45,10 +45,10 @@ impl<N: Name> Stock<N> {
         match handle.class {
             None => self.send_home(rt, heap, line, handle),
             Some(class) => {
-                if cache_limit(class) == 0 {
-                    self.send_home(rt, heap, line, handle)
-                } else {
+                if self.keeps_list(class) {
                     self.spill(rt, heap, line, handle, class)
+                } else {
+                    self.send_home(rt, heap, line, handle)
                 }
             }
         }
@@ -66,7 +66,7 @@ impl<N: Name> Stock<N> {
         requires stake { HasItsStake self.old }
         requires back { IsBack handle.now self.old }
         requires class { handle.now.class ≡ Some class }
-        requires small { class < sparse_count }
+        requires real { HasClass self.old.caches.version class }
         requires some { 0 < limit_of class }
         ensures spills { OnOk result (Spills line handle.now class self.old self.new) }
         ensures stake { OnErr result (KeepsItsStake self.old self.new) }

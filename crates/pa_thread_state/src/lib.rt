@@ -13,6 +13,7 @@ mod handles;
 mod heap;
 mod homes;
 mod listing;
+mod lists;
 mod opening;
 mod purges;
 mod releases;

@@ -9,10 +9,10 @@ ghost use Rattle.pa_thread_state.specs.Purging.{PurgesRoot};
 ghost use Rattle.pa_thread_state.specs.Stopping.{KeepsItsStake, StopsPartition};
 
 use crate::heap::Heap;
-use crate::listing::class_numbered;
+use crate::lists::class_numbered;
 use crate::roots::with_root;
 use crate::stock::Stock;
-use pa_buckets::SPARSE_CLASSES;
+use pa_buckets::first_class;
 use pa_cells::slots_stay_seen;
 use pa_region::{Name, Seat, kept_numbers_stay};
 use pa_root::Root;
@@ -20,7 +20,8 @@ use pa_slot::OutOfMemory;
 use std::sync::{Mutex, Wait};
 
 impl<N: Name> Stock<N> {
-    /// Gives all lists of a partition back, on this line, and purges its root. It returns how many slots went back. If it
+    /// Gives all lists of a partition back, on this line, and purges its root. It goes through them while one that is left has a slot,
+    /// and returns how many slots went back. If it
     /// runs out of memory, what was given back stays so, and the seat has the batch that the root refused, which is on no list.
     pub fn purge_partition<R: Wait>(
         &mut self,
@@ -32,7 +33,7 @@ impl<N: Name> Stock<N> {
         requires stake { HasItsStake self.old }
         requires partition { partition < most_partitions }
         ensures purges { IfOk result (λ slots. PurgesRoot line partition slots self.old self.new) }
-        ensures few { IfOk result (λ slots. slots ≤ 3776) }
+        ensures few { IfOk result (λ slots. slots ≤ 10880) }
         ensures stake { OnErr result (KeepsItsStake self.old self.new) }
         ensures stops { OnErr result (StopsPartition line partition self.old self.new) }
         ensures budget { self.new.view.budget ≡ self.old.view.budget }
@@ -40,13 +41,15 @@ impl<N: Name> Stock<N> {
         kept_numbers_stay();
         slots_stay_seen();
         self.kept();
-        let mut slots = 0;
-        for number in 0..SPARSE_CLASSES {
+        let slots = self.cached(partition).slots as u32;
+        let mut left = slots;
+        let mut number = first_class(self.version());
+        'lists: while left > 0 {
             let class = class_numbered(number);
             self.kept();
-            let count = self.count_listed(partition, class);
-            slots += count;
+            left -= self.count_listed(partition, class);
             self.give_tail(rt, heap, line, partition, class, 0)?;
+            number += 1;
         }
         self.kept();
         purge_root(rt, heap, &mut self.seat, line, partition)?;

@@ -11,7 +11,7 @@ ghost use Rattle.pa_region.specs.Shares.{byte_word_count};
 ghost use Rattle.pa_link.specs.Chains.{slot_names};
 ghost use Rattle.pa_op_specs.specs.Stocks.{IsStock, HasHandleTo, register_in, titles_in};
 
-use pa_cache::Cache;
+use crate::lists::Lists;
 use pa_cells::Handle;
 use pa_region::{Name, Note, Seat};
 use pa_rules::Register;
@@ -26,23 +26,24 @@ pub struct Stock<N: Name> {
     pub(crate) partitions: u32,
     pub(crate) seat: Seat,
     pub(crate) registers: [Register<Handle>; 64],
-    pub(crate) caches: Vec<Cache>,
+    pub(crate) caches: Lists,
     pub(crate) of: PhantomData<N>,
 }
 
 impl<N: Name> Model for Stock<N> {
-    ghost use Rattle.std.specs.Prelude.{◌≡◌, All, map};
-    ghost use Rattle.pa_cache.specs.Chained.{HoldsList, list_in};
+    ghost use Rattle.std.specs.Prelude.{◌≡◌, All};
+    ghost use Rattle.pa_cache.specs.Chained.{HoldsList};
     ghost use Rattle.pa_op_specs.specs.Stocks.{StockValue, IsStock};
+    ghost use Rattle.pa_thread_state.specs.Lists.{lists_in};
 
     ghost Value = { StockValue };
 
     ghost view = { λ s.
-        record { thread = s.thread; partitions = s.partitions; view = s.seat.view; registers = s.registers; caches = map (list_in s.seat.view) s.caches.items } };
+        record { thread = s.thread; partitions = s.partitions; view = s.seat.view; registers = s.registers; caches = lists_in s.seat.view s.caches } };
 
     ghost invariant = { λ s. (s.seat.region ≡ N.region)
-        × IsStock (record { thread = s.thread; partitions = s.partitions; view = s.seat.view; registers = s.registers; caches = map (list_in s.seat.view) s.caches.items })
-        × All (HoldsList s.seat.view) s.caches.items };
+        × IsStock (record { thread = s.thread; partitions = s.partitions; view = s.seat.view; registers = s.registers; caches = lists_in s.seat.view s.caches })
+        × All (HoldsList s.seat.view) s.caches.parts };
 }
 
 impl<N: Name> Stock<N> {
@@ -89,6 +90,13 @@ impl<N: Name> Stock<N> {
         ensures { IsWellFormed (byte_word_count N.region) title }
     {
         self.seat.placed(title);
+    }
+
+    /// The version of the run's trace.
+    pub fn version(&self) -> u32
+        ensures { result ≡ self.now.caches.version }
+    {
+        self.caches.version()
     }
 
     /// What a register has, by its number, 0 to 63.

@@ -1,12 +1,11 @@
 ghost use Rattle.std.specs.Prelude.{◌≡◌, ◌<◌};
-ghost use Rattle.pa_buckets.specs.Limits.{sparse_count};
 ghost use Rattle.pa_trace.specs.Limits.{register_count, most_partitions};
+ghost use Rattle.pa_rules.specs.Sizes.{HasClass};
 ghost use Rattle.pa_op_specs.specs.Stocks.{HasNoHandle, register_in};
 ghost use Rattle.pa_op_specs.specs.Workers.{HasItsStake};
 ghost use Rattle.pa_thread_state.specs.Changes.{IsBack};
 ghost use Rattle.pa_thread_state.specs.Allocating.{Pops, Issues};
 
-use crate::listing::place_of;
 use crate::stock::{Stock, slot_name};
 use pa_buckets::Class;
 use pa_cells::Handle;
@@ -20,13 +19,11 @@ impl<N: Name> Stock<N> {
     pub fn pop(&mut self, region: &Region, partition: u32, class: Class) -> Option<Title>
         requires region { region.now ≡ N.region }
         requires partition { partition < most_partitions }
-        requires small { class < sparse_count }
+        requires class { HasClass self.old.caches.version class }
         ensures { Pops partition class result self.old self.new }
     {
         self.kept();
-        let place = place_of(partition, class);
-        let cache = &mut self.caches[place];
-        cache.pop(region, &mut self.seat)
+        self.caches.pop(region, &mut self.seat, partition, class)
     }
 
     /// Issues the free title of a slot to a register, which owns it then. Its content is zeroed before.

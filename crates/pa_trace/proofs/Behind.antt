@@ -7,8 +7,9 @@ use Rattle.pa_trace.specs.declared.fault.TraceFault.{TraceFault}
 use Rattle.pa_trace.specs.declared.fault.TraceFault.TheVariants.{BadLine, Limit, OutOfMemory}
 use Rattle.pa_trace.specs.declared.field.LineFault.{LineFault}
 use Rattle.pa_trace.specs.declared.field.LineFault.TheVariants.{Outside, Past}
+use Rattle.pa_trace.specs.declared.line.Head.{Head}
 use Rattle.pa_trace.specs.declared.script.Line.{Line}
-use Rattle.pa_trace.specs.Grammar.{IsHeadText, IsLineText}
+use Rattle.pa_trace.specs.Grammar.{IsVersionTo, IsHeadText, IsLineText}
 use Rattle.pa_trace.specs.Limits.{IsHeadWithin, IsLineWithin}
 use Rattle.pa_trace.specs.Faults.{lines_of, IsPast, IsBodyLine, IsHeadLine, IsBadLine, IsBadHead, IsFirstBehind, IsFirstOf, IsFirstFault, IsFault}
 use Rattle.pa_trace.specs.Cut.{IsOneLine, told}
@@ -28,8 +29,8 @@ not_past n before line few short (inr long) = omega (arith, length_push line 10)
 pub body_text : (l : Line) (line : List ℕ) → IsBodyLine l (line ++ 10 ∷ []) → IsLineText l line
 body_text l line h = subst (λ (x : List ℕ). IsLineText l x) (sym (same_from_push line h.0 10 10 h.2).0) h.1
 
-pub head_text : (region partitions threads : ℕ) (line : List ℕ) → IsHeadLine region partitions threads (line ++ 10 ∷ []) → IsHeadText region partitions threads line
-head_text region partitions threads line h = subst (λ (x : List ℕ). IsHeadText region partitions threads x) (sym (same_from_push line h.0 10 10 h.2).0) h.1
+pub head_text : (known : ℕ) (head : Head) (line : List ℕ) → IsHeadLine known head (line ++ 10 ∷ []) → IsHeadText head line
+head_text known head line h = subst (λ (x : List ℕ). IsHeadText head x) (sym (same_from_push line h.0 10 10 h.2).0) h.1
 
 pub cut_of : (bytes line after : List ℕ) → IsOneLine line → bytes ≡ line ++ 10 ∷ after → lines_of bytes ≡ (line ++ 10 ∷ []) ∷ lines_of after
 cut_of bytes line after one e = ap lines_of e ∙ cut_lines line after one
@@ -96,56 +97,65 @@ module _ (partitions threads : ℕ) where
 
 -- ---- the head
 
-pub head_past : (bytes line after : List ℕ) → IsOneLine line → bytes ≡ line ++ 10 ∷ after → (65536 < 1) ⊎ (4194304 < length line + 1) → IsFirstFault (Limit 1) bytes
-head_past bytes line after one e past =
-    subst (λ (x : List (List ℕ)). IsFirstOf x (Limit 1)) (sym (cut_of bytes line after one e)) (inl (refl, inl (past_line 1 0 line (elim past [ inl many ↦ inl many | inr long ↦ inr (omega arith) ]))))
-
-head_unread_here : (line : List ℕ) (lines : List (List ℕ)) (d : LineFault) → (IsPast 1 0 (line ++ 10 ∷ []) → ⊥) → IsHeadNotRead d line → IsFirstOf ((line ++ 10 ∷ []) ∷ lines) (told 1 d)
-head_unread_here line lines Outside none out = inl (refl, none, λ region partitions threads h. out region partitions threads (head_text region partitions threads line h))
-head_unread_here line lines Past none over = inl (refl, inr (over.0, over.1, over.2, (line, over.3, refl), over.4))
-
 -- the first fault is why bytes aren't read
-pub first_is_fault : (e : TraceFault) (bytes : List ℕ) → IsFirstFault e bytes → IsFault e bytes
-first_is_fault (BadLine n) bytes h = h
-first_is_fault (Limit n) bytes h = h
-first_is_fault OutOfMemory bytes h = tt
+pub first_is_fault : (known : ℕ) (e : TraceFault) (bytes : List ℕ) → IsFirstFault known e bytes → IsFault known e bytes
+first_is_fault known (BadLine n) bytes h = h
+first_is_fault known (Limit n) bytes h = h
+first_is_fault known OutOfMemory bytes h = tt
 
-pub head_first_unread : (bytes line after : List ℕ) (d : LineFault) → IsOneLine line → bytes ≡ line ++ 10 ∷ after → length line + 1 ≤ 4194304 → IsHeadNotRead d line → IsFirstFault (told 1 d) bytes
-head_first_unread bytes line after d one e short unread =
-    subst (λ (x : List (List ℕ)). IsFirstOf x (told 1 d)) (sym (cut_of bytes line after one e)) (head_unread_here line (lines_of after) d (not_past 1 0 line (omega arith) (omega arith)) unread)
+module _ (known : ℕ) where
+  pub head_past : (bytes line after : List ℕ) → IsOneLine line → bytes ≡ line ++ 10 ∷ after → (65536 < 1) ⊎ (4194304 < length line + 1) → IsFirstFault known (Limit 1) bytes
+  head_past bytes line after one e past =
+      subst (λ (x : List (List ℕ)). IsFirstOf known x (Limit 1)) (sym (cut_of bytes line after one e))
+      (inl (refl, inl (past_line 1 0 line (elim past [ inl many ↦ inl many | inr long ↦ inr (omega arith) ]))))
 
-pub head_unread : (bytes line after : List ℕ) (d : LineFault) → IsOneLine line → bytes ≡ line ++ 10 ∷ after → length line + 1 ≤ 4194304 → IsHeadNotRead d line → IsFault (told 1 d) bytes
-head_unread bytes line after d one e short unread = first_is_fault (told 1 d) bytes (head_first_unread bytes line after d one e short unread)
+  head_unread_here : (line : List ℕ) (lines : List (List ℕ)) (d : LineFault) → (IsPast 1 0 (line ++ 10 ∷ []) → ⊥) → IsHeadNotRead known d line
+      → IsFirstOf known ((line ++ 10 ∷ []) ∷ lines) (told 1 d)
+  head_unread_here line lines Outside none out = inl (refl, none, λ head h. out head h.3 (head_text known head line h))
+  head_unread_here line lines Past none over = inl (refl, inr (over.0, (line, over.2, refl, over.1), over.3))
 
-pub head_later : (region partitions threads behind : ℕ) (bytes line after : List ℕ) (e : TraceFault) → IsOneLine line → bytes ≡ line ++ 10 ∷ after → length line + 1 ≤ 4194304
-    → IsHeadText region partitions threads line → IsHeadWithin region partitions threads → behind ≡ length line + 1
-    → IsFirstBehind partitions threads 2 behind (lines_of after) e → IsFirstFault e bytes
-head_later region partitions threads behind bytes line after e one parts short text within far h =
-    let place : behind ≡ length (line ++ 10 ∷ []) = omega (arith, far, length_push line 10) in
-    let there : IsFirstBehind partitions threads 2 (length (line ++ 10 ∷ [])) (lines_of after) e = subst (λ (x : ℕ). IsFirstBehind partitions threads 2 x (lines_of after) e) place h in
-    subst (λ (x : List (List ℕ)). IsFirstOf x e) (sym (cut_of bytes line after one parts))
-    (inr (region, partitions, threads, (line, text, refl), within, not_past 1 0 line (omega arith) (omega arith), there))
+  pub head_first_unread : (bytes line after : List ℕ) (d : LineFault) → IsOneLine line → bytes ≡ line ++ 10 ∷ after → length line + 1 ≤ 4194304
+      → IsHeadNotRead known d line → IsFirstFault known (told 1 d) bytes
+  head_first_unread bytes line after d one e short unread =
+      subst (λ (x : List (List ℕ)). IsFirstOf known x (told 1 d)) (sym (cut_of bytes line after one e))
+      (head_unread_here line (lines_of after) d (not_past 1 0 line (omega arith) (omega arith)) unread)
 
-no_head : (bytes : List ℕ) → IsOneLine bytes → IsBadHead bytes
-no_head bytes one region partitions threads h = no_cut bytes h.0 [] one h.2
+  pub head_unread : (bytes line after : List ℕ) (d : LineFault) → IsOneLine line → bytes ≡ line ++ 10 ∷ after → length line + 1 ≤ 4194304
+      → IsHeadNotRead known d line → IsFault known (told 1 d) bytes
+  head_unread bytes line after d one e short unread = first_is_fault known (told 1 d) bytes (head_first_unread bytes line after d one e short unread)
 
--- bytes without an LF: one line, or none
-pub end_limit : (bytes : List ℕ) → IsOneLine bytes → 4194304 < length bytes → IsFirstFault (Limit 1) bytes
-end_limit [] one long = absurd (omega arith)
-end_limit (b ∷ bytes) one long = subst (λ (x : List (List ℕ)). IsFirstOf x (Limit 1)) (sym (last_line (b ∷ bytes) one (λ e. cc))) (inl (refl, inl (inr (omega arith))))
+  pub head_later : (head : Head) (behind : ℕ) (bytes line after : List ℕ) (e : TraceFault) → IsOneLine line → bytes ≡ line ++ 10 ∷ after → length line + 1 ≤ 4194304
+      → IsHeadText head line → IsHeadWithin head → IsVersionTo known head.version → behind ≡ length line + 1
+      → IsFirstBehind head.partitions head.threads 2 behind (lines_of after) e → IsFirstFault known e bytes
+  head_later head behind bytes line after e one parts short text within to far h =
+      let place : behind ≡ length (line ++ 10 ∷ []) = omega (arith, far, length_push line 10) in
+      let there : IsFirstBehind head.partitions head.threads 2 (length (line ++ 10 ∷ [])) (lines_of after) e =
+      subst (λ (x : ℕ). IsFirstBehind head.partitions head.threads 2 x (lines_of after) e) place h in
+      subst (λ (x : List (List ℕ)). IsFirstOf known x e) (sym (cut_of bytes line after one parts))
+      (inr (head, (line, text, refl, to), within, not_past 1 0 line (omega arith) (omega arith), there))
 
-pub end_badly : (bytes : List ℕ) → IsOneLine bytes → length bytes ≤ 4194304 → IsFirstFault (BadLine 1) bytes
-end_badly [] one short = subst (λ (x : List (List ℕ)). IsFirstOf x (BadLine 1)) (sym no_lines) refl
-end_badly (b ∷ bytes) one short =
-    subst (λ (x : List (List ℕ)). IsFirstOf x (BadLine 1)) (sym (last_line (b ∷ bytes) one (λ e. cc)))
-    (inl (refl, (λ past. elim past [ inl many ↦ omega arith | inr long ↦ omega arith ]), no_head (b ∷ bytes) one))
+  no_head : (bytes : List ℕ) → IsOneLine bytes → IsBadHead known bytes
+  no_head bytes one head h = no_cut bytes h.0 [] one h.2
 
-pub head_end : (bytes : List ℕ) (e : TraceFault) → IsOneLine bytes → ((65536 < 1) ⊎ (4194304 < length bytes) → e ≡ Limit 1) → (1 ≤ 65536 → length bytes ≤ 4194304 → e ≡ BadLine 1) → IsFault e bytes
-head_end bytes e one past bad =
-    elim (cases_lt 4194304 (length bytes)) [
-      | inl long ↦ subst (λ (x : TraceFault). IsFault x bytes) (sym (past (inr long))) (end_limit bytes one long)
-      | inr short ↦ subst (λ (x : TraceFault). IsFault x bytes) (sym (bad (omega arith) short)) (end_badly bytes one short)
-    ]
+  -- bytes without an LF: one line, or none
+  pub end_limit : (bytes : List ℕ) → IsOneLine bytes → 4194304 < length bytes → IsFirstFault known (Limit 1) bytes
+  end_limit [] one long = absurd (omega arith)
+  end_limit (b ∷ bytes) one long =
+      subst (λ (x : List (List ℕ)). IsFirstOf known x (Limit 1)) (sym (last_line (b ∷ bytes) one (λ e. cc))) (inl (refl, inl (inr (omega arith))))
+
+  pub end_badly : (bytes : List ℕ) → IsOneLine bytes → length bytes ≤ 4194304 → IsFirstFault known (BadLine 1) bytes
+  end_badly [] one short = subst (λ (x : List (List ℕ)). IsFirstOf known x (BadLine 1)) (sym no_lines) refl
+  end_badly (b ∷ bytes) one short =
+      subst (λ (x : List (List ℕ)). IsFirstOf known x (BadLine 1)) (sym (last_line (b ∷ bytes) one (λ e. cc)))
+      (inl (refl, (λ past. elim past [ inl many ↦ omega arith | inr long ↦ omega arith ]), no_head (b ∷ bytes) one))
+
+  pub head_end : (bytes : List ℕ) (e : TraceFault) → IsOneLine bytes → ((65536 < 1) ⊎ (4194304 < length bytes) → e ≡ Limit 1)
+      → (1 ≤ 65536 → length bytes ≤ 4194304 → e ≡ BadLine 1) → IsFault known e bytes
+  head_end bytes e one past bad =
+      elim (cases_lt 4194304 (length bytes)) [
+        | inl long ↦ subst (λ (x : TraceFault). IsFault known x bytes) (sym (past (inr long))) (end_limit bytes one long)
+        | inr short ↦ subst (λ (x : TraceFault). IsFault known x bytes) (sym (bad (omega arith) short)) (end_badly bytes one short)
+      ]
 
 -- ---- what the reader knows of the room that is left
 

@@ -5,6 +5,7 @@ use Rattle.std.proofs.lemmas.List.{drop_more, take-append-drop}
 use Rattle.std.proofs.lemmas.Bool.{and_parts, eqb-false, ne_eqb, not-true, cases_lt, lt-ltb, le-ltb}
 use Rattle.pa_text.specs.Hex.{hex, hex_digit}
 use Rattle.pa_text.specs.Numeral.{IsDigit, IsNumeral}
+use Rattle.pa_trace.specs.declared.line.Head.{Head}
 use Rattle.pa_trace.specs.declared.script.Line.{Line}
 use Rattle.pa_trace.specs.declared.script.Line.TheVariants.{Phase, Do}
 use Rattle.pa_trace.specs.declared.script.Op.{Op}
@@ -117,12 +118,15 @@ along a b e h = subst (λ (x : List ℕ). IsOneLine x) (sym e) h
 
 op_line : (op : Op) (text : List ℕ) → IsOpText op text → IsOneLine text
 op_line (Alloc reg partition size) text h =
-    along text _ h.6 (three_line (codes "A r") h.0 (codes " p") h.1 (codes " ") h.2 reg partition size (word_line (codes "A r") refl) (word_line (codes " p") refl) (word_line (codes " ") refl) h.3 h.4 h.5)
+    along text _ h.6 (three_line (codes "A r") h.0 (codes " p") h.1 (codes " ") h.2 reg partition size (word_line (codes "A r") refl)
+    (word_line (codes " p") refl) (word_line (codes " ") refl) h.3 h.4 h.5)
 op_line (Copy from to) text h = along text _ h.4 (two_line (codes "C r") h.0 (codes " r") h.1 from to (word_line (codes "C r") refl) (word_line (codes " r") refl) h.2 h.3)
 op_line (Reset reg) text h = along text _ h.2 (field_line (codes "R r") h.0 reg (word_line (codes "R r") refl) h.1)
 op_line (Free reg) text h = along text _ h.2 (field_line (codes "F r") h.0 reg (word_line (codes "F r") refl) h.1)
 op_line (Write reg value) text h =
-    along text _ h.3 (one_line_append (codes "W r" ++ h.0 ++ codes " ") (hex 16 value) (one_line_append (codes "W r" ++ h.0) (codes " ") (field_line (codes "W r") h.0 reg (word_line (codes "W r") refl) h.1) (word_line (codes " ") refl)) (hex_line 16 value))
+    along text _ h.3 (one_line_append (codes "W r" ++ h.0 ++ codes " ") (hex 16 value)
+    (one_line_append (codes "W r" ++ h.0) (codes " ") (field_line (codes "W r") h.0 reg (word_line (codes "W r") refl) h.1)
+    (word_line (codes " ") refl)) (hex_line 16 value))
 op_line (Read reg place) text h = along text _ h.4 (two_line (codes "D r") h.0 (codes " ") h.1 reg place (word_line (codes "D r") refl) (word_line (codes " ") refl) h.2 h.3)
 op_line (Swap cell reg) text h = along text _ h.4 (two_line (codes "X c") h.0 (codes " r") h.1 cell reg (word_line (codes "X c") refl) (word_line (codes " r") refl) h.2 h.3)
 op_line Purge text h = along text _ h (word_line (codes "P") refl)
@@ -132,7 +136,10 @@ line_line Phase text h = along text _ h (word_line (codes "phase") refl)
 line_line (Do thread op) text h =
     along text _ h.4 (one_line_append (h.0 ++ codes " ") h.1 (one_line_append h.0 (codes " ") (numeral_one thread h.0 h.2) (word_line (codes " ") refl)) (op_line op h.1 h.3))
 
-pub head_line : (region partitions threads : ℕ) (text : List ℕ) → IsHeadText region partitions threads text → IsOneLine text
-head_line region partitions threads text h =
-    along text _ h.6 (three_line (codes "trace 1 region ") h.0 (codes " partitions ") h.1 (codes " threads ") h.2 region partitions threads
-    (word_line (codes "trace 1 region ") refl) (word_line (codes " partitions ") refl) (word_line (codes " threads ") refl) h.3 h.4 h.5)
+pub head_line : (h : Head) (text : List ℕ) → IsHeadText h text → IsOneLine text
+head_line h text t =
+    let first : IsOneLine (codes "trace " ++ t.0) = field_line (codes "trace ") t.0 h.version (word_line (codes "trace ") refl) t.4 in
+    let front : IsOneLine (codes "trace " ++ t.0 ++ codes " region ") =
+    one_line_append (codes "trace " ++ t.0) (codes " region ") first (word_line (codes " region ") refl) in
+    along text _ t.8 (three_line (codes "trace " ++ t.0 ++ codes " region ") t.1 (codes " partitions ") t.2 (codes " threads ") t.3 h.region h.partitions h.threads
+    front (word_line (codes " partitions ") refl) (word_line (codes " threads ") refl) t.5 t.6 t.7)

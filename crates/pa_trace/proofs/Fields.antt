@@ -254,7 +254,7 @@ field_cases : (r : Result (List ℕ) LineFault) → (r >>= λ rest. number_in re
 field_cases (Ok rest) = number_handed rest
 field_cases (Err e) = refl
 
-field_handed : (word bytes : List ℕ) → field_in word bytes ≡ (field_at word bytes >>= handed)
+pub field_handed : (word bytes : List ℕ) → field_in word bytes ≡ (field_at word bytes >>= handed)
 unfolding field_in field_at
 field_handed word bytes = field_cases (behind word bytes)
 
@@ -288,7 +288,9 @@ go_two : (m : ℕ) (r : Result (ℕ × List ℕ) LineFault) → ((r >>= handed) 
 go_two m (Ok b) = end_two m b.0 (ended b.1)
 go_two m (Err e) = refl
 
-two_cases : (w : List ℕ) (r : Result (ℕ × List ℕ) LineFault) → ((r >>= handed) >>= λ a. field_in w a.1 >>= λ b. ended b.1 >>= λ end. Ok (a.0, b.0)) ≡ ((r >>= λ a. field_at w a.1 >>= λ b. ended b.1 >>= λ end. Ok (a.0, b.0)) >>= two_handed)
+two_cases : (w : List ℕ) (r : Result (ℕ × List ℕ) LineFault) →
+    ((r >>= handed) >>= λ a. field_in w a.1 >>= λ b. ended b.1 >>= λ end. Ok (a.0, b.0)) ≡
+    ((r >>= λ a. field_at w a.1 >>= λ b. ended b.1 >>= λ end. Ok (a.0, b.0)) >>= two_handed)
 two_cases w (Ok a) = rw field_handed (go_two a.0 (field_at w a.1))
 two_cases w (Err e) = refl
 
@@ -304,17 +306,23 @@ go_three : (m n : ℕ) (r : Result (ℕ × List ℕ) LineFault) → ((r >>= hand
 go_three m n (Ok c) = end_three m n c.0 (ended c.1)
 go_three m n (Err e) = refl
 
-three_last : (m : ℕ) (y : List ℕ) (r : Result (ℕ × List ℕ) LineFault) → ((r >>= handed) >>= λ b. field_in y b.1 >>= λ c. ended c.1 >>= λ end. Ok (fit m, b.0, c.0)) ≡ ((r >>= λ b. field_at y b.1 >>= λ c. ended c.1 >>= λ end. Ok (m, b.0, c.0)) >>= three_handed)
+three_last : (m : ℕ) (y : List ℕ) (r : Result (ℕ × List ℕ) LineFault)
+    → ((r >>= handed) >>= λ b. field_in y b.1 >>= λ c. ended c.1 >>= λ end. Ok (fit m, b.0, c.0)) ≡
+    ((r >>= λ b. field_at y b.1 >>= λ c. ended c.1 >>= λ end. Ok (m, b.0, c.0)) >>= three_handed)
 three_last m y (Ok b) = rw field_handed (go_three m b.0 (field_at y b.1))
 three_last m y (Err e) = refl
 
-three_cases : (w y : List ℕ) (r : Result (ℕ × List ℕ) LineFault) → ((r >>= handed) >>= λ a. field_in w a.1 >>= λ b. field_in y b.1 >>= λ c. ended c.1 >>= λ end. Ok (a.0, b.0, c.0)) ≡ ((r >>= λ a. field_at w a.1 >>= λ b. field_at y b.1 >>= λ c. ended c.1 >>= λ end. Ok (a.0, b.0, c.0)) >>= three_handed)
-three_cases w y (Ok a) = ap (λ (r : Result (Option ℕ × List ℕ) LineFault). r >>= λ b. field_in y b.1 >>= λ c. ended c.1 >>= λ end. Ok (fit a.0, b.0, c.0)) (field_handed w a.1) ∙ three_last a.0 y (field_at w a.1)
+three_cases : (w y : List ℕ) (r : Result (ℕ × List ℕ) LineFault)
+    → ((r >>= handed) >>= λ a. field_in w a.1 >>= λ b. field_in y b.1 >>= λ c. ended c.1 >>= λ end. Ok (a.0, b.0, c.0)) ≡
+    ((r >>= λ a. field_at w a.1 >>= λ b. field_at y b.1 >>= λ c. ended c.1 >>= λ end. Ok (a.0, b.0, c.0)) >>= three_handed)
+three_cases w y (Ok a) = ap (λ (r : Result (Option ℕ × List ℕ) LineFault). r >>= λ b. field_in y b.1 >>= λ c. ended c.1 >>= λ end. Ok
+    (fit a.0, b.0, c.0)) (field_handed w a.1) ∙ three_last a.0 y (field_at w a.1)
 three_cases w y (Err e) = refl
 
 pub three_is : (bytes v w y : List ℕ) → three_in bytes v w y ≡ (three_at bytes v w y >>= three_handed)
 unfolding three_in three_at
-three_is bytes v w y = ap (λ (r : Result (Option ℕ × List ℕ) LineFault). r >>= λ a. field_in w a.1 >>= λ b. field_in y b.1 >>= λ c. ended c.1 >>= λ end. Ok (a.0, b.0, c.0)) (field_handed v bytes) ∙ three_cases w y (field_at v bytes)
+three_is bytes v w y = ap (λ (r : Result (Option ℕ × List ℕ) LineFault). r >>= λ a. field_in w a.1 >>= λ b. field_in y b.1 >>= λ c. ended
+    c.1 >>= λ end. Ok (a.0, b.0, c.0)) (field_handed v bytes) ∙ three_cases w y (field_at v bytes)
 
 abbrev pub word_handed : ℕ × ℕ → Result (Option ℕ × ℕ) LineFault
 word_handed x = Ok (fit x.0, x.1)
@@ -327,7 +335,8 @@ word_last : (m : ℕ) (r : Result (ℕ × List ℕ) LineFault) → (r >>= λ val
 word_last m (Ok x) = end_word m x.0 (ended x.1)
 word_last m (Err e) = refl
 
-word_rest : (m : ℕ) (r : Result (List ℕ) LineFault) → (r >>= λ rest. word_in rest >>= λ value. ended value.1 >>= λ end. Ok (fit m, value.0)) ≡ ((r >>= λ rest. word_in rest >>= λ value. ended value.1 >>= λ end. Ok (m, value.0)) >>= word_handed)
+word_rest : (m : ℕ) (r : Result (List ℕ) LineFault) → (r >>= λ rest. word_in rest >>= λ value. ended value.1 >>= λ end. Ok
+    (fit m, value.0)) ≡ ((r >>= λ rest. word_in rest >>= λ value. ended value.1 >>= λ end. Ok (m, value.0)) >>= word_handed)
 word_rest m (Ok rest) = word_last m (word_in rest)
 word_rest m (Err e) = refl
 
@@ -338,13 +347,15 @@ word_cases (Err e) = refl
 
 pub field_and_word_is : (bytes v : List ℕ) → field_and_word_in bytes v ≡ (field_and_word_at bytes v >>= word_handed)
 unfolding field_and_word_in field_and_word_at
-field_and_word_is bytes v = ap (λ (r : Result (Option ℕ × List ℕ) LineFault). r >>= λ a. behind (codes " ") a.1 >>= λ rest. word_in rest >>= λ value. ended value.1 >>= λ end. Ok (a.0, value.0)) (field_handed v bytes) ∙ word_cases (field_at v bytes)
+field_and_word_is bytes v = ap (λ (r : Result (Option ℕ × List ℕ) LineFault). r >>= λ a. behind (codes " ") a.1 >>= λ rest. word_in rest
+    >>= λ value. ended value.1 >>= λ end. Ok (a.0, value.0)) (field_handed v bytes) ∙ word_cases (field_at v bytes)
 
 -- what the reader of sixteen digits returns is what is read
 pub word_some : (bytes : List ℕ) (value : ℕ) (rest : List ℕ) → value < 18446744073709551616 → bytes ≡ hex 16 value ++ rest → word_in bytes ≡ Ok (value, rest)
 word_some bytes value rest lt parts = ap word_in parts ∙ word_again value rest lt
 
-word_none_in : (bytes : List ℕ) (r : Result (ℕ × List ℕ) LineFault) → word_in bytes ≡ r → ((e : LineFault) → r ≡ Err e → e ≡ Outside) → ((n : ℕ) (rest : List ℕ) → n < 18446744073709551616 → bytes ≡ hex 16 n ++ rest → ⊥) → r ≡ Err Outside
+word_none_in : (bytes : List ℕ) (r : Result (ℕ × List ℕ) LineFault) → word_in bytes ≡ r → ((e : LineFault) → r ≡ Err e → e ≡ Outside)
+    → ((n : ℕ) (rest : List ℕ) → n < 18446744073709551616 → bytes ≡ hex 16 n ++ rest → ⊥) → r ≡ Err Outside
 word_none_in bytes (Ok x) same outside none = let t = word_takes bytes x same in absurd (none x.0 x.1 t.1 t.0)
 word_none_in bytes (Err e) same outside none = ap (λ (d : LineFault). Err d) (outside e refl)
 

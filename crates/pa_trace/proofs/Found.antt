@@ -1,5 +1,5 @@
 -- What is no input has a first fault: reading line by line ends with all lines or at the first faulty one.
-use Rattle.std.proofs.Common.{◌≡◌, ℕ, zero, suc, ◌+◌, ◌≤◌, List, [], ◌∷◌, ◌++◌, length, Result, Ok, Err, ◌⊎◌, inl, inr, refl, ap, ◌∙◌, arith}
+use Rattle.std.proofs.Common.{◌≡◌, ℕ, zero, suc, ◌+◌, ◌<◌, ◌≤◌, List, [], ◌∷◌, ◌++◌, length, Result, Ok, Err, ◌⊎◌, inl, inr, refl, ap, ◌∙◌, arith}
 use Rattle.std.specs.List.{AllByRecursion}
 use Rattle.std.proofs.lemmas.Bool.{cases_eq, cases_lt}
 use Rattle.std.proofs.lemmas.List.{length-append}
@@ -14,6 +14,7 @@ use Rattle.pa_trace.specs.Limits.{IsLineWithin, IsInput}
 use Rattle.pa_trace.specs.Faults.{lines_of, IsFirstBehind, IsFirstFault}
 use Rattle.pa_trace.specs.Reading.{line_in, head_in}
 use Rattle.pa_trace.specs.Cut.{IsOneLine, told}
+use Rattle.pa_trace.specs.Unread.{trace_with}
 use Rattle.pa_trace.proofs.Limits.{line_read, line_not_read, head_read, head_not_read}
 use Rattle.pa_trace.proofs.Behind.{first_past, first_unread, first_later, end_past, end_bad, head_past, head_first_unread, head_later, end_limit, end_badly}
 
@@ -94,34 +95,43 @@ module _ (partitions threads : ℕ) (few : partitions ≤ 4294967296) (few_threa
 
 -- ---- all lines
 
-abbrev HasFault : List ℕ → Type 0
-HasFault bytes = (e : TraceFault) × IsFirstFault e bytes
+abbrev HasFault : ℕ → List ℕ → Type 0
+HasFault known bytes = (e : TraceFault) × IsFirstFault known e bytes
 
-fault_behind : (bytes line after : List ℕ) (h : Head) → IsOneLine line → bytes ≡ line ++ 10 ∷ after → length line + 1 ≤ 4194304 → head_in line ≡ Ok h
-    → ((t : Trace) → IsInput t bytes → ⊥) → HasFault bytes
-fault_behind bytes line after h one parts short read none =
-    let t = head_read line h read in
-    let taken : length bytes ≡ length line + (length after + 1) = ap length parts ∙ simp length-append (omega arith) in
-    elim (found_behind h.partitions h.threads (omega (arith, t.1.1.1)) (omega (arith, t.1.2.1)) (length after) 2 (length line + 1) after (omega arith) (omega arith) short) [
-      | inl all ↦ absurd (none (record { version = 1; region = h.region; partitions = h.partitions; threads = h.threads; lines = all.0 }) (record {
-        limits = record { version = refl; head = t.1; lines = all.2; few = omega (arith, all.3) };
-        text = (line, after, t.0, all.1, parts, refl);
-        short = omega (arith, taken, all.4);
-      }))
-      | inr first ↦ (first.0, head_later h.region h.partitions h.threads (length line + 1) bytes line after first.0 one parts short t.0 t.1 refl first.1)
-    ]
+module _ (known : ℕ) (recent : known ≤ 2) where
+  abbrev NoInput : List ℕ → Type 0
+  NoInput bytes = (t : Trace) → t.version ≤ known → IsInput t bytes → ⊥
 
-fault_of_head : (bytes line after : List ℕ) (r : Result Head LineFault) → IsOneLine line → bytes ≡ line ++ 10 ∷ after → length line + 1 ≤ 4194304 → head_in line ≡ r
-    → ((t : Trace) → IsInput t bytes → ⊥) → HasFault bytes
-fault_of_head bytes line after (Ok h) one parts short read none = fault_behind bytes line after h one parts short read none
-fault_of_head bytes line after (Err d) one parts short read none = (told 1 d, head_first_unread bytes line after d one parts short (head_not_read line d read))
+  small : known < 4294967296
+  small = omega arith
 
-pub some_fault : (bytes : List ℕ) → ((t : Trace) → IsInput t bytes → ⊥) → HasFault bytes
-some_fault bytes none =
-    elim (cut_at bytes) [
-      | inl one ↦ elim (cases_lt 4194304 (length bytes)) [ inl long ↦ (Limit 1, end_limit bytes one long) | inr short ↦ (BadLine 1, end_badly bytes one short) ]
-      | inr cut ↦ elim (cases_lt 4194304 (length cut.0 + 1)) [
-        | inl long ↦ (Limit 1, head_past bytes cut.0 cut.1 cut.2 cut.3 (inr long))
-        | inr short ↦ fault_of_head bytes cut.0 cut.1 (head_in cut.0) cut.2 cut.3 short refl none
+  fault_behind : (bytes line after : List ℕ) (h : Head) → IsOneLine line → bytes ≡ line ++ 10 ∷ after → length line + 1 ≤ 4194304 → head_in known line ≡ Ok h
+      → NoInput bytes → HasFault known bytes
+  fault_behind bytes line after h one parts short read none =
+      let t = head_read known small line h read in
+      let to = t.2 in
+      let taken : length bytes ≡ length line + (length after + 1) = ap length parts ∙ simp length-append (omega arith) in
+      elim (found_behind h.partitions h.threads (omega (arith, t.1.1.1)) (omega (arith, t.1.2.1)) (length after) 2 (length line + 1) after (omega arith) (omega arith) short) [
+        | inl all ↦ absurd (none (trace_with h all.0) to.1 (record {
+          limits = record { version = (to.0, omega (arith, to.1)); head = t.1; lines = all.2; few = omega (arith, all.3) };
+          text = (line, after, t.0, all.1, parts, (to.0, omega (arith, to.1)));
+          short = omega (arith, taken, all.4);
+        }))
+        | inr first ↦ (first.0, head_later known h (length line + 1) bytes line after first.0 one parts short t.0 t.1 to refl first.1)
       ]
-    ]
+
+  fault_of_head : (bytes line after : List ℕ) (r : Result Head LineFault) → IsOneLine line → bytes ≡ line ++ 10 ∷ after → length line + 1 ≤ 4194304 → head_in known line ≡ r
+      → NoInput bytes → HasFault known bytes
+  fault_of_head bytes line after (Ok h) one parts short read none = fault_behind bytes line after h one parts short read none
+  fault_of_head bytes line after (Err d) one parts short read none =
+      (told 1 d, head_first_unread known bytes line after d one parts short (head_not_read known small line d read))
+
+  pub some_fault : (bytes : List ℕ) → NoInput bytes → HasFault known bytes
+  some_fault bytes none =
+      elim (cut_at bytes) [
+        | inl one ↦ elim (cases_lt 4194304 (length bytes)) [ inl long ↦ (Limit 1, end_limit known bytes one long) | inr short ↦ (BadLine 1, end_badly known bytes one short) ]
+        | inr cut ↦ elim (cases_lt 4194304 (length cut.0 + 1)) [
+          | inl long ↦ (Limit 1, head_past known bytes cut.0 cut.1 cut.2 cut.3 (inr long))
+          | inr short ↦ fault_of_head bytes cut.0 cut.1 (head_in known cut.0) cut.2 cut.3 short refl none
+        ]
+      ]

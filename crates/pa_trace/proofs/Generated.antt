@@ -44,8 +44,31 @@ object_within words round thread object lt small = ((lt, (omega arith, lt, omega
 
 pointers_within : (round thread : ℕ) → thread < 4 → AreWithin (pointer_lines round thread)
 pointers_within round thread lt =
-    let low : (k : ℕ) → k < 10 → k < 64 = λ k small. omega arith in
-    ((lt, (low 0 (omega arith), low 8 (omega arith))), ((lt, (low 0 (omega arith), low 9 (omega arith))), ((lt, (omega arith, low 9 (omega arith))), ((lt, (low 8 (omega arith), omega arith)), ((lt, low 0 (omega arith)), ((lt, (low 8 (omega arith), omega arith)), ((lt, low 8 (omega arith)), ((lt, (low 9 (omega arith), omega arith)), ((lt, low 9 (omega arith)), ((lt, low 1 (omega arith)), ((lt, low 2 (omega arith)), ((lt, low 3 (omega arith)), tt))))))))))))
+    let low : (k : ℕ) → k < 10 → k < 64 = λ k small. omega arith in (
+      (lt, (low 0 (omega arith), low 8 (omega arith))),
+      (
+        (lt, (low 0 (omega arith), low 9 (omega arith))),
+        (
+          (lt, (omega arith, low 9 (omega arith))),
+          (
+            (lt, (low 8 (omega arith), omega arith)),
+            (
+              (lt, low 0 (omega arith)),
+              (
+                (lt, (low 8 (omega arith), omega arith)),
+                (
+                  (lt, low 8 (omega arith)),
+                  (
+                    (lt, (low 9 (omega arith), omega arith)),
+                    ((lt, low 9 (omega arith)), ((lt, low 1 (omega arith)), ((lt, low 2 (omega arith)), ((lt, low 3 (omega arith)), tt)))),
+                  ),
+                ),
+              ),
+            ),
+          ),
+        ),
+      ),
+    )
 
 thread_within : (words : List ℕ) (round thread : ℕ) → thread < 4 → AreWithin (thread_lines words round thread)
 thread_within words round thread lt =
@@ -64,8 +87,8 @@ lines_within words rounds =
 
 pub generated_within : (words : List ℕ) (rounds : ℕ) (t : Trace) → 1 ≤ rounds → rounds ≤ 800 → IsGeneratedOf words rounds t → IsWithinLimits t
 generated_within words rounds t some few h = record {
-  version = h.version;
-  head = rw (h.region, h.partitions, h.threads) ((omega arith, omega arith), (omega arith, omega arith), (omega arith, omega arith));
+  version = rw (h.version) (omega arith, omega arith);
+  head = rw (h.version, h.region, h.partitions, h.threads) ((omega arith, omega arith), (omega arith, omega arith), (omega arith, omega arith));
   lines = rw (h.partitions, h.threads, h.lines) (lines_within words rounds);
   few = (let l = generated_length words rounds t some h in omega arith);
 }

@@ -8,12 +8,14 @@ use Rattle.pa_text.specs.Numeral.{IsNumeral}
 use Rattle.pa_text.specs.Hex.{hex}
 use Rattle.pa_text.proofs.Numerals.{one_numeral, decimal_numeral}
 use Rattle.pa_trace.specs.declared.script.Trace.{Trace}
+use Rattle.pa_trace.specs.declared.line.Head.{Head}
 use Rattle.pa_trace.specs.declared.script.Line.{Line}
 use Rattle.pa_trace.specs.declared.script.Line.TheVariants.{Phase, Do}
 use Rattle.pa_trace.specs.declared.script.Op.{Op}
 use Rattle.pa_trace.specs.declared.script.Op.TheVariants.{Alloc, Copy, Reset, Free, Write, Read, Swap, Purge}
-use Rattle.pa_trace.specs.Grammar.{IsOpText, IsLineText, AreLinesText, IsHeadText, IsTraceText}
+use Rattle.pa_trace.specs.Grammar.{IsVersionTo, IsOpText, IsLineText, AreLinesText, IsHeadText, IsTraceText, head_of_trace, last_version}
 use Rattle.pa_trace.specs.Limits.{IsOpWithin, IsLineWithin, IsHeadWithin, IsWithinLimits}
+use Rattle.pa_trace.proofs.Versions.{region_most}
 
 numeral_length : (n : ℕ) (i : List ℕ) → IsNumeral n i → n < 4294967296 → length i ≤ 10
 numeral_length n i h small =
@@ -30,6 +32,9 @@ two_length v i w j = simp length-append
 
 three_length : (v i w j y k : List ℕ) → length (v ++ i ++ w ++ j ++ y ++ k) ≡ length v + length i + length w + length j + length y + length k
 three_length v i w j y k = simp length-append
+
+four_length : (u h v i w j y k : List ℕ) → length (u ++ h ++ v ++ i ++ w ++ j ++ y ++ k) ≡ length u + length h + length v + length i + length w + length j + length y + length k
+four_length u h v i w j y k = simp length-append
 
 op_length : (partitions : ℕ) (op : Op) (text : List ℕ) → partitions ≤ 4 → IsOpWithin partitions op → IsOpText op text → length text ≤ 40
 op_length partitions (Alloc reg partition size) text few h t =
@@ -58,20 +63,22 @@ line_length partitions threads Phase text few few_threads h t = omega (arith, ap
 line_length partitions threads (Do thread op) text few few_threads h t =
     omega (arith, ap length t.4, two_length [] t.0 (codes " ") t.1, numeral_length thread t.0 t.2 (omega (arith, h.0)), op_length partitions op t.1 few h.1 t.3)
 
-lines_length : (partitions threads : ℕ) (ls : List Line) (text : List ℕ) → partitions ≤ 4 → threads ≤ 16 → AllByRecursion (IsLineWithin partitions threads) ls → AreLinesText ls text → length text ≤ 61 * length ls
+lines_length : (partitions threads : ℕ) (ls : List Line) (text : List ℕ) → partitions ≤ 4 → threads ≤ 16
+    → AllByRecursion (IsLineWithin partitions threads) ls → AreLinesText ls text → length text ≤ 61 * length ls
 lines_length partitions threads [] text few few_threads h t = omega (arith, ap length t)
 lines_length partitions threads (l ∷ ls) text few few_threads h t =
     omega (arith, ap length t.4, length-append t.0 (10 ∷ t.1), line_length partitions threads l t.0 few few_threads h.0 t.2, lines_length partitions threads ls t.1 few few_threads h.1 t.3)
 
-head_length : (region partitions threads : ℕ) (text : List ℕ) → IsHeadWithin region partitions threads → IsHeadText region partitions threads text → length text ≤ 99
-head_length region partitions threads text h t =
+head_length : (h : Head) (text : List ℕ) → IsVersionTo last_version h.version → IsHeadWithin h → IsHeadText h text → length text ≤ 99
+head_length h text to within t =
     omega (
       arith,
-      ap length t.6,
-      three_length (codes "trace 1 region ") t.0 (codes " partitions ") t.1 (codes " threads ") t.2,
-      numeral_length region t.0 t.3 (omega (arith, h.0.1)),
-      numeral_length partitions t.1 t.4 (omega (arith, h.1.1)),
-      numeral_length threads t.2 t.5 (omega (arith, h.2.1)),
+      ap length t.8,
+      four_length (codes "trace ") t.0 (codes " region ") t.1 (codes " partitions ") t.2 (codes " threads ") t.3,
+      numeral_length h.version t.0 t.4 (omega (arith, to.1)),
+      numeral_length h.region t.1 t.5 (omega (arith, within.0.1, region_most h.version)),
+      numeral_length h.partitions t.2 t.6 (omega (arith, within.1.1)),
+      numeral_length h.threads t.3 t.7 (omega (arith, within.2.1)),
     )
 
 pub trace_length : (t : Trace) (text : List ℕ) → IsWithinLimits t → IsTraceText t text → length text ≤ 4194304
@@ -80,7 +87,7 @@ trace_length t text h x =
       arith,
       ap length x.4,
       length-append x.0 (10 ∷ x.1),
-      head_length t.region t.partitions t.threads x.0 h.head x.2,
+      head_length (head_of_trace t) x.0 h.version h.head x.2,
       lines_length t.partitions t.threads t.lines x.1 h.head.1.1 h.head.2.1 h.lines x.3,
       h.few,
     )

@@ -1,6 +1,7 @@
 pub mod Fields
 pub mod Spelled
 pub mod Shapes
+pub mod Versions
 pub mod Limits
 pub mod Cuts
 pub mod Behind

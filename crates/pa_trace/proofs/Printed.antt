@@ -9,7 +9,7 @@ use Rattle.pa_trace.specs.declared.script.Line.TheVariants.{Phase, Do}
 use Rattle.pa_trace.specs.declared.script.Op.{Op}
 use Rattle.pa_trace.specs.declared.script.Op.TheVariants.{Alloc, Copy, Reset, Free, Write, Read, Swap, Purge}
 use Rattle.pa_trace.specs.Faults.{IsBodyLine, IsHeadLine}
-use Rattle.pa_trace.specs.Grammar.{IsOpText}
+use Rattle.pa_trace.specs.Grammar.{IsVersionTo, IsOpText, last_version}
 use Rattle.pa_trace.specs.Printed.{word_then_number, head_text, line_text, op_text, OpInBits, LineInBits}
 
 -- the op without the space before it
@@ -49,28 +49,44 @@ line_spelled (Do thread op) h =
       ap (λ (x : List ℕ). decimal thread ++ x ++ 10 ∷ []) at ∙ simp append_assoc,
     )
 
-three : (v a w b u d n : List ℕ) → (v ++ a) ++ ((w ++ b) ++ ((u ++ d) ++ n)) ≡ (v ++ a ++ w ++ b ++ u ++ d) ++ n
-three v a w b u d n = simp append_assoc
+four : (w v a n b p d t e : List ℕ) → (w ++ v) ++ ((a ++ n) ++ ((b ++ p) ++ ((d ++ t) ++ e))) ≡ (w ++ v ++ a ++ n ++ b ++ p ++ d ++ t) ++ e
+four w v a n b p d t e = simp append_assoc
 
-pub head_spelled : (head : Head) → head.region < 4294967296 → head.partitions < 4294967296 → head.threads < 4294967296 → IsHeadLine head.region head.partitions head.threads (head_text head)
-head_spelled head r p t =
+pub head_spelled : (head : Head) → head.region < 4294967296 → head.partitions < 4294967296 → head.threads < 4294967296 → IsVersionTo last_version head.version
+    → IsHeadLine last_version head (head_text head)
+head_spelled head r p t to =
+    let v : List ℕ = decimal head.version in
     let a : List ℕ = decimal head.region in
     let b : List ℕ = decimal head.partitions in
     let d : List ℕ = decimal head.threads in (
-      codes "trace 1 region " ++ a ++ codes " partitions " ++ b ++ codes " threads " ++ d,
-      (a, b, d, decimal_numeral head.region (omega (arith, r)), decimal_numeral head.partitions (omega (arith, p)), decimal_numeral head.threads (omega (arith, t)), refl),
-      three (codes "trace 1 region ") a (codes " partitions ") b (codes " threads ") d (10 ∷ []),
+      codes "trace " ++ v ++ codes " region " ++ a ++ codes " partitions " ++ b ++ codes " threads " ++ d,
+      (
+        v,
+        a,
+        b,
+        d,
+        decimal_numeral head.version (omega (arith, to.1)),
+        decimal_numeral head.region (omega (arith, r)),
+        decimal_numeral head.partitions (omega (arith, p)),
+        decimal_numeral head.threads (omega (arith, t)),
+        refl,
+      ),
+      four (codes "trace ") v (codes " region ") a (codes " partitions ") b (codes " threads ") d (10 ∷ []),
+      to,
     )
 
 -- what is printed part by part
-four : (old a b c d x y z w : List ℕ) → a ≡ old ++ x → b ≡ a ++ y → c ≡ b ++ z → d ≡ c ++ w → d ≡ old ++ (x ++ (y ++ (z ++ w)))
-four old a b c d x y z w e f g h =
-    h ∙ ap (λ (t : List ℕ). t ++ w) (g ∙ ap (λ (t : List ℕ). t ++ z) (f ∙ ap (λ (t : List ℕ). t ++ y) e)) ∙ simp append_assoc
+five : (old a b c d e x y z w u : List ℕ) → a ≡ old ++ x → b ≡ a ++ y → c ≡ b ++ z → d ≡ c ++ w → e ≡ d ++ u → e ≡ old ++ (x ++ (y ++ (z ++ (w ++ u))))
+five old a b c d e x y z w u ea eb ec ed ee =
+    ee ∙ ap (λ (t : List ℕ). t ++ u) (ed ∙ ap (λ (t : List ℕ). t ++ w) (ec ∙ ap (λ (t : List ℕ). t ++ z) (eb ∙ ap (λ (t : List ℕ). t ++ y) ea)))
+    ∙ simp append_assoc
 
-pub head_joined : (head : Head) (old a b c d : List ℕ) → a ≡ old ++ word_then_number (codes "trace 1 region ") head.region → b ≡ a ++ word_then_number (codes " partitions ") head.partitions
-    → c ≡ b ++ word_then_number (codes " threads ") head.threads → d ≡ c ++ 10 ∷ [] → d ≡ old ++ head_text head
-head_joined head old a b c d e f g h =
-    let x : List ℕ = word_then_number (codes "trace 1 region ") head.region in
-    let y : List ℕ = word_then_number (codes " partitions ") head.partitions in
-    let z : List ℕ = word_then_number (codes " threads ") head.threads in
-    four old a b c d x y z (10 ∷ []) e f g h
+pub head_joined : (head : Head) (old a b c d e : List ℕ) → a ≡ old ++ word_then_number (codes "trace ") head.version → b ≡ a ++ word_then_number (codes " region ") head.region
+    → c ≡ b ++ word_then_number (codes " partitions ") head.partitions → d ≡ c ++ word_then_number (codes " threads ") head.threads → e ≡ d ++ 10 ∷ []
+    → e ≡ old ++ head_text head
+head_joined head old a b c d e ea eb ec ed ee =
+    let x : List ℕ = word_then_number (codes "trace ") head.version in
+    let y : List ℕ = word_then_number (codes " region ") head.region in
+    let z : List ℕ = word_then_number (codes " partitions ") head.partitions in
+    let w : List ℕ = word_then_number (codes " threads ") head.threads in
+    five old a b c d e x y z w (10 ∷ []) ea eb ec ed ee

@@ -9,7 +9,7 @@ use Rattle.pa_trace.specs.declared.script.Line.TheVariants.{Phase, Do}
 use Rattle.pa_trace.specs.declared.script.Op.TheVariants.{Alloc, Copy, Reset, Free, Write, Read, Swap, Purge}
 use Rattle.pa_trace.specs.Reading.{◌>>=◌, or_outside, behind, ended, word_in, purge_in}
 use Rattle.pa_trace.proofs.Fields.{field_at, one_at, two_at, three_at, field_and_word_at}
-use Rattle.pa_trace.proofs.Spelled.{alloc_at, copy_at, reset_at, free_at, write_at, read_at, swap_at, op_at, do_at, line_at, head_at}
+use Rattle.pa_trace.proofs.Spelled.{alloc_at, copy_at, reset_at, free_at, write_at, read_at, swap_at, op_at, do_at, line_at, head_at, head_with}
 
 -- what fails is outside the grammar
 abbrev pub IsShape : {A : Type 0} → Result A LineFault → Type 0
@@ -98,7 +98,12 @@ line_shape bytes = cond_shape (pointwise nat_eq bytes (codes "phase")) (Ok Phase
 
 head_shape : (bytes : List ℕ) → IsShape (head_at bytes)
 unfolding head_at
-head_shape bytes = three_shape bytes (codes "trace 1 region ") (codes " partitions ") (codes " threads ")
+head_shape bytes =
+    then_shape (field_at (codes "trace ") bytes)
+    (λ first. three_at first.1 (codes " region ") (codes " partitions ") (codes " threads ") >>= λ x. Ok (head_with first.0 x.0 x.1 x.2))
+    (field_shape (codes "trace ") bytes) (λ first.
+    then_shape (three_at first.1 (codes " region ") (codes " partitions ") (codes " threads ")) (λ x. Ok (head_with first.0 x.0 x.1 x.2))
+    (three_shape first.1 (codes " region ") (codes " partitions ") (codes " threads ")) (λ x. tt))
 
 pub shape_of : {A : Type 0} (r : Result A LineFault) (d : LineFault) → r ≡ Err d → IsShape r → Outside ≡ d
 shape_of {A} r d e h = subst (λ (x : Result A LineFault). IsShape x) e h

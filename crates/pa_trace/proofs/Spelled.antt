@@ -9,13 +9,14 @@ use Rattle.pa_text.proofs.Fronts.{word_same}
 use Rattle.pa_text.proofs.Numerals.{number_takes, number_again}
 use Rattle.pa_trace.specs.declared.field.LineFault.{LineFault}
 use Rattle.pa_trace.specs.declared.field.LineFault.TheVariants.{Outside}
+use Rattle.pa_trace.specs.declared.line.Head.{Head}
 use Rattle.pa_trace.specs.declared.script.Line.{Line}
 use Rattle.pa_trace.specs.declared.script.Line.TheVariants.{Phase, Do}
 use Rattle.pa_trace.specs.declared.script.Op.{Op}
 use Rattle.pa_trace.specs.declared.script.Op.TheVariants.{Alloc, Copy, Reset, Free, Write, Read, Swap, Purge}
 use Rattle.pa_trace.specs.Grammar.{IsOpText, IsLineText, IsHeadText}
 use Rattle.pa_trace.specs.Reading.{◌>>=◌, or_outside, behind, ended, purge_in}
-use Rattle.pa_trace.proofs.Fields.{bind_ok, behind_takes, behind_again, ended_ok, one_at, one_takes, one_again, two_at, two_takes, two_again, three_at, three_takes, three_again, field_and_word_at, field_and_word_takes, field_and_word_again}
+use Rattle.pa_trace.proofs.Fields.{bind_ok, behind_takes, behind_again, ended_ok, field_at, field_takes, field_again, one_at, one_takes, one_again, two_at, two_takes, two_again, three_at, three_takes, three_again, field_and_word_at, field_and_word_takes, field_and_word_again}
 
 -- ---- ops
 
@@ -132,7 +133,8 @@ lettered : (c k : ℕ) (rest : List ℕ) (op : Op) → eqb c k ≡ true → IsOp
 lettered c k rest op e h = subst (λ (x : ℕ). IsOpText op (x ∷ rest)) (sym (eqb-true c k e)) h
 
 -- a test of the letter
-by_letter : (c k : ℕ) (rest : List ℕ) (op : Op) (x y : Result Op LineFault) → (x ≡ Ok op → IsOpText op (k ∷ rest)) → (y ≡ Ok op → IsOpText op (c ∷ rest)) → cond (eqb c k) x y ≡ Ok op → IsOpText op (c ∷ rest)
+by_letter : (c k : ℕ) (rest : List ℕ) (op : Op) (x y : Result Op LineFault) → (x ≡ Ok op → IsOpText op (k ∷ rest))
+    → (y ≡ Ok op → IsOpText op (c ∷ rest)) → cond (eqb c k) x y ≡ Ok op → IsOpText op (c ∷ rest)
 by_letter c k rest op x y hit miss e =
     elim (chosen (eqb c k) x y (Ok op) e) [ inl a ↦ lettered c k rest op a.0 (hit a.1) | inr a ↦ miss a.1 ]
 
@@ -224,14 +226,42 @@ line_again (Do thread op) text h =
 
 -- ---- the head
 
-unfoldable pub head_at : List ℕ → Result (ℕ × ℕ × ℕ) LineFault
-head_at bytes = three_at bytes (codes "trace 1 region ") (codes " partitions ") (codes " threads ")
+-- the head of four numbers
+abbrev pub head_with : ℕ → ℕ → ℕ → ℕ → Head
+head_with version region partitions threads = record { version = version; region = region; partitions = partitions; threads = threads }
 
-pub head_takes : (bytes : List ℕ) (x : ℕ × ℕ × ℕ) → head_at bytes ≡ Ok x → IsHeadText x.0 x.1 x.2 bytes
-unfolding head_at
-head_takes bytes x e = three_takes bytes (codes "trace 1 region ") (codes " partitions ") (codes " threads ") x e
+unfoldable pub head_at : List ℕ → Result Head LineFault
+head_at bytes = do
+  first ← field_at (codes "trace ") bytes
+  x ← three_at first.1 (codes " region ") (codes " partitions ") (codes " threads ")
+  Ok (head_with first.0 x.0 x.1 x.2)
 
-pub head_again : (region partitions threads : ℕ) (text : List ℕ) → IsHeadText region partitions threads text → head_at text ≡ Ok (region, partitions, threads)
+ok_head : (x y : Head) → ◌≡◌ {A = Result Head LineFault} (Ok x) (Ok y) → x ≡ y
+ok_head x y e = cc
+
+join_head : (bytes w v r a n b p d t : List ℕ) → bytes ≡ w ++ v ++ r → r ≡ a ++ n ++ b ++ p ++ d ++ t → bytes ≡ w ++ v ++ a ++ n ++ b ++ p ++ d ++ t
+join_head bytes w v r a n b p d t e f = e ∙ ap (λ (x : List ℕ). w ++ v ++ x) f ∙ simp append_assoc
+
+part_head : (w v a n b p d t : List ℕ) → w ++ v ++ a ++ n ++ b ++ p ++ d ++ t ≡ w ++ (v ++ (a ++ n ++ b ++ p ++ d ++ t))
+part_head w v a n b p d t = simp append_assoc
+
+pub head_takes : (bytes : List ℕ) (h : Head) → head_at bytes ≡ Ok h → IsHeadText h bytes
 unfolding head_at
-head_again region partitions threads text h =
-    ap head_at h.6 ∙ three_again (codes "trace 1 region ") (codes " partitions ") (codes " threads ") region partitions threads h.0 h.1 h.2 (λ x. refl) (λ x. refl) h.3 h.4 h.5
+head_takes bytes h e =
+    let a = bind_ok (field_at (codes "trace ") bytes)
+    (λ first. three_at first.1 (codes " region ") (codes " partitions ") (codes " threads ") >>= λ x. Ok (head_with first.0 x.0 x.1 x.2)) h e in
+    let b = bind_ok (three_at a.0.1 (codes " region ") (codes " partitions ") (codes " threads ")) (λ x. Ok (head_with a.0.0 x.0 x.1 x.2)) h a.2 in
+    let f = field_takes (codes "trace ") bytes a.0 a.1 in
+    let s = three_takes a.0.1 (codes " region ") (codes " partitions ") (codes " threads ") b.0 b.1 in
+    let joined = join_head bytes (codes "trace ") f.numeral a.0.1 (codes " region ") s.0 (codes " partitions ") s.1 (codes " threads ") s.2 f.parts s.6 in
+    subst (λ (k : Head). IsHeadText k bytes) (ok_head (head_with a.0.0 b.0.0 b.0.1 b.0.2) h b.2) (f.numeral, s.0, s.1, s.2, f.spelled, s.3, s.4, s.5, joined)
+
+pub head_again : (h : Head) (text : List ℕ) → IsHeadText h text → head_at text ≡ Ok h
+unfolding head_at
+head_again h text t =
+    let rest : List ℕ = codes " region " ++ t.1 ++ codes " partitions " ++ t.2 ++ codes " threads " ++ t.3 in
+    let parted : text ≡ codes "trace " ++ (t.0 ++ rest) = t.8 ∙ part_head (codes "trace ") t.0 (codes " region ") t.1 (codes " partitions ") t.2 (codes " threads ") t.3 in
+    let first : field_at (codes "trace ") (codes "trace " ++ (t.0 ++ rest)) ≡ Ok (h.version, rest) = field_again (codes "trace ") h.version t.0 rest t.4 refl in
+    let others : three_at rest (codes " region ") (codes " partitions ") (codes " threads ") ≡ Ok (h.region, h.partitions, h.threads) =
+    three_again (codes " region ") (codes " partitions ") (codes " threads ") h.region h.partitions h.threads t.1 t.2 t.3 (λ x. refl) (λ x. refl) t.5 t.6 t.7 in
+    ap head_at parted ∙ rw (first, others) refl

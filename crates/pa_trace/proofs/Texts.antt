@@ -1,16 +1,19 @@
 -- A line, a head and a trace have one text each, and a text belongs to one of them.
-use Rattle.std.proofs.Common.{◌≡◌, ℕ, List, [], ◌∷◌, ◌++◌, Result, Ok, sym, ap, refl, subst, ◌∙◌, append_assoc}
+use Rattle.std.proofs.Common.{◌≡◌, ◌↔◌, ℕ, List, [], ◌∷◌, ◌++◌, codes, Result, Ok, sym, ap, refl, subst, ◌∙◌, append_assoc}
 use Rattle.std.specs.List.{AllByRecursion}
 use Rattle.pa_trace.specs.declared.field.LineFault.{LineFault}
 use Rattle.pa_trace.specs.declared.script.Trace.{Trace}
+use Rattle.pa_trace.specs.declared.line.Head.{Head}
 use Rattle.pa_trace.specs.declared.script.Line.{Line}
 use Rattle.pa_trace.specs.declared.script.Line.TheVariants.{Phase, Do}
 use Rattle.pa_trace.specs.declared.script.Op.{Op}
 use Rattle.pa_trace.specs.declared.script.Op.TheVariants.{Alloc, Copy, Reset, Free, Write, Read, Swap, Purge}
+use Rattle.pa_text.specs.Numeral.{IsNumeral}
 use Rattle.pa_text.proofs.Numerals.{one_numeral}
-use Rattle.pa_trace.specs.Grammar.{IsOpText, IsLineText, AreLinesText, IsHeadText, IsTraceText, IsSameTrace}
+use Rattle.pa_trace.specs.Grammar.{IsOpText, IsLineText, AreLinesText, IsHeadText, IsTraceText, IsSameTrace, head_of_trace}
 use Rattle.pa_trace.proofs.Spelled.{line_again, head_again}
 use Rattle.pa_trace.proofs.Cuts.{one_cut, line_line, head_line}
+use Rattle.pa_trace.proofs.Versions.{one_only, one_spelled}
 
 -- ---- lines that were read
 
@@ -38,9 +41,11 @@ one_line_of k l text hk hl = ok_line k l (sym (line_again k text hk) ∙ line_ag
 pub ok_head : (x y : ℕ × ℕ × ℕ) → ◌≡◌ {A = Result (ℕ × ℕ × ℕ) LineFault} (Ok x) (Ok y) → x ≡ y
 ok_head x y e = cc
 
--- the numbers of a head, one after the other
-pub one_head_of : (r p t s q u : ℕ) (text : List ℕ) → IsHeadText r p t text → IsHeadText s q u text → ◌≡◌ {A = ℕ × ℕ × ℕ} (r, p, t) (s, q, u)
-one_head_of r p t s q u text h k = ok_head (r, p, t) (s, q, u) (sym (head_again r p t text h) ∙ head_again s q u text k)
+ok_heads : (x y : Head) → ◌≡◌ {A = Result Head LineFault} (Ok x) (Ok y) → x ≡ y
+ok_heads x y e = cc
+
+pub one_head_of : (a b : Head) (text : List ℕ) → IsHeadText a text → IsHeadText b text → a ≡ b
+one_head_of a b text h k = ok_heads a b (sym (head_again a text h) ∙ head_again b text k)
 
 not_empty : (a r : List ℕ) → [] ≡ a ++ 10 ∷ r → ⊥
 not_empty [] r e = cc
@@ -58,14 +63,13 @@ one_lines (k ∷ ks) (l ∷ ls) text hk hl =
 
 pub one_trace : (s t : Trace) (text : List ℕ) → IsTraceText s text → IsTraceText t text → IsSameTrace s t
 one_trace s t text hs ht =
-    let cut = one_cut hs.0 ht.0 hs.1 ht.1 (head_line s.region s.partitions s.threads hs.0 hs.2) (head_line t.region t.partitions t.threads ht.0 ht.2) (sym hs.4 ∙ ht.4) in
-    let heads = one_head_of s.region s.partitions s.threads t.region t.partitions t.threads ht.0
-    (subst (λ (x : List ℕ). IsHeadText s.region s.partitions s.threads x) cut.0 hs.2) ht.2 in
+    let cut = one_cut hs.0 ht.0 hs.1 ht.1 (head_line (head_of_trace s) hs.0 hs.2) (head_line (head_of_trace t) ht.0 ht.2) (sym hs.4 ∙ ht.4) in
+    let heads = one_head_of (head_of_trace s) (head_of_trace t) ht.0 (subst (λ (x : List ℕ). IsHeadText (head_of_trace s) x) cut.0 hs.2) ht.2 in
     record {
-      version = hs.5 ∙ sym ht.5;
-      region = ap (λ (x : ℕ × ℕ × ℕ). x.0) heads;
-      partitions = ap (λ (x : ℕ × ℕ × ℕ). x.1) heads;
-      threads = ap (λ (x : ℕ × ℕ × ℕ). x.2) heads;
+      version = ap (λ (x : Head). x.version) heads;
+      region = ap (λ (x : Head). x.region) heads;
+      partitions = ap (λ (x : Head). x.partitions) heads;
+      threads = ap (λ (x : Head). x.threads) heads;
       lines = one_lines s.lines t.lines ht.1 (subst (λ (x : List ℕ). AreLinesText s.lines x) cut.1 hs.3) ht.3;
     }
 
@@ -90,9 +94,31 @@ one_text_lines : (ls : List Line) (a b : List ℕ) → AreLinesText ls a → Are
 one_text_lines [] a b ha hb = ha ∙ sym hb
 one_text_lines (l ∷ ls) a b ha hb = ha.4 ∙ cc (one_text_line l ha.0 hb.0 ha.2 hb.2, one_text_lines ls ha.1 hb.1 ha.3 hb.3) ∙ sym hb.4
 
-one_text_head : (region partitions threads : ℕ) (a b : List ℕ) → IsHeadText region partitions threads a → IsHeadText region partitions threads b → a ≡ b
-one_text_head region partitions threads a b ha hb =
-    ha.6 ∙ cc (one_numeral region ha.0 hb.0 ha.3 hb.3, one_numeral partitions ha.1 hb.1 ha.4 hb.4, one_numeral threads ha.2 hb.2 ha.5 hb.5) ∙ sym hb.6
+one_text_head : (h : Head) (a b : List ℕ) → IsHeadText h a → IsHeadText h b → a ≡ b
+one_text_head h a b ha hb =
+    ha.8
+    ∙ cc (
+      one_numeral h.version ha.0 hb.0 ha.4 hb.4,
+      one_numeral h.region ha.1 hb.1 ha.5 hb.5,
+      one_numeral h.partitions ha.2 hb.2 ha.6 hb.6,
+      one_numeral h.threads ha.3 hb.3 ha.7 hb.7,
+    )
+    ∙ sym hb.8
+
+-- ---- version 1
+
+first_from : (h : Head) (text v n p t : List ℕ) → v ≡ codes "1" → text ≡ codes "trace " ++ v ++ codes " region " ++ n ++ codes " partitions " ++ p ++ codes " threads " ++ t
+    → text ≡ codes "trace 1 region " ++ n ++ codes " partitions " ++ p ++ codes " threads " ++ t
+first_from h text v n p t is e =
+    e ∙ ap (λ (x : List ℕ). codes "trace " ++ x ++ codes " region " ++ n ++ codes " partitions " ++ p ++ codes " threads " ++ t) is
+
+-- the text of a head of version 1 begins with `trace 1 region `
+pub first_version : (h : Head) (text : List ℕ) → h.version ≡ 1 → IsHeadText h text ↔ ((n p t : List ℕ) × IsNumeral h.region n × IsNumeral h.partitions p × IsNumeral h.threads t
+    × (text ≡ codes "trace 1 region " ++ n ++ codes " partitions " ++ p ++ codes " threads " ++ t))
+first_version h text is = (
+  λ x. (x.1, x.2, x.3, x.5, x.6, x.7, first_from h text x.0 x.1 x.2 x.3 (one_only x.0 (subst (λ k. IsNumeral k x.0) is x.4)) x.8),
+  λ x. (codes "1", x.0, x.1, x.2, subst (λ k. IsNumeral k (codes "1")) (sym is) one_spelled, x.3, x.4, x.5, x.6),
+)
 
 pub one_text_trace : (t : Trace) (a b : List ℕ) → IsTraceText t a → IsTraceText t b → a ≡ b
-one_text_trace t a b ha hb = ha.4 ∙ cc (one_text_head t.region t.partitions t.threads ha.0 hb.0 ha.2 hb.2, one_text_lines t.lines ha.1 hb.1 ha.3 hb.3) ∙ sym hb.4
+one_text_trace t a b ha hb = ha.4 ∙ cc (one_text_head (head_of_trace t) ha.0 hb.0 ha.2 hb.2, one_text_lines t.lines ha.1 hb.1 ha.3 hb.3) ∙ sym hb.4

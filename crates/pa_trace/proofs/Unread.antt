@@ -6,7 +6,7 @@ use Rattle.pa_trace.specs.declared.fault.TraceFault.TheVariants.{BadLine, Limit}
 use Rattle.pa_trace.specs.declared.field.LineFault.{LineFault}
 use Rattle.pa_trace.specs.declared.line.Head.{Head}
 use Rattle.pa_trace.specs.declared.script.Line.{Line}
-use Rattle.pa_trace.specs.Grammar.{IsTraceText}
+use Rattle.pa_trace.specs.Grammar.{IsVersionTo, IsTraceText, last_version}
 use Rattle.pa_trace.specs.Limits.{IsLineWithin}
 use Rattle.pa_trace.specs.Faults.{IsFault}
 use Rattle.pa_trace.specs.Cut.{IsOneLine, told}
@@ -22,45 +22,49 @@ IsOver n len left = (65536 < n) ⊎ (left < len)
 
 -- ---- the head
 
-module _ (bytes first rest : List ℕ) (one : IsOneLine first) (parts : bytes ≡ first ++ 10 ∷ rest) (fits : IsOver 1 (length first + 1) 4194304 → ⊥) where
-  pub head_begins : (head : Head) → head_in first ≡ Ok head
-      → IsReadUpTo bytes [] (record { head = head; rest = rest; left = 4194304 - (length first + 1); number = 2 })
+module _ (known : ℕ) (recent : known ≤ 2) (bytes first rest : List ℕ) (one : IsOneLine first) (parts : bytes ≡ first ++ 10 ∷ rest) (fits : IsOver 1 (length first + 1) 4194304 → ⊥) where
+  pub head_begins : (head : Head) → head_in known first ≡ Ok head
+      → IsReadUpTo known bytes [] (record { head = head; rest = rest; left = 4194304 - (length first + 1); number = 2 })
   head_begins head is =
       let room = under_room 1 4194304 (length first + 1) fits in
-      let read = head_read first head is in
+      let read = head_read known (omega arith) first head is in
+      let to = read.2 in
+      let version : IsVersionTo last_version head.version = (to.0, omega (arith, to.1)) in
       let taken : length bytes ≡ length first + (length rest + 1) = ap length parts ∙ simp length-append (omega arith) in
       record {
+        version = version;
+        is_known = to.1;
         head = read.1;
         lines = tt;
         few = omega arith;
         number = refl;
         room = omega arith;
         taken = omega (arith, taken, room.1);
-        text = λ more h. (first, rest, read.0, h, parts, refl);
-        fault = λ e h. head_later head.region head.partitions head.threads (4194304 - (4194304 - (length first + 1))) bytes first rest e one parts room.1 read.0 read.1 (omega (arith, room.1)) h;
+        text = λ more h. (first, rest, read.0, h, parts, version);
+        fault = λ e h. head_later known head (4194304 - (4194304 - (length first + 1))) bytes first rest e one parts room.1 read.0 read.1 to (omega (arith, room.1)) h;
       }
 
-  pub head_faulty : (d : LineFault) → head_in first ≡ Err d → IsFault (told 1 d) bytes
+  pub head_faulty : (d : LineFault) → head_in known first ≡ Err d → IsFault known (told 1 d) bytes
   head_faulty d is =
       let room = under_room 1 4194304 (length first + 1) fits in
-      head_unread bytes first rest d one parts room.1 (head_not_read first d is)
+      head_unread known bytes first rest d one parts room.1 (head_not_read known (omega arith) first d is)
 
 -- ---- a line
 
 module _ (u : Unread) (line after : List ℕ) (one : IsOneLine line) (parts : u.rest ≡ line ++ 10 ∷ after) where
   pub line_past : IsOver u.number (length line + 1) u.left → IsFaultRead u (Limit u.number)
-  line_past past bytes ls h =
+  line_past past known bytes ls h =
       h.fault (Limit u.number)
       (first_past u.head.partitions u.head.threads u.number (4194304 - u.left) u.rest line after one parts (over_room u.number u.left (length line + 1) h.room past))
 
   module _ (fits : IsOver u.number (length line + 1) u.left → ⊥) where
     pub line_faulty : (d : LineFault) → line_in u.head.partitions u.head.threads line ≡ Err d → IsFaultRead u (told u.number d)
-    line_faulty d is bytes ls h =
+    line_faulty d is known bytes ls h =
         let room = under_room u.number u.left (length line + 1) fits in
         let head = h.head in
         let most = h.room in
         let unread = line_not_read u.head.partitions u.head.threads (omega (arith, head.1.1)) (omega (arith, head.2.1)) line d is in
-        first_is_fault (told u.number d) bytes (h.fault (told u.number d)
+        first_is_fault known (told u.number d) bytes (h.fault (told u.number d)
         (first_unread u.head.partitions u.head.threads u.number (4194304 - u.left) u.rest line after d one parts room.0 (omega (arith, most, room.1)) unread))
 
     module _ (l : Line) (is : line_in u.head.partitions u.head.threads line ≡ Ok l) where
@@ -71,8 +75,8 @@ module _ (u : Unread) (line after : List ℕ) (one : IsOneLine line) (parts : u.
       taken : length u.rest ≡ length line + (length after + 1)
       taken = ap length parts ∙ simp length-append (omega arith)
 
-      goes_on : (bytes : List ℕ) (ls : List Line) → IsReadUpTo bytes ls u → IsReadUpTo bytes (ls ++ l ∷ []) behind_it
-      goes_on bytes ls h =
+      goes_on : (known : ℕ) (bytes : List ℕ) (ls : List Line) → IsReadUpTo known bytes ls u → IsReadUpTo known bytes (ls ++ l ∷ []) behind_it
+      goes_on known bytes ls h =
           let partitions = u.head.partitions in
           let threads = u.head.threads in
           let room = under_room u.number u.left (length line + 1) fits in
@@ -82,6 +86,8 @@ module _ (u : Unread) (line after : List ℕ) (one : IsOneLine line) (parts : u.
           let so_far = h.taken in
           let read = line_read partitions threads (omega (arith, head.1.1)) (omega (arith, head.2.1)) line l is in
           record {
+            version = h.version;
+            is_known = h.is_known;
             head = head;
             lines = all_push (IsLineWithin partitions threads) ls l h.lines read.1;
             few = omega (arith, length_push ls l, number, room.0);
@@ -102,10 +108,10 @@ module _ (u : Unread) (line after : List ℕ) (one : IsOneLine line) (parts : u.
 pub end_reached : (u : Unread) → u.rest ≡ [] → IsEndRead u u
 end_reached u none = record {
   stays = refl;
-  read = λ bytes ls h.
+  read = λ known bytes ls h.
       let so_far = h.taken in
       record {
-        limits = record { version = refl; head = h.head; lines = h.lines; few = h.few };
+        limits = record { version = h.version; head = h.head; lines = h.lines; few = h.few };
         text = subst (λ z. IsTraceText (trace_with u.head z) bytes) (append-nil ls) (h.text [] none);
         short = omega (arith, so_far, ap length none);
       };
@@ -113,8 +119,8 @@ end_reached u none = record {
 
 pub end_faulty : (u : Unread) (e : TraceFault) → IsOneLine u.rest → (u.rest ≡ [] → ⊥) → (IsOver u.number (length u.rest) u.left → e ≡ Limit u.number)
     → (u.number ≤ 65536 → length u.rest ≤ u.left → e ≡ BadLine u.number) → IsFaultRead u e
-end_faulty u e one some' past bad bytes ls h =
+end_faulty u e one some' past bad known bytes ls h =
     let most = h.room in
-    first_is_fault e bytes (h.fault e
+    first_is_fault known e bytes (h.fault e
     (first_end u.head.partitions u.head.threads u.number (4194304 - u.left) u.rest e one some'
     (λ over. past (in_room u.number u.left (length u.rest) most over)) (λ few short. bad few (omega (arith, most, short)))))

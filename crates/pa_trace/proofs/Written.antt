@@ -3,7 +3,7 @@ use Rattle.std.proofs.Common.{◌≡◌, ℕ, List, [], ◌∷◌, ◌++◌, ref
 use Rattle.std.proofs.lemmas.List.{append-nil}
 use Rattle.pa_trace.specs.declared.script.Trace.{Trace}
 use Rattle.pa_trace.specs.declared.script.Line.{Line}
-use Rattle.pa_trace.specs.Grammar.{IsLineText, AreLinesText, IsTraceText}
+use Rattle.pa_trace.specs.Grammar.{IsLineText, AreLinesText, IsTraceText, head_of_trace, last_version}
 use Rattle.pa_trace.specs.Faults.{IsHeadLine, IsBodyLine}
 use Rattle.pa_trace.specs.Cut.{Appends}
 
@@ -30,7 +30,8 @@ more_written done l old a b x y = (
 
 -- ---- the whole text
 
-pub trace_written : (t : Trace) (lines : List Line) (start a b : List ℕ) → start ≡ [] → lines ≡ t.lines → t.version ≡ 1 → Appends (IsHeadLine t.region t.partitions t.threads) start a → Appends (AreLinesText lines) a b → IsTraceText t b
-trace_written t lines start a b none same first x y =
+pub trace_written : (t : Trace) (lines : List Line) (start a b : List ℕ) → start ≡ [] → lines ≡ t.lines
+    → Appends (IsHeadLine last_version (head_of_trace t)) start a → Appends (AreLinesText lines) a b → IsTraceText t b
+trace_written t lines start a b none same x y =
     let head : a ≡ x.1.0 ++ 10 ∷ [] = x.2 ∙ ap (λ (z : List ℕ). z ++ x.0) none ∙ x.1.2 in
-    (x.1.0, y.0, x.1.1, subst (λ (ls : List Line). AreLinesText ls y.0) same y.1, y.2 ∙ ap (λ (z : List ℕ). z ++ y.0) head ∙ append_assoc x.1.0 (10 ∷ []) y.0, first)
+    (x.1.0, y.0, x.1.1, subst (λ (ls : List Line). AreLinesText ls y.0) same y.1, y.2 ∙ ap (λ (z : List ℕ). z ++ y.0) head ∙ append_assoc x.1.0 (10 ∷ []) y.0, x.1.3)

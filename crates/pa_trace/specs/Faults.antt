@@ -1,9 +1,11 @@
--- Which line of a text is the first faulty one, and by which fault. Lines and bytes count from 1, and a line contains its LF.
+-- Which line of a text is the first faulty one, and by which fault. Lines and bytes count from 1, and a line contains its LF. A head of a
+-- version past the last one that is known is outside the grammar.
 use Rattle.std.specs.Prelude.{◌≡◌, ℕ, ◌+◌, ◌<◌, ◌==◌, ◌⊎◌, if◌then◌else◌, List, [], ◌∷◌, ◌++◌, length}
 use Rattle.pa_trace.specs.declared.fault.TraceFault.{TraceFault}
 use Rattle.pa_trace.specs.declared.fault.TraceFault.TheVariants.{BadLine, Limit, OutOfMemory}
+use Rattle.pa_trace.specs.declared.line.Head.{Head}
 use Rattle.pa_trace.specs.declared.script.Line.{Line}
-use Rattle.pa_trace.specs.Grammar.{IsHeadText, IsLineText}
+use Rattle.pa_trace.specs.Grammar.{IsVersionTo, IsHeadText, IsLineText}
 use Rattle.pa_trace.specs.Limits.{IsHeadWithin, IsLineWithin, most_lines, most_bytes}
 
 -- a byte before lines: an LF is a line of its own, any other byte begins the first line
@@ -20,26 +22,25 @@ lines_of (b ∷ bytes) = with_front b (lines_of bytes)
 abbrev pub IsPast : ℕ → ℕ → List ℕ → Type 0
 IsPast n before line = (most_lines < n) ⊎ (most_bytes < before + length line)
 
--- the line is a head's text and an LF
-abbrev pub IsHeadLine : ℕ → ℕ → ℕ → List ℕ → Type 0
-IsHeadLine region partitions threads line = (text : List ℕ) × IsHeadText region partitions threads text × (line ≡ text ++ 10 ∷ [])
+-- the line is the text of a head and an LF, and the head is of a version up to the last one that is known
+abbrev pub IsHeadLine : ℕ → Head → List ℕ → Type 0
+IsHeadLine known h line = (text : List ℕ) × IsHeadText h text × (line ≡ text ++ 10 ∷ []) × IsVersionTo known h.version
 
 -- the line is the text of a line after the head, and an LF
 abbrev pub IsBodyLine : Line → List ℕ → Type 0
 IsBodyLine l line = (text : List ℕ) × IsLineText l text × (line ≡ text ++ 10 ∷ [])
 
 -- as a head, the line is outside the grammar or has no LF
-abbrev pub IsBadHead : List ℕ → Type 0
-IsBadHead line = (region partitions threads : ℕ) → IsHeadLine region partitions threads line → ⊥
+abbrev pub IsBadHead : ℕ → List ℕ → Type 0
+IsBadHead known line = (h : Head) → IsHeadLine known h line → ⊥
 
 -- as a line after a head, the line is outside the grammar or has no LF
 abbrev pub IsBadLine : List ℕ → Type 0
 IsBadLine line = (l : Line) → IsBodyLine l line → ⊥
 
 -- as a head, the line is in the grammar and a number passes its limit
-abbrev pub IsHeadOverLimit : List ℕ → Type 0
-IsHeadOverLimit line =
-    (region partitions threads : ℕ) × IsHeadLine region partitions threads line × (IsHeadWithin region partitions threads → ⊥)
+abbrev pub IsHeadOverLimit : ℕ → List ℕ → Type 0
+IsHeadOverLimit known line = (h : Head) × IsHeadLine known h line × (IsHeadWithin h → ⊥)
 
 -- as a line after a head, the line is in the grammar and a number passes its limit
 abbrev pub IsLineOverLimit : ℕ → ℕ → List ℕ → Type 0
@@ -61,19 +62,19 @@ IsFirstBehind partitions threads n before (line ∷ lines) e =
     × IsFirstBehind partitions threads (n + 1) (before + length line) lines e)
 
 -- the fault of the first faulty one of all lines, which is at line 1 if there is no line at all
-abbrev pub IsFirstOf : List (List ℕ) → TraceFault → Type 0
-IsFirstOf [] e = e ≡ BadLine 1
-IsFirstOf (line ∷ lines) e =
-    IsFaultOf 1 (IsPast 1 0 line) (IsBadHead line) (IsHeadOverLimit line) e
-    ⊎ ((region partitions threads : ℕ) × IsHeadLine region partitions threads line × IsHeadWithin region partitions threads
-    × (IsPast 1 0 line → ⊥) × IsFirstBehind partitions threads 2 (length line) lines e)
+abbrev pub IsFirstOf : ℕ → List (List ℕ) → TraceFault → Type 0
+IsFirstOf known [] e = e ≡ BadLine 1
+IsFirstOf known (line ∷ lines) e =
+    IsFaultOf 1 (IsPast 1 0 line) (IsBadHead known line) (IsHeadOverLimit known line) e
+    ⊎ ((h : Head) × IsHeadLine known h line × IsHeadWithin h × (IsPast 1 0 line → ⊥)
+    × IsFirstBehind h.partitions h.threads 2 (length line) lines e)
 
 -- the first faulty line of a text, and its fault
-abbrev pub IsFirstFault : TraceFault → List ℕ → Type 0
-IsFirstFault e bytes = IsFirstOf (lines_of bytes) e
+abbrev pub IsFirstFault : ℕ → TraceFault → List ℕ → Type 0
+IsFirstFault known e bytes = IsFirstOf known (lines_of bytes) e
 
 -- why the bytes were not read
-abbrev pub IsFault : TraceFault → List ℕ → Type 0
-IsFault (BadLine n) bytes = IsFirstFault (BadLine n) bytes
-IsFault (Limit n) bytes = IsFirstFault (Limit n) bytes
-IsFault OutOfMemory bytes = Unit {0}
+abbrev pub IsFault : ℕ → TraceFault → List ℕ → Type 0
+IsFault known (BadLine n) bytes = IsFirstFault known (BadLine n) bytes
+IsFault known (Limit n) bytes = IsFirstFault known (Limit n) bytes
+IsFault known OutOfMemory bytes = Unit {0}

@@ -1,7 +1,8 @@
 -- The text of a trace, as a relation by cases on its lines. Numbers are of any length here; the limits are stated apart.
-use Rattle.std.specs.Prelude.{◌≡◌, ℕ, ◌<◌, List, [], ◌∷◌, ◌++◌, codes}
+use Rattle.std.specs.Prelude.{◌≡◌, ℕ, ◌<◌, ◌≤◌, List, [], ◌∷◌, ◌++◌, codes}
 use Rattle.pa_text.specs.Numeral.{IsNumeral}
 use Rattle.pa_text.specs.Hex.{hex}
+use Rattle.pa_trace.specs.declared.line.Head.{Head}
 use Rattle.pa_trace.specs.declared.script.Trace.{Trace}
 use Rattle.pa_trace.specs.declared.script.Line.{Line}
 use Rattle.pa_trace.specs.declared.script.Line.TheVariants.{Phase, Do}
@@ -32,17 +33,29 @@ abbrev pub AreLinesText : List Line → List ℕ → Type 0
 AreLinesText [] text = text ≡ []
 AreLinesText (l ∷ ls) text = (first rest : List ℕ) × IsLineText l first × AreLinesText ls rest × (text ≡ first ++ 10 ∷ rest)
 
--- `trace 1 region N partitions P threads T`
-abbrev pub IsHeadText : ℕ → ℕ → ℕ → List ℕ → Type 0
-IsHeadText region partitions threads text =
-    (n p t : List ℕ) × IsNumeral region n × IsNumeral partitions p × IsNumeral threads t
-    × (text ≡ codes "trace 1 region " ++ n ++ codes " partitions " ++ p ++ codes " threads " ++ t)
+-- the last version of traces
+abbrev pub last_version : ℕ
+last_version = 2
 
--- the head, ended by an LF, and the lines, of a trace of version 1
+-- a version of traces, up to this one
+abbrev pub IsVersionTo : ℕ → ℕ → Type 0
+IsVersionTo last version = (1 ≤ version) × (version ≤ last)
+
+-- the head of a trace
+abbrev pub head_of_trace : Trace → Head
+head_of_trace t = record { version = t.version; region = t.region; partitions = t.partitions; threads = t.threads }
+
+-- `trace V region N partitions P threads T`
+abbrev pub IsHeadText : Head → List ℕ → Type 0
+IsHeadText h text =
+    (v n p t : List ℕ) × IsNumeral h.version v × IsNumeral h.region n × IsNumeral h.partitions p × IsNumeral h.threads t
+    × (text ≡ codes "trace " ++ v ++ codes " region " ++ n ++ codes " partitions " ++ p ++ codes " threads " ++ t)
+
+-- the head, ended by an LF, and the lines, of a trace of one of the versions
 abbrev pub IsTraceText : Trace → List ℕ → Type 0
 IsTraceText t text =
-    (head rest : List ℕ) × IsHeadText t.region t.partitions t.threads head × AreLinesText t.lines rest × (text ≡ head ++ 10 ∷ rest)
-    × (t.version ≡ 1)
+    (head rest : List ℕ) × IsHeadText (head_of_trace t) head × AreLinesText t.lines rest × (text ≡ head ++ 10 ∷ rest)
+    × IsVersionTo last_version t.version
 
 -- two traces are the same, compared by their heads and lines
 pub record IsSameTrace (s t : Trace) : Type 0 where

@@ -1,13 +1,14 @@
 -- The limits of a trace.
-use Rattle.std.specs.Prelude.{◌≡◌, ℕ, ◌<◌, ◌≤◌, List, length}
+use Rattle.std.specs.Prelude.{ℕ, ◌<◌, ◌≤◌, nat_le, if◌then◌else◌, List, length}
 use Rattle.std.specs.List.{AllByRecursion}
-use Rattle.pa_layout.specs.Limits.{most_supers}
+use Rattle.pa_layout.specs.Limits.{most_supers, region_supers}
+use Rattle.pa_trace.specs.declared.line.Head.{Head}
 use Rattle.pa_trace.specs.declared.script.Trace.{Trace}
 use Rattle.pa_trace.specs.declared.script.Line.{Line}
 use Rattle.pa_trace.specs.declared.script.Line.TheVariants.{Phase, Do}
 use Rattle.pa_trace.specs.declared.script.Op.{Op}
 use Rattle.pa_trace.specs.declared.script.Op.TheVariants.{Alloc, Copy, Reset, Free, Write, Read, Swap, Purge}
-use Rattle.pa_trace.specs.Grammar.{IsTraceText}
+use Rattle.pa_trace.specs.Grammar.{IsVersionTo, IsTraceText, head_of_trace, last_version}
 
 -- how many registers each thread has
 abbrev pub register_count : ℕ
@@ -42,11 +43,15 @@ abbrev pub IsLineWithin : ℕ → ℕ → Line → Type 0
 IsLineWithin partitions threads Phase = Unit {0}
 IsLineWithin partitions threads (Do thread op) = (thread < threads) × IsOpWithin partitions op
 
--- a head: 1 to 16 super pages, 1 to 4 partitions, 1 to 16 threads
-abbrev pub IsHeadWithin : ℕ → ℕ → ℕ → Type 0
-IsHeadWithin region partitions threads =
-    ((1 ≤ region) × (region ≤ most_supers)) × ((1 ≤ partitions) × (partitions ≤ most_partitions)) × ((1 ≤ threads)
-    × (threads ≤ most_threads))
+-- the most super pages of a region in a version
+abbrev pub most_region : ℕ → ℕ
+most_region version = if nat_le version 1 then most_supers else region_supers
+
+-- a head: 1 to 16 super pages in version 1 and 1 to 64 in version 2, 1 to 4 partitions, 1 to 16 threads
+abbrev pub IsHeadWithin : Head → Type 0
+IsHeadWithin h =
+    ((1 ≤ h.region) × (h.region ≤ most_region h.version)) × ((1 ≤ h.partitions) × (h.partitions ≤ most_partitions))
+    × ((1 ≤ h.threads) × (h.threads ≤ most_threads))
 
 -- the most lines of a trace, the head included
 abbrev pub most_lines : ℕ
@@ -56,10 +61,10 @@ most_lines = 65536
 abbrev pub most_bytes : ℕ
 most_bytes = 4194304
 
--- a trace within the limits: of version 1, and of at most 65,536 lines, the head included
+-- a trace within the limits: of one of the versions, and of at most 65,536 lines, the head included
 pub record IsWithinLimits (t : Trace) : Type 0 where
-  pub version : t.version ≡ 1
-  pub head : IsHeadWithin t.region t.partitions t.threads
+  pub version : IsVersionTo last_version t.version
+  pub head : IsHeadWithin (head_of_trace t)
   pub lines : AllByRecursion (IsLineWithin t.partitions t.threads) t.lines
   pub few : length t.lines < most_lines
 

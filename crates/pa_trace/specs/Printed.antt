@@ -31,8 +31,8 @@ line_text (Do thread op) = decimal thread ++ op_text op ++ 10 ∷ []
 -- the head and an LF
 abbrev pub head_text : Head → List ℕ
 head_text head =
-    word_then_number (codes "trace 1 region ") head.region ++ (word_then_number (codes " partitions ") head.partitions
-    ++ (word_then_number (codes " threads ") head.threads ++ 10 ∷ []))
+    word_then_number (codes "trace ") head.version ++ (word_then_number (codes " region ") head.region
+    ++ (word_then_number (codes " partitions ") head.partitions ++ (word_then_number (codes " threads ") head.threads ++ 10 ∷ [])))
 
 -- ---- what the types say of the numbers of a line
 

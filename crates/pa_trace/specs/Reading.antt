@@ -1,7 +1,6 @@
 -- Reading a line from left to right. A number is handed on with its value if it has 32 bits.
 use Rattle.std.specs.Prelude.{◌≡◌, ℕ, ◌==◌, ◌&&◌, nat_eq, nat_lt, nat_le, if◌then◌else◌, List, [], ◌∷◌, length, take, drop, codes, Option, Some, None, Result, Ok, Err}
 use Rattle.std.specs.Cmp.Lexicographic.{pointwise}
-use Rattle.pa_layout.specs.Limits.{most_supers}
 use Rattle.pa_text.specs.Reading.{fitted, number_at, hexes_at}
 use Rattle.pa_trace.specs.declared.field.LineFault.{LineFault}
 use Rattle.pa_trace.specs.declared.field.LineFault.TheVariants.{Outside, Past}
@@ -10,7 +9,7 @@ use Rattle.pa_trace.specs.declared.script.Line.{Line}
 use Rattle.pa_trace.specs.declared.script.Line.TheVariants.{Phase, Do}
 use Rattle.pa_trace.specs.declared.script.Op.{Op}
 use Rattle.pa_trace.specs.declared.script.Op.TheVariants.{Alloc, Copy, Reset, Free, Write, Read, Swap, Purge}
-use Rattle.pa_trace.specs.Limits.{register_count, cell_count, most_partitions, most_threads}
+use Rattle.pa_trace.specs.Limits.{register_count, cell_count, most_region, most_partitions, most_threads}
 
 -- one step that may fail, and then the next
 infixl 10 ◌>>=◌
@@ -103,19 +102,26 @@ abbrev pub count_in : Option ℕ → ℕ → Result ℕ LineFault
 count_in None most = Err Past
 count_in (Some n) most = if nat_le 1 n && nat_le n most then Ok n else Err Past
 
--- the head with these numbers of super pages, partitions and threads, if each is within its limit
-abbrev pub head_of : Option ℕ → Option ℕ → Option ℕ → Result Head LineFault
-head_of one two three = do
-  region ← count_in one most_supers
+-- the version, if it is one up to the last that is known: any other is outside the grammar
+abbrev pub known_in : ℕ → Option ℕ → Result ℕ LineFault
+known_in known None = Err Outside
+known_in known (Some n) = if nat_le 1 n && nat_le n known then Ok n else Err Outside
+
+-- the head of this version with these numbers of super pages, partitions and threads, if each is within its limit
+abbrev pub head_of : ℕ → Option ℕ → Option ℕ → Option ℕ → Result Head LineFault
+head_of version one two three = do
+  region ← count_in one (most_region version)
   partitions ← count_in two most_partitions
   threads ← count_in three most_threads
-  Ok (record { region = region; partitions = partitions; threads = threads })
+  Ok (record { version = version; region = region; partitions = partitions; threads = threads })
 
 -- the head, without its LF
-unfoldable pub head_in : List ℕ → Result Head LineFault
-head_in bytes = do
-  numbers ← three_in bytes (codes "trace 1 region ") (codes " partitions ") (codes " threads ")
-  head_of numbers.0 numbers.1 numbers.2
+unfoldable pub head_in : ℕ → List ℕ → Result Head LineFault
+head_in known bytes = do
+  first ← field_in (codes "trace ") bytes
+  numbers ← three_in first.1 (codes " region ") (codes " partitions ") (codes " threads ")
+  version ← known_in known first.0
+  head_of version numbers.0 numbers.1 numbers.2
 
 -- after the letter A: a register, one of the trace's partitions, and a size of 32 bits
 unfoldable pub alloc_in : ℕ → List ℕ → Result Op LineFault

@@ -36,7 +36,7 @@ pub fn number_in(bytes: &[u8]) -> Result<(Option<u32>, &[u8]), LineFault>
 // A word and the number after it.
 #[tactic(auto, unfolding(crate::specs::Reading::field_in))]
 #[inline(always)]
-fn field_in<'a>(word: &[u8], bytes: &'a [u8]) -> Result<(Option<u32>, &'a [u8]), LineFault>
+pub fn field_in<'a>(word: &[u8], bytes: &'a [u8]) -> Result<(Option<u32>, &'a [u8]), LineFault>
     ensures { Gives {Y = Option ℕ × List ℕ} (λ x. (x.0, x.1.now)) result (field_in word.now bytes.now) }
 {
     let rest = behind(word, bytes)?;

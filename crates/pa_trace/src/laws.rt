@@ -1,7 +1,9 @@
-ghost use Rattle.std.specs.Prelude.{◌≡◌, ℕ, ◌+◌, ◌*◌, ◌≤◌, ◌++◌, List, [], ◌∷◌, length};
+ghost use Rattle.std.specs.Prelude.{◌≡◌, ◌↔◌, ℕ, ◌+◌, ◌*◌, ◌≤◌, ◌++◌, List, [], ◌∷◌, length, codes};
+ghost use Rattle.pa_text.specs.Numeral.{IsNumeral};
 ghost use Rattle.pa_trace.specs.declared.fault.TraceFault.{TraceFault};
+ghost use Rattle.pa_trace.specs.declared.line.Head.{Head};
 ghost use Rattle.pa_trace.specs.declared.script.Trace.{Trace};
-ghost use Rattle.pa_trace.specs.Grammar.{IsTraceText, IsSameTrace};
+ghost use Rattle.pa_trace.specs.Grammar.{IsHeadText, IsTraceText, IsSameTrace, last_version};
 ghost use Rattle.pa_trace.specs.Limits.{IsWithinLimits, IsInput};
 ghost use Rattle.pa_trace.specs.Faults.{IsFirstFault, IsFault};
 ghost use Rattle.pa_trace.specs.Generated.{drawn_words, IsGeneratedOf, KeepsCellsApart};
@@ -12,16 +14,26 @@ pub fn one_text()
     ensures trace { (s t : Trace) (text : List ℕ) → IsTraceText s text → IsTraceText t text → IsSameTrace s t }
 {}
 
-/// Bytes are an input, or they have one first fault: its line and its cause are determined.
+/// The head of version 1 is the one that it was when there was no other version.
+pub fn first_version_text()
+    ensures { (h : Head) (text : List ℕ) → h.version ≡ 1 → IsHeadText h text ↔ ((n p t : List ℕ) × IsNumeral h.region n
+        × IsNumeral h.partitions p × IsNumeral h.threads t
+        × (text ≡ codes "trace 1 region " ++ n ++ codes " partitions " ++ p ++ codes " threads " ++ t)) }
+{}
+
+/// Bytes are an input of a version up to the last one that is known, or they have one first fault: its line and its cause are determined.
 pub fn one_answer()
-    ensures none { (t : Trace) (bytes : List ℕ) (e : TraceFault) → IsInput t bytes → IsFirstFault e bytes → ⊥ }
-    ensures one { (d e : TraceFault) (bytes : List ℕ) → IsFirstFault d bytes → IsFirstFault e bytes → d ≡ e }
-    ensures some { (bytes : List ℕ) → ((t : Trace) → IsInput t bytes → ⊥) → (e : TraceFault) × IsFirstFault e bytes }
+    ensures none { (known : ℕ) (t : Trace) (bytes : List ℕ) (e : TraceFault) → t.version ≤ known → IsInput t bytes
+        → IsFirstFault known e bytes → ⊥ }
+    ensures one { (known : ℕ) (d e : TraceFault) (bytes : List ℕ) → IsFirstFault known d bytes → IsFirstFault known e bytes → d ≡ e }
+    ensures some { (known : ℕ) (bytes : List ℕ) → known ≤ last_version → ((t : Trace) → t.version ≤ known → IsInput t bytes → ⊥)
+        → (e : TraceFault) × IsFirstFault known e bytes }
 {}
 
 /// The first 4,194,305 bytes have the fault of the whole: no more of the text has to be read.
 pub fn early_fault()
-    ensures { (e : TraceFault) (bytes more : List ℕ) → length bytes ≡ 4194305 → IsFault e bytes → IsFault e (bytes ++ more) }
+    ensures { (known : ℕ) (e : TraceFault) (bytes more : List ℕ) → length bytes ≡ 4194305 → IsFault known e bytes
+        → IsFault known e (bytes ++ more) }
 {}
 
 /// The text of a trace within the limits is an input, so what is written can be read again.

@@ -1,12 +1,19 @@
 ghost use Rattle.std.specs.Prelude.{◌≡◌};
-ghost use Rattle.pa_trace.specs.Reading.{count_in, head_of, head_in, do_in, line_in};
+ghost use Rattle.pa_trace.specs.Limits.{most_region};
+ghost use Rattle.pa_trace.specs.Reading.{known_in, count_in, head_of, head_in, do_in, line_in};
 
-use crate::field::{LineFault, behind, below, number_in, three_numbers};
+use crate::field::{LineFault, behind, below, field_in, number_in, three_numbers};
 use crate::op::op_in;
 use crate::script::Line;
 
-/// The most super pages of a region.
+/// The last version of traces.
+pub const LAST_VERSION: u32 = 2;
+
+/// The most super pages of a region in version 1.
 pub const MOST_SUPER_PAGES: u32 = 16;
+
+/// The most super pages of a region since version 2.
+pub const MOST_SUPER_PAGES_2: u32 = 64;
 
 /// The most partitions of a heap.
 pub const MOST_PARTITIONS: u32 = 4;
@@ -14,9 +21,10 @@ pub const MOST_PARTITIONS: u32 = 4;
 /// The most threads of a trace.
 pub const MOST_THREADS: u32 = 16;
 
-/// The numbers of a head: the region in super pages, the partitions and the threads.
+/// The numbers of a head: the version, the region in super pages, the partitions and the threads.
 #[derive(Clone, Copy, Debug, PartialEq, Eq)]
 pub struct Head {
+    pub version: u32,
     pub region: u32,
     pub partitions: u32,
     pub threads: u32,
@@ -32,30 +40,55 @@ fn count_in(number: Option<u32>, most: u32) -> Result<u32, LineFault>
     }
 }
 
-// The head, which is the whole line.
-#[tactic(auto, unfolding(crate::specs::Reading::head_in))]
-pub fn head_in(bytes: &[u8]) -> Result<Head, LineFault>
-    ensures { result ≡ head_in bytes.now }
+// The version, if it is one up to the last that is known: any other is outside the grammar.
+fn known_in(known: u32, number: Option<u32>) -> Result<u32, LineFault>
+    ensures { result ≡ known_in known number }
 {
+    match number {
+        Some(version) if 1 <= version && version <= known => Ok(version),
+        _ => Err(LineFault::Outside),
+    }
+}
+
+// The most super pages of a region in a version.
+fn most_region(version: u32) -> u32
+    ensures { result ≡ most_region version }
+{
+    if version <= 1 {
+        MOST_SUPER_PAGES
+    } else {
+        MOST_SUPER_PAGES_2
+    }
+}
+
+// The head, which is the whole line. `known` is the last version that is known.
+#[tactic(auto, unfolding(crate::specs::Reading::head_in))]
+pub fn head_in(known: u32, bytes: &[u8]) -> Result<Head, LineFault>
+    ensures { result ≡ head_in known bytes.now }
+{
+    let (first, rest) = field_in(b"trace ", bytes)?;
     let (region, partitions, threads) = three_numbers(
-        bytes,
-        b"trace 1 region ",
+        rest,
+        b" region ",
         b" partitions ",
         b" threads ",
     )?;
-    head_of(region, partitions, threads)
+    let version = known_in(known, first)?;
+    head_of(version, region, partitions, threads)
 }
 
-/// The head of three numbers, each of which may be too large.
+/// The head of a version with three numbers, each of which may be too large.
 pub fn head_of(
+    version: u32,
     region: Option<u32>,
     partitions: Option<u32>,
     threads: Option<u32>,
 ) -> Result<Head, LineFault>
-    ensures { result ≡ head_of region partitions threads }
+    ensures { result ≡ head_of version region partitions threads }
 {
     Ok(Head {
-        region: count_in(region, MOST_SUPER_PAGES)?,
+        version,
+        region: count_in(region, most_region(version))?,
         partitions: count_in(partitions, MOST_PARTITIONS)?,
         threads: count_in(threads, MOST_THREADS)?,
     })

@@ -1,4 +1,5 @@
 ghost use Rattle.std.specs.Prelude.{◌≡◌, ◌≢◌, ◌<◌, ◌≤◌, ◌⊎◌, ◌↔◌, ◌++◌, ◌∷◌, [], IsTrue, IfOk, IfErr, OnErr, MatchOption};
+ghost use Rattle.pa_trace.specs.Grammar.{last_version};
 ghost use Rattle.pa_trace.specs.Limits.{most_lines};
 ghost use Rattle.pa_trace.specs.Faults.{IsFault};
 ghost use Rattle.pa_trace.specs.Cut.{IsOneLine, told};
@@ -35,10 +36,11 @@ impl<'a> Model for LineReader<'a> {
 }
 
 impl<'a> LineReader<'a> {
-    /// Reads the head, which is line 1. It needs no memory.
-    pub fn of(bytes: &'a [u8]) -> Result<LineReader<'a>, TraceFault>
-        ensures head { IfOk result (IsReadUpTo bytes.now []) }
-        ensures fault { IfErr result (λ e. IsFault e bytes.now) }
+    /// Reads the head, which is line 1, of a version up to `known`: any other is `BadLine(1)`. It needs no memory.
+    pub fn of(known: u32, bytes: &'a [u8]) -> Result<LineReader<'a>, TraceFault>
+        requires { known ≤ last_version }
+        ensures head { IfOk result (IsReadUpTo known bytes.now []) }
+        ensures fault { IfErr result (λ e. IsFault known e bytes.now) }
         ensures never { IfErr result (λ e. e ≢ faults.OutOfMemory) }
     {
         let Some((first, rest)) = cut_line(bytes) else {
@@ -48,7 +50,7 @@ impl<'a> LineReader<'a> {
         if is_past(1, length, MOST_BYTES) {
             return Err(TraceFault::Limit(1));
         }
-        match head_in(first) {
+        match head_in(known, first) {
             Ok(head) => Ok(LineReader {
                 head,
                 rest,

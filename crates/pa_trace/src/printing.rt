@@ -2,6 +2,7 @@
 ghost use Rattle.std.specs.Prelude.{◌≡◌, ◌<◌, ◌++◌, OnOk, OnErr};
 ghost use Rattle.std.specs.Fmt.{decimal};
 ghost use Rattle.std.specs.Io.{StartsWith};
+ghost use Rattle.pa_trace.specs.Grammar.{IsVersionTo, last_version};
 ghost use Rattle.pa_trace.specs.Faults.{IsBodyLine, IsHeadLine};
 ghost use Rattle.pa_trace.specs.Printed.{LineInBits, word_then_number, head_text, line_text, op_text};
 
@@ -15,7 +16,8 @@ pub(crate) fn print_head(out: &mut Text, head: Head) -> Result<(), OutOfMemory>
     ensures pushed { OnOk result (out.new ≡ out.old ++ head_text head) }
     ensures kept { OnErr result (StartsWith out.new out.old) }
 {
-    push_field(out, b"trace 1 region ", head.region)?;
+    push_field(out, b"trace ", head.version)?;
+    push_field(out, b" region ", head.region)?;
     push_field(out, b" partitions ", head.partitions)?;
     push_field(out, b" threads ", head.threads)?;
     push_byte(out, b'\n')
@@ -98,9 +100,10 @@ fn push_few(out: &mut Text, n: u32) -> Result<(), OutOfMemory>
     push_number(out, u64::from(n))
 }
 
-// What is printed of a head is its text.
+// What is printed of a head of one of the versions is its text.
 pub(crate) fn head_is(head: Head)
-    ensures { IsHeadLine head.region head.partitions head.threads (head_text head) }
+    requires { IsVersionTo last_version head.version }
+    ensures { IsHeadLine last_version head (head_text head) }
 {}
 
 // What is printed of a line is its text.

@@ -1,9 +1,10 @@
-ghost use Rattle.std.specs.Prelude.{IfOk, IfErr};
+ghost use Rattle.std.specs.Prelude.{◌≤◌, IfOk, IfErr};
+ghost use Rattle.pa_trace.specs.Grammar.{last_version};
 ghost use Rattle.pa_trace.specs.Limits.{IsInput};
 ghost use Rattle.pa_trace.specs.Faults.{IsFault};
 
 use crate::fault::TraceFault;
-use crate::line::Head;
+use crate::line::{Head, LAST_VERSION};
 use crate::line_reader::{LineReader, MOST_LINES};
 use crate::script::{Lines, Trace};
 use std::alloc::Global;
@@ -16,20 +17,31 @@ const LINE: usize = 4;
 /// outside the grammar or has no LF; else by `Limit` if a number passes its limit. No bytes are `BadLine(1)`.
 pub fn read_trace(alloc: Global, bytes: &[u8]) -> Result<Trace, TraceFault>
     ensures found { IfOk result (λ t. IsInput t bytes.now) }
-    ensures fault { IfErr result (λ e. IsFault e bytes.now) }
+    ensures fault { IfErr result (λ e. IsFault last_version e bytes.now) }
 {
-    let mut reader = LineReader::of(bytes)?;
+    read_trace_to(alloc, LAST_VERSION, bytes)
+}
+
+/// The same, where `known` is the last version that is known: a head of a later one is outside the grammar.
+pub fn read_trace_to(alloc: Global, known: u32, bytes: &[u8]) -> Result<Trace, TraceFault>
+    requires { known ≤ last_version }
+    ensures found { IfOk result (λ t. IsInput t bytes.now) }
+    ensures version { IfOk result (λ t. t.version ≤ known) }
+    ensures fault { IfErr result (λ e. IsFault known e bytes.now) }
+{
+    let mut reader = LineReader::of(known, bytes)?;
     let mut lines = Vec::with_capacity(alloc, (bytes.len() / LINE).min(MOST_LINES as usize))?;
     while let Some(line) = reader.next()? {
         lines.push(line)?;
     }
     let Head {
+        version,
         region,
         partitions,
         threads,
     } = reader.head();
     Ok(Trace {
-        version: 1,
+        version,
         region,
         partitions,
         threads,

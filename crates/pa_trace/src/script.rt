@@ -1,6 +1,8 @@
 ghost use Rattle.std.specs.Prelude.{◌≡◌};
+ghost use Rattle.pa_trace.specs.Grammar.{head_of_trace};
 ghost use Rattle.pa_trace.specs.Rules.{rules_of};
 
+use crate::line::Head;
 use std::marker::Model;
 
 /// By which rules a line is played: the version of its trace, and the first plain partition, which in a trace without plain
@@ -23,6 +25,18 @@ pub struct Trace {
 }
 
 impl Trace {
+    /// Its head.
+    pub fn head(&self) -> Head
+        ensures { result ≡ head_of_trace self.now }
+    {
+        Head {
+            version: self.version,
+            region: self.region,
+            partitions: self.partitions,
+            threads: self.threads,
+        }
+    }
+
     /// The rules by which its lines are played.
     pub fn rules(&self) -> Rules
         ensures { result ≡ rules_of self.now }

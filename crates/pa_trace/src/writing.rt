@@ -1,6 +1,6 @@
 ghost use Rattle.std.specs.Prelude.{◌≡◌, ◌++◌, ◌≤◌, length, OnOk, OnErr, IfOk};
 ghost use Rattle.std.specs.Io.{StartsWith};
-ghost use Rattle.pa_trace.specs.Grammar.{AreLinesText, IsTraceText};
+ghost use Rattle.pa_trace.specs.Grammar.{IsVersionTo, AreLinesText, IsTraceText, last_version};
 ghost use Rattle.pa_trace.specs.Limits.{IsWithinLimits, most_bytes};
 ghost use Rattle.pa_trace.specs.Faults.{IsHeadLine, IsBodyLine};
 ghost use Rattle.pa_trace.specs.Cut.{Appends};
@@ -23,20 +23,16 @@ pub fn write_trace(alloc: Global, trace: &Trace) -> Result<Vec<u8>, OutOfMemory>
     ensures short { IfOk result (λ text. length text.items ≤ most_bytes) }
 {
     let lines = trace.lines.as_slice();
-    let head = Head {
-        region: trace.region,
-        partitions: trace.partitions,
-        threads: trace.threads,
-    };
     let mut out = Text::with_capacity(alloc, LINE * (lines.len() + 4))?;
-    push_head(&mut out, head)?;
+    push_head(&mut out, trace.head())?;
     push_lines(&mut out, lines)?;
     Ok(out.into_vec())
 }
 
-/// Appends the head and an LF. If memory runs out, a first part of it may have been appended.
+/// Appends the head, of one of the versions, and an LF. If memory runs out, a first part of it may have been appended.
 pub fn push_head(out: &mut Text, head: Head) -> Result<(), OutOfMemory>
-    ensures pushed { OnOk result (Appends (IsHeadLine head.region head.partitions head.threads) out.old out.new) }
+    requires { IsVersionTo last_version head.version }
+    ensures pushed { OnOk result (Appends (IsHeadLine last_version head) out.old out.new) }
     ensures kept { OnErr result (StartsWith out.new out.old) }
 {
     head_is(head);

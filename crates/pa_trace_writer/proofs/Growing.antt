@@ -3,14 +3,14 @@ use Rattle.std.proofs.Common.{◌≡◌, ℕ, List, [], ◌∷◌, ◌++◌, ref
 use Rattle.pa_trace.specs.declared.line.Head.{Head}
 use Rattle.pa_trace.specs.declared.script.Line.{Line}
 use Rattle.pa_trace.specs.Cut.{Appends}
-use Rattle.pa_trace.specs.Grammar.{AreLinesText, IsTraceText}
+use Rattle.pa_trace.specs.Grammar.{AreLinesText, IsTraceText, last_version}
 use Rattle.pa_trace.specs.Faults.{IsBodyLine, IsHeadLine}
 use Rattle.pa_trace.specs.Unread.{trace_with}
 use Rattle.pa_trace.proofs.Written.{more_written, none_written, trace_written}
 
 -- a head, after which no line comes yet
-pub head_alone : (head : Head) (start text : List ℕ) → start ≡ [] → Appends (IsHeadLine head.region head.partitions head.threads) start text → IsTraceText (trace_with head []) text
-head_alone head start text none more = trace_written (trace_with head []) [] start text text none refl refl more (none_written text)
+pub head_alone : (head : Head) (start text : List ℕ) → start ≡ [] → Appends (IsHeadLine last_version head) start text → IsTraceText (trace_with head []) text
+head_alone head start text none more = trace_written (trace_with head []) [] start text text none refl more (none_written text)
 
 -- a text of one line more
 pub line_more : (head : Head) (ls : List Line) (l : Line) (old new : List ℕ) → IsTraceText (trace_with head ls) old → Appends (IsBodyLine l) old new

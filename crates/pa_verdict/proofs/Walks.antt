@@ -31,8 +31,11 @@ rows_whole : (facts : Facts) (ps : List Played) → ((i : ℕ) (x : Played) → 
 rows_whole facts [] h = (no_regs, refl)
 rows_whole facts (y ∷ ps) h =
     let e = end_of y ps in
-    let (all, next, to, row) = h e.place e.last e.at in
-    (with_thread all e.last.thread next, subst (λ zs. RowsTo facts no_regs zs (with_thread all e.last.thread next)) (sym e.parts) (rows_end facts no_regs all next (take e.place (y ∷ ps)) e.last to row))
+    let (all, next, to, row) = h e.place e.last e.at in (
+      with_thread all e.last.thread next,
+      subst (λ zs. RowsTo facts no_regs zs (with_thread all e.last.thread next)) (sym e.parts)
+          (rows_end facts no_regs all next (take e.place (y ∷ ps)) e.last to row),
+    )
 
 registers_meet : (t : Trace) (r : Told) → AreRegisters (usable_of t.version) r.cells (records_of t r) → IsMet clauses.Registers t r
 registers_meet t r h (places.Record i) = λ x at.

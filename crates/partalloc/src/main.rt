@@ -1,5 +1,5 @@
-//! The program: it runs the words of its command line over standard input and standard output, prints the text of a
-//! status that isn't done on standard error, and ends with the status's number.
+//! The program: it does what its arguments ask for, from standard input to standard output. If the status isn't `Done` it prints the
+//! status's text on standard error. It exits with the status's number.
 #![tactic(auto)]
 
 ghost use Rattle.std.specs.Prelude.{◌≡◌};

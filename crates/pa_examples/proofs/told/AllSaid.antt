@@ -72,7 +72,7 @@ pub record ReadFits (answer : Answer) (word value after : ℕ) (ts : List ToldRe
   pub heard : (u : Title) → seen_among u (seen_number after) ≤ seen_among u (seen_number 4)
 
 limits : IsWithinLimits two_threads_trace
-limits = record { version = refl; head = search rules; lines = search rules; few = search rules }
+limits = record { version = (omega arith, omega arith); head = search rules; lines = search rules; few = search rules }
 
 module _ (answer : Answer) (word value after : ℕ) (fits : ReadFits answer word value after (reading_so (so_read answer word value after))) where
   abbrev so : Worked
@@ -274,7 +274,25 @@ fits answer word value after look told row cached viewed first second last heard
 
 pub poison_fits : ReadFits (answers.Value (seen_at 16384 0 0x2000003) poison) 0x2000003 poison 2 (reading_so the_read)
 poison_fits = fits (answers.Value (seen_at 16384 0 0x2000003) poison) 0x2000003 poison 2 refl
-    (λ sizes long. subst (λ n. IsTold (λ s. n) (told_record the_read)) (sym long) (refl, (0, 0, false, refl, record { since = no_deeds; unclean = false; rest = []; pair = refl; none = refl; quiet = refl; clean = refl; in_use = omega arith })))
+    (λ sizes long. subst (λ n. IsTold (λ s. n) (told_record the_read)) (sym long) (
+      refl,
+      (
+        0,
+        0,
+        false,
+        refl,
+        record {
+          since = no_deeds;
+          unclean = false;
+          rest = [];
+          pair = refl;
+          none = refl;
+          quiet = refl;
+          clean = refl;
+          in_use = omega arith;
+        },
+      ),
+    ))
     (λ sizes long. held_row sizes long 0x2000003 poison refl) (none_on two_threads_journal 8 refl, λ p c. refl) seen_so
     (record { knows = knows_one told_first steps_first of_first; own_logs = refl; adds = λ q. refl; order = order_1 (answers.Value (seen_at 16384 0 0x2000003) poison) 0x2000003 poison 2 })
     (record {
@@ -296,7 +314,25 @@ poison_fits = fits (answers.Value (seen_at 16384 0 0x2000003) poison) 0x2000003 
 
 pub content_fits : ReadFits (answers.Value (seen_at 16384 0 0x2000003) 0) 0x2000003 0 2 (reading_so content_read)
 content_fits = fits (answers.Value (seen_at 16384 0 0x2000003) 0) 0x2000003 0 2 refl
-    (λ sizes long. subst (λ n. IsTold (λ s. n) (told_record content_read)) (sym long) (refl, (0, 0, false, refl, record { since = no_deeds; unclean = false; rest = []; pair = refl; none = refl; quiet = refl; clean = refl; in_use = omega arith })))
+    (λ sizes long. subst (λ n. IsTold (λ s. n) (told_record content_read)) (sym long) (
+      refl,
+      (
+        0,
+        0,
+        false,
+        refl,
+        record {
+          since = no_deeds;
+          unclean = false;
+          rest = [];
+          pair = refl;
+          none = refl;
+          quiet = refl;
+          clean = refl;
+          in_use = omega arith;
+        },
+      ),
+    ))
     (λ sizes long. held_row sizes long 0x2000003 0 refl) (none_on two_threads_journal 8 refl, λ p c. refl) other_reads_fit.content.viewed
     (record { knows = knows_one told_first steps_first of_first; own_logs = refl; adds = λ q. refl; order = order_1 (answers.Value (seen_at 16384 0 0x2000003) 0) 0x2000003 0 2 })
     (record {
@@ -318,7 +354,25 @@ content_fits = fits (answers.Value (seen_at 16384 0 0x2000003) 0) 0x2000003 0 2 
 
 pub freed_fits : ReadFits (answers.Dangling (seen_at 16384 0 0x3000002) poison) 0x3000002 poison 3 (reading_so freed_read)
 freed_fits = fits (answers.Dangling (seen_at 16384 0 0x3000002) poison) 0x3000002 poison 3 refl
-    (λ sizes long. subst (λ n. IsTold (λ s. n) (told_record freed_read)) (sym long) (refl, (0, 0, false, refl, record { since = no_deeds; unclean = false; rest = []; pair = refl; none = refl; quiet = refl; clean = refl; in_use = omega arith })))
+    (λ sizes long. subst (λ n. IsTold (λ s. n) (told_record freed_read)) (sym long) (
+      refl,
+      (
+        0,
+        0,
+        false,
+        refl,
+        record {
+          since = no_deeds;
+          unclean = false;
+          rest = [];
+          pair = refl;
+          none = refl;
+          quiet = refl;
+          clean = refl;
+          in_use = omega arith;
+        },
+      ),
+    ))
     (λ sizes long. freed_row sizes long 0x3000002 poison refl) (none_on two_threads_journal 8 refl, λ p c. refl) other_reads_fit.freed.viewed
     (record { knows = knows_one told_first steps_first of_first; own_logs = refl; adds = λ q. refl; order = order_1 (answers.Dangling (seen_at 16384 0 0x3000002) poison) 0x3000002 poison 3 })
     (record {

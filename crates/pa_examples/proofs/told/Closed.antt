@@ -110,7 +110,8 @@ module _ (answer : Answer) (word value after : ℕ) (last : KnowsLast (reading_s
 
   pub closes_with : (says : SaysWith so) → says.lists ≡ caches_until → ClosesWith so
   closes_with says are =
-      let close : CloseSays two_threads_trace (told_with so) (seat_last so) ts (says.lists 3) = subst (λ lists. CloseSays two_threads_trace (told_with so) (seat_last so) ts (lists 3)) (sym are) closes in
+      let close : CloseSays two_threads_trace (told_with so) (seat_last so) ts (says.lists 3) = subst
+      (λ lists. CloseSays two_threads_trace (told_with so) (seat_last so) ts (lists 3)) (sym are) closes in
       let end = is_end answer word value after last in
       record { says = says; closes = close; end = end; held = layers_tell_all.held last_words two_threads_trace (told_with so) (seat_last so) ts says close end }
 

@@ -65,22 +65,61 @@ first_list q few = below_six (λ p. IsListOf p (lists_of two_threads_journal two
 
 second_list : (q : ℕ) → q < 6 → IsListOf q (lists_of two_threads_journal two_threads_pool (both_made) q) (told_until 2 threads_told)
 second_list q few = below_six (λ p. IsListOf p (lists_of two_threads_journal two_threads_pool (both_made) p) (told_until 2 threads_told))
-    (is_list 0 (map in_root two_threads_journal) (told_until 2 threads_told) (λ k. elim (cases_Bool (eqb 0 k)) [ inl y ↦ elim (cases_Bool (eqb 1 k)) [ inl z ↦ rw (y, z) refl | inr m ↦ rw (y, m) refl ] | inr n ↦ elim (cases_Bool (eqb 1 k)) [ inl z ↦ rw (n, z) refl | inr m ↦ rw (n, m) refl ] ]) refl)
-    (is_list 1 ([]) (told_until 2 threads_told) (λ k. elim (cases_Bool (eqb 0 k)) [ inl y ↦ elim (cases_Bool (eqb 1 k)) [ inl z ↦ rw (y, z) refl | inr m ↦ rw (y, m) refl ] | inr n ↦ elim (cases_Bool (eqb 1 k)) [ inl z ↦ rw (n, z) refl | inr m ↦ rw (n, m) refl ] ]) refl)
-    (is_list 2 ([]) (told_until 2 threads_told) (λ k. elim (cases_Bool (eqb 0 k)) [ inl y ↦ elim (cases_Bool (eqb 1 k)) [ inl z ↦ rw (y, z) refl | inr m ↦ rw (y, m) refl ] | inr n ↦ elim (cases_Bool (eqb 1 k)) [ inl z ↦ rw (n, z) refl | inr m ↦ rw (n, m) refl ] ]) refl)
-    (is_list 3 ([]) (told_until 2 threads_told) (λ k. elim (cases_Bool (eqb 0 k)) [ inl y ↦ elim (cases_Bool (eqb 1 k)) [ inl z ↦ rw (y, z) refl | inr m ↦ rw (y, m) refl ] | inr n ↦ elim (cases_Bool (eqb 1 k)) [ inl z ↦ rw (n, z) refl | inr m ↦ rw (n, m) refl ] ]) refl)
-    (is_list 4 (map in_pool two_threads_pool) (told_until 2 threads_told) (λ k. elim (cases_Bool (eqb 0 k)) [ inl y ↦ elim (cases_Bool (eqb 1 k)) [ inl z ↦ rw (y, z) refl | inr m ↦ rw (y, m) refl ] | inr n ↦ elim (cases_Bool (eqb 1 k)) [ inl z ↦ rw (n, z) refl | inr m ↦ rw (n, m) refl ] ]) refl)
-    (is_list 5 (both_made) (told_until 2 threads_told) (λ k. elim (cases_Bool (eqb 0 k)) [ inl y ↦ elim (cases_Bool (eqb 1 k)) [ inl z ↦ rw (y, z) refl | inr m ↦ rw (y, m) refl ] | inr n ↦ elim (cases_Bool (eqb 1 k)) [ inl z ↦ rw (n, z) refl | inr m ↦ rw (n, m) refl ] ]) refl)
+    (is_list 0 (map in_root two_threads_journal) (told_until 2 threads_told)
+    (λ k. elim (cases_Bool (eqb 0 k)) [
+      | inl y ↦ elim (cases_Bool (eqb 1 k)) [ inl z ↦ rw (y, z) refl | inr m ↦ rw (y, m) refl ]
+      | inr n ↦ elim (cases_Bool (eqb 1 k)) [ inl z ↦ rw (n, z) refl | inr m ↦ rw (n, m) refl ]
+    ]) refl)
+    (is_list 1 ([]) (told_until 2 threads_told) (λ k. elim (cases_Bool (eqb 0 k)) [
+      | inl y ↦ elim (cases_Bool (eqb 1 k)) [ inl z ↦ rw (y, z) refl | inr m ↦ rw (y, m) refl ]
+      | inr n ↦ elim (cases_Bool (eqb 1 k)) [ inl z ↦ rw (n, z) refl | inr m ↦ rw (n, m) refl ]
+    ]) refl)
+    (is_list 2 ([]) (told_until 2 threads_told) (λ k. elim (cases_Bool (eqb 0 k)) [
+      | inl y ↦ elim (cases_Bool (eqb 1 k)) [ inl z ↦ rw (y, z) refl | inr m ↦ rw (y, m) refl ]
+      | inr n ↦ elim (cases_Bool (eqb 1 k)) [ inl z ↦ rw (n, z) refl | inr m ↦ rw (n, m) refl ]
+    ]) refl)
+    (is_list 3 ([]) (told_until 2 threads_told) (λ k. elim (cases_Bool (eqb 0 k)) [
+      | inl y ↦ elim (cases_Bool (eqb 1 k)) [ inl z ↦ rw (y, z) refl | inr m ↦ rw (y, m) refl ]
+      | inr n ↦ elim (cases_Bool (eqb 1 k)) [ inl z ↦ rw (n, z) refl | inr m ↦ rw (n, m) refl ]
+    ]) refl)
+    (is_list 4 (map in_pool two_threads_pool) (told_until 2 threads_told)
+    (λ k. elim (cases_Bool (eqb 0 k)) [
+      | inl y ↦ elim (cases_Bool (eqb 1 k)) [ inl z ↦ rw (y, z) refl | inr m ↦ rw (y, m) refl ]
+      | inr n ↦ elim (cases_Bool (eqb 1 k)) [ inl z ↦ rw (n, z) refl | inr m ↦ rw (n, m) refl ]
+    ]) refl)
+    (is_list 5 (both_made) (told_until 2 threads_told) (λ k. elim (cases_Bool (eqb 0 k)) [
+      | inl y ↦ elim (cases_Bool (eqb 1 k)) [ inl z ↦ rw (y, z) refl | inr m ↦ rw (y, m) refl ]
+      | inr n ↦ elim (cases_Bool (eqb 1 k)) [ inl z ↦ rw (n, z) refl | inr m ↦ rw (n, m) refl ]
+    ]) refl)
     q few
 
 last_list : (q : ℕ) → q < 6 → IsListOf q (lists_of two_threads_journal two_threads_pool (both_made) q) (threads_told)
 last_list q few = below_six (λ p. IsListOf p (lists_of two_threads_journal two_threads_pool (both_made) p) (threads_told))
-    (is_list 0 (map in_root two_threads_journal) (threads_told) (λ k. elim (cases_Bool (eqb 0 k)) [ inl y ↦ elim (cases_Bool (eqb 1 k)) [ inl z ↦ rw (y, z) refl | inr m ↦ rw (y, m) refl ] | inr n ↦ elim (cases_Bool (eqb 1 k)) [ inl z ↦ rw (n, z) refl | inr m ↦ rw (n, m) refl ] ]) refl)
-    (is_list 1 ([]) (threads_told) (λ k. elim (cases_Bool (eqb 0 k)) [ inl y ↦ elim (cases_Bool (eqb 1 k)) [ inl z ↦ rw (y, z) refl | inr m ↦ rw (y, m) refl ] | inr n ↦ elim (cases_Bool (eqb 1 k)) [ inl z ↦ rw (n, z) refl | inr m ↦ rw (n, m) refl ] ]) refl)
-    (is_list 2 ([]) (threads_told) (λ k. elim (cases_Bool (eqb 0 k)) [ inl y ↦ elim (cases_Bool (eqb 1 k)) [ inl z ↦ rw (y, z) refl | inr m ↦ rw (y, m) refl ] | inr n ↦ elim (cases_Bool (eqb 1 k)) [ inl z ↦ rw (n, z) refl | inr m ↦ rw (n, m) refl ] ]) refl)
-    (is_list 3 ([]) (threads_told) (λ k. elim (cases_Bool (eqb 0 k)) [ inl y ↦ elim (cases_Bool (eqb 1 k)) [ inl z ↦ rw (y, z) refl | inr m ↦ rw (y, m) refl ] | inr n ↦ elim (cases_Bool (eqb 1 k)) [ inl z ↦ rw (n, z) refl | inr m ↦ rw (n, m) refl ] ]) refl)
-    (is_list 4 (map in_pool two_threads_pool) (threads_told) (λ k. elim (cases_Bool (eqb 0 k)) [ inl y ↦ elim (cases_Bool (eqb 1 k)) [ inl z ↦ rw (y, z) refl | inr m ↦ rw (y, m) refl ] | inr n ↦ elim (cases_Bool (eqb 1 k)) [ inl z ↦ rw (n, z) refl | inr m ↦ rw (n, m) refl ] ]) refl)
-    (is_list 5 (both_made) (threads_told) (λ k. elim (cases_Bool (eqb 0 k)) [ inl y ↦ elim (cases_Bool (eqb 1 k)) [ inl z ↦ rw (y, z) refl | inr m ↦ rw (y, m) refl ] | inr n ↦ elim (cases_Bool (eqb 1 k)) [ inl z ↦ rw (n, z) refl | inr m ↦ rw (n, m) refl ] ]) refl)
+    (is_list 0 (map in_root two_threads_journal) (threads_told)
+    (λ k. elim (cases_Bool (eqb 0 k)) [
+      | inl y ↦ elim (cases_Bool (eqb 1 k)) [ inl z ↦ rw (y, z) refl | inr m ↦ rw (y, m) refl ]
+      | inr n ↦ elim (cases_Bool (eqb 1 k)) [ inl z ↦ rw (n, z) refl | inr m ↦ rw (n, m) refl ]
+    ]) refl)
+    (is_list 1 ([]) (threads_told) (λ k. elim (cases_Bool (eqb 0 k)) [
+      | inl y ↦ elim (cases_Bool (eqb 1 k)) [ inl z ↦ rw (y, z) refl | inr m ↦ rw (y, m) refl ]
+      | inr n ↦ elim (cases_Bool (eqb 1 k)) [ inl z ↦ rw (n, z) refl | inr m ↦ rw (n, m) refl ]
+    ]) refl)
+    (is_list 2 ([]) (threads_told) (λ k. elim (cases_Bool (eqb 0 k)) [
+      | inl y ↦ elim (cases_Bool (eqb 1 k)) [ inl z ↦ rw (y, z) refl | inr m ↦ rw (y, m) refl ]
+      | inr n ↦ elim (cases_Bool (eqb 1 k)) [ inl z ↦ rw (n, z) refl | inr m ↦ rw (n, m) refl ]
+    ]) refl)
+    (is_list 3 ([]) (threads_told) (λ k. elim (cases_Bool (eqb 0 k)) [
+      | inl y ↦ elim (cases_Bool (eqb 1 k)) [ inl z ↦ rw (y, z) refl | inr m ↦ rw (y, m) refl ]
+      | inr n ↦ elim (cases_Bool (eqb 1 k)) [ inl z ↦ rw (n, z) refl | inr m ↦ rw (n, m) refl ]
+    ]) refl)
+    (is_list 4 (map in_pool two_threads_pool) (threads_told) (λ k. elim (cases_Bool (eqb 0 k)) [
+      | inl y ↦ elim (cases_Bool (eqb 1 k)) [ inl z ↦ rw (y, z) refl | inr m ↦ rw (y, m) refl ]
+      | inr n ↦ elim (cases_Bool (eqb 1 k)) [ inl z ↦ rw (n, z) refl | inr m ↦ rw (n, m) refl ]
+    ]) refl)
+    (is_list 5 (both_made) (threads_told) (λ k. elim (cases_Bool (eqb 0 k)) [
+      | inl y ↦ elim (cases_Bool (eqb 1 k)) [ inl z ↦ rw (y, z) refl | inr m ↦ rw (y, m) refl ]
+      | inr n ↦ elim (cases_Bool (eqb 1 k)) [ inl z ↦ rw (n, z) refl | inr m ↦ rw (n, m) refl ]
+    ]) refl)
     q few
 
 -- at the end of the first phase the second exchange was still to come
@@ -290,7 +329,8 @@ maps_asked x among = each (Asked maps_pool) maps_told (
     asked_once maps_pool _ (map_gone 3 1 16384 0 2 ∷ []) (in_pool (pool_give 3 0 1 0)) (pool_give 3 0 1 0) (map_gone 3 1 16384 0 2) 1 refl refl refl refl refl refl refl refl refl
         (record { older = take 1 maps_pool; rest = drop 2 maps_pool; begins = refl; index_is = refl }),
     (
-      asked_once maps_pool _ (map_made 4 2 16384 2002944 ∷ []) (in_pool (pool_take 4 0 1 (Some 0))) (pool_take 4 0 1 (Some 0)) (map_made 4 2 16384 2002944) 2 refl refl refl refl refl refl refl refl refl
+      asked_once maps_pool _ (map_made 4 2 16384 2002944 ∷ []) (in_pool (pool_take 4 0 1 (Some 0))) (pool_take 4 0 1 (Some 0))
+          (map_made 4 2 16384 2002944) 2 refl refl refl refl refl refl refl refl refl
           (record { older = take 2 maps_pool; rest = drop 3 maps_pool; begins = refl; index_is = refl }),
       (
         asked_none maps_pool _ [] refl refl refl refl refl refl,
@@ -303,7 +343,8 @@ maps_asked x among = each (Asked maps_pool) maps_told (
               asked_once maps_pool _ (map_gone 8 4 16384 2 4 ∷ []) (in_pool (pool_give 8 0 1 0)) (pool_give 8 0 1 0) (map_gone 8 4 16384 2 4) 4 refl refl refl refl refl refl refl refl refl
                   (record { older = take 4 maps_pool; rest = drop 5 maps_pool; begins = refl; index_is = refl }),
               (
-                asked_once maps_pool _ (map_made 9 5 16384 2002944 ∷ []) (in_pool (pool_take 9 0 1 (Some 0))) (pool_take 9 0 1 (Some 0)) (map_made 9 5 16384 2002944) 5 refl refl refl refl refl refl refl refl refl
+                asked_once maps_pool _ (map_made 9 5 16384 2002944 ∷ []) (in_pool (pool_take 9 0 1 (Some 0))) (pool_take 9 0 1 (Some 0))
+                    (map_made 9 5 16384 2002944) 5 refl refl refl refl refl refl refl refl refl
                     (record { older = take 5 maps_pool; rest = drop 6 maps_pool; begins = refl; index_is = refl }),
                 tt,
               ),

@@ -160,7 +160,8 @@ module _ (ts : List ToldRecord) (steps : List Done) (is : IsOfOne ts steps) wher
   ref_read r t found value held some_pair =
       let (same, gave) = is.ref r t found value held some_pair in
       subst
-      (λ (u : Title). (value ≡ content_at_number (number_of found) (history_of_one steps u)) ⊎ ((value ≡ poison) × IsFreedElsewhere (logged_of_by (view_of ts)) (history_of_one steps u) u r (number_of found)))
+      (λ (u : Title). (value ≡ content_at_number (number_of found) (history_of_one steps u))
+      ⊎ ((value ≡ poison) × IsFreedElsewhere (logged_of_by (view_of ts)) (history_of_one steps u) u r (number_of found)))
       same gave
 
   pub knows_one : KnowsAll (view_of ts) ts

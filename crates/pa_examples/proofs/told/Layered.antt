@@ -130,7 +130,19 @@ module _ (answer : Answer) (word value after : ℕ) where
     makes_all two_threads_pool _ (the_fill ∷ []) refl ((0, 8, refl, class_0), tt),
     (
       makes_none two_threads_pool 0 _ refl,
-      (makes_none two_threads_pool 0 _ refl, (makes_none two_threads_pool 0 _ refl, (makes_none two_threads_pool 0 _ refl, (makes_none two_threads_pool 0 _ refl, (makes_none two_threads_pool 0 _ refl, (makes_none two_threads_pool 0 _ refl, tt)))))),
+      (
+        makes_none two_threads_pool 0 _ refl,
+        (
+          makes_none two_threads_pool 0 _ refl,
+          (
+            makes_none two_threads_pool 0 _ refl,
+            (
+              makes_none two_threads_pool 0 _ refl,
+              (makes_none two_threads_pool 0 _ refl, (makes_none two_threads_pool 0 _ refl, tt)),
+            ),
+          ),
+        ),
+      ),
     ),
   ) x among
 

@@ -173,7 +173,19 @@ ends x among =
     each (λ (y : ToldRecord). Ended y.played.phase) maps_told (here, (here, (here, (here, (here, (here, (here, (here, tt)))))))) x among
 
 no_value : (x : ToldRecord) → Contains maps_told x → NoValue x
-no_value x among = each NoValue maps_told ((λ s v e. absurd cc), ((λ s v e. absurd cc), ((λ s v e. absurd cc), ((λ s v e. absurd cc), ((λ s v e. absurd cc), ((λ s v e. absurd cc), ((λ s v e. absurd cc), ((λ s v e. absurd cc), tt)))))))) x among
+no_value x among = each NoValue maps_told (
+  (λ s v e. absurd cc),
+  (
+    (λ s v e. absurd cc),
+    (
+      (λ s v e. absurd cc),
+      (
+        (λ s v e. absurd cc),
+        ((λ s v e. absurd cc), ((λ s v e. absurd cc), ((λ s v e. absurd cc), ((λ s v e. absurd cc), tt)))),
+      ),
+    ),
+  ),
+) x among
 
 abbrev none : ℕ → ℕ → Bool
 none m n = false

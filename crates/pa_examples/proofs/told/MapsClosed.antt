@@ -70,7 +70,9 @@ the_logs = all_logs maps_told notes maps_lists maps_holding fits held.long
 
 its_history : (t : Title) → the_logs.history t ≡ last.all.history t
 unfolding the_logs fits
-its_history t = history_is maps_told notes maps_lists maps_holding fits held.long t ∙ ap (λ (k : KnowsAll (view_of maps_told) maps_told). k.all.history t) (fits_knows maps_told notes direct_map_again_journal direct_map_again_pool alone ∙ alone_knows)
+its_history t = history_is maps_told notes maps_lists maps_holding fits held.long t
+    ∙ ap (λ (k : KnowsAll (view_of maps_told) maps_told). k.all.history t)
+    (fits_knows maps_told notes direct_map_again_journal direct_map_again_pool alone ∙ alone_knows)
 
 -- ---- the words
 

@@ -105,7 +105,7 @@ known = legal_is_known direct_map_trace told_maps legal (all_used direct_map_rec
 -- ---- the runner
 
 limits : IsWithinLimits direct_map_trace
-limits = record { version = refl; head = search rules; lines = search rules; few = search rules }
+limits = record { version = (omega arith, omega arith); head = search rules; lines = search rules; few = search rules }
 
 -- what the seat has seen at the end
 abbrev pub notes : List SeenNumber
@@ -340,7 +340,8 @@ first_rows = (
 )
 
 of_lines : (q : ℕ) → q < 6 → AreOfLines q maps_told
-of_lines = below_six (λ p. AreOfLines p maps_told) (lines_told 0 maps_told refl) (lines_told 1 maps_told refl) (lines_told 2 maps_told refl) (lines_told 3 maps_told refl) (lines_told 4 maps_told refl) (lines_told 5 maps_told refl)
+of_lines = below_six (λ p. AreOfLines p maps_told) (lines_told 0 maps_told refl) (lines_told 1 maps_told refl)
+    (lines_told 2 maps_told refl) (lines_told 3 maps_told refl) (lines_told 4 maps_told refl) (lines_told 5 maps_told refl)
 
 heap : HeapTells direct_map_trace told_maps maps_told (λ n. at_end)
 heap = record {

@@ -148,7 +148,8 @@ module _ (ts : List ToldRecord) (notes : List SeenNumber) (journal : List RootEn
     knows = is.knows;
     is = made;
     rises = list_cases ts notes lists (λ q ms. Rises ms) (all_rise in_root (λ e. refl) (λ e. refl) journal) (all_rise in_pool (λ e. refl) (λ e. refl) pools) tt (λ q n0 n4 n5. tt);
-    makers = list_cases ts notes lists (λ q ms. Each (λ (m : Made). m.stake < 16) ms) (all_staked in_root (λ e. refl) (λ e. refl) journal) (all_staked in_pool (λ e. refl) (λ e. refl) pools) tt (λ q n0 n4 n5. tt);
+    makers = list_cases ts notes lists (λ q ms. Each (λ (m : Made). m.stake < 16) ms) (all_staked in_root (λ e. refl) (λ e. refl) journal)
+        (all_staked in_pool (λ e. refl) (λ e. refl) pools) tt (λ q n0 n4 n5. tt);
     follows = list_cases ts notes lists (λ q ms. Each (λ (m : Made). IsKnownTo notes m) ms) (all_known in_root (λ e. refl) (λ e. refl) notes journal)
         (all_known in_pool (λ e. refl) (λ e. refl) notes pools) tt (λ q n0 n4 n5. tt);
     own_logs = is.own_logs;

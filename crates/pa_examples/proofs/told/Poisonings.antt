@@ -1,5 +1,4 @@
--- An order of what was logged, without reads, in which the poisonings of each free are put right before it, is one of steps that are in
--- place.
+-- If an order of what was logged has no reads, and the poisonings of each free are put right before it, each step is in place.
 use Rattle.std.proofs.Common.{◌≡◌, ℕ, zero, suc, ◌+◌, ◌≤◌, Bool, true, false, ◌&&◌, List, [], ◌∷◌, ◌++◌, refl, sym, ◌∙◌, ap, arith, inl, inr, append-nil}
 use Rattle.std.specs.Prelude.{if◌then◌else◌}
 use Rattle.std.proofs.lemmas.List.{append_assoc}
@@ -28,7 +27,7 @@ spoils : Title → ℕ → List OneStep → List OneStep
 spoils t zero older = older
 spoils t (suc n) older = Spoiled t n ∷ spoils t n older
 
--- what stands before the entry: before a free the poisonings of its title
+-- the steps before an entry with this step: the older ones, and then the poisonings of its title if it is a free
 readied_by : Step → Title → List OneStep → List OneStep
 readied_by Issue t older = older
 readied_by Copy t older = older

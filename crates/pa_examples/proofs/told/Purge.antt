@@ -59,7 +59,8 @@ of_one = record {
   other = λ t other. record { at = λ k. rw other refl; on = rw other refl; looked = λ word. refl; named = rw other refl };
   freed = refl;
   own = λ t found value some_pair. absurd (omega arith);
-  ref = λ r t found value held some_pair. let gone = no_pair purge_told (λ t found value. refl) (λ q e. rw e refl) r t found value in let mine = of_thread purge_told r (pairs (quiet_read false t found value)) some_pair in absurd (omega arith);
+  ref = λ r t found value held some_pair. let gone = no_pair purge_told (λ t found value. refl) (λ q e. rw e refl) r t found value in let
+      mine = of_thread purge_told r (pairs (quiet_read false t found value)) some_pair in absurd (omega arith);
 }
 
 pub last : KnowsAll (view_of purge_told) purge_told

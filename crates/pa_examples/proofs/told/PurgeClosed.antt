@@ -91,7 +91,9 @@ the_logs = all_logs purge_told (seen_number 3) purge_lists purge_holding fits he
 
 its_history : (t : Title) → the_logs.history t ≡ last.all.history t
 unfolding the_logs fits
-its_history t = history_is purge_told (seen_number 3) purge_lists purge_holding fits held.long t ∙ ap (λ (k : KnowsAll (view_of purge_told) purge_told). k.all.history t) (fits_knows purge_told (seen_number 3) purge_journal purge_pool alone ∙ alone_knows)
+its_history t = history_is purge_told (seen_number 3) purge_lists purge_holding fits held.long t
+    ∙ ap (λ (k : KnowsAll (view_of purge_told) purge_told). k.all.history t)
+    (fits_knows purge_told (seen_number 3) purge_journal purge_pool alone ∙ alone_knows)
 
 -- ---- the words
 

@@ -104,7 +104,7 @@ known = legal_is_known purge_trace told_purge legal (all_used purge_records refl
 -- ---- the runner
 
 limits : IsWithinLimits purge_trace
-limits = record { version = refl; head = search rules; lines = search rules; few = search rules }
+limits = record { version = (omega arith, omega arith); head = search rules; lines = search rules; few = search rules }
 
 pub alone : IsAlone purge_told (seen_number 3) purge_journal purge_pool
 alone = record {
@@ -228,7 +228,8 @@ first_rows = (
 )
 
 of_lines : (q : ℕ) → q < 6 → AreOfLines q purge_told
-of_lines = below_six (λ p. AreOfLines p purge_told) (lines_told 0 purge_told refl) (lines_told 1 purge_told refl) (lines_told 2 purge_told refl) (lines_told 3 purge_told refl) (lines_told 4 purge_told refl) (lines_told 5 purge_told refl)
+of_lines = below_six (λ p. AreOfLines p purge_told) (lines_told 0 purge_told refl) (lines_told 1 purge_told refl)
+    (lines_told 2 purge_told refl) (lines_told 3 purge_told refl) (lines_told 4 purge_told refl) (lines_told 5 purge_told refl)
 
 heap : HeapTells purge_trace told_purge purge_told (λ n. worked.at_end)
 heap = record {

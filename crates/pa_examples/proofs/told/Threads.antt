@@ -250,8 +250,15 @@ reader_read = (refl, false, read_told)
 
 the_reader_has : HasReader (told_record the_read)
 the_reader_has seen value e =
-    let (same, gave_it) = value_is the_seen seen poison value e in
-    (0, 0, after_take, refl, has_regs, subst (λ (z : Seen). ReadsThrough sixteen (after_take 0) z 0 value (told_record the_read)) same (subst (λ v. ReadsThrough sixteen (after_take 0) the_seen 0 v (told_record the_read)) gave_it reader_read))
+    let (same, gave_it) = value_is the_seen seen poison value e in (
+      0,
+      0,
+      after_take,
+      refl,
+      has_regs,
+      subst (λ (z : Seen). ReadsThrough sixteen (after_take 0) z 0 value (told_record the_read)) same
+          (subst (λ v. ReadsThrough sixteen (after_take 0) the_seen 0 v (told_record the_read)) gave_it reader_read),
+    )
 
 readers : HaveReaders 1 sixteen cells threads_told
 readers x seen value among is = each HasReader threads_told (

@@ -1,5 +1,5 @@
 -- The worked run with an early read is legal, clause by clause, and there is such a run.
-use Rattle.std.proofs.Common.{[], ◌∷◌, map, lit<, rules, Global, refl}
+use Rattle.std.proofs.Common.{arith, [], ◌∷◌, map, lit<, rules, Global, refl}
 use Rattle.pa_trace.specs.Limits.{IsWithinLimits}
 use Rattle.pa_record.specs.Bits.{RunInBits}
 use Rattle.pa_rules.specs.Played.{entry_of}
@@ -18,7 +18,7 @@ fits : (heap : Global) → RunInBits (run_of (map entry_of early_read_records) (
 fits heap = record { entries = search rules; roots = search rules; pool = search rules; cells = search rules; report = search rules }
 
 limits : IsWithinLimits early_read_trace
-limits = record { version = refl; head = search rules; lines = search rules; few = search rules }
+limits = record { version = (omega arith, omega arith); head = search rules; lines = search rules; few = search rules }
 
 pub early_read_is_told : EarlyReadIsTold
 early_read_is_told =

@@ -1,5 +1,5 @@
 -- There is the worked purge, and it is the run of its trace in the order of the lines.
-use Rattle.std.proofs.Common.{[], ◌∷◌, map, refl, lit<, rules, Global}
+use Rattle.std.proofs.Common.{arith, [], ◌∷◌, map, refl, lit<, rules, Global}
 use Rattle.pa_trace.specs.Limits.{IsWithinLimits}
 use Rattle.pa_record.specs.Bits.{RunInBits}
 use Rattle.pa_record.specs.Worked.{purge_pool, purge_journal}
@@ -17,7 +17,7 @@ fits : (heap : Global) → RunInBits (run_of (map entry_of purge_records) (purge
 fits heap = record { entries = search rules; roots = search rules; pool = search rules; cells = search rules; report = search rules }
 
 limits : IsWithinLimits purge_trace
-limits = record { version = refl; head = search rules; lines = search rules; few = search rules }
+limits = record { version = (omega arith, omega arith); head = search rules; lines = search rules; few = search rules }
 
 pub purge_is_told : PurgeIsTold
 purge_is_told = told_by (map entry_of purge_records) (purge_journal ∷ []) purge_pool [] purge_report few purge_trace limits fits

@@ -1,5 +1,5 @@
 -- There are runs with the lists that were worked out, of traces within the limits.
-use Rattle.std.proofs.Common.{[], ◌∷◌, map, lit<, rules, Global, refl}
+use Rattle.std.proofs.Common.{arith, [], ◌∷◌, map, lit<, rules, Global, refl}
 use Rattle.pa_trace.specs.Limits.{IsWithinLimits}
 use Rattle.pa_record.specs.Bits.{RunInBits}
 use Rattle.pa_record.specs.Worked.{direct_map_again_pool, direct_map_again_journal}
@@ -14,7 +14,7 @@ direct_map_fits : (heap : Global) → RunInBits (run_of (map entry_of direct_map
 direct_map_fits heap = record { entries = search rules; roots = search rules; pool = search rules; cells = search rules; report = search rules }
 
 pub direct_map_limits : IsWithinLimits direct_map_trace
-direct_map_limits = record { version = refl; head = search rules; lines = search rules; few = search rules }
+direct_map_limits = record { version = (omega arith, omega arith); head = search rules; lines = search rules; few = search rules }
 
 pub direct_map_is_told : DirectMapIsTold
 direct_map_is_told =
@@ -28,7 +28,7 @@ two_threads_fits : (heap : Global)
 two_threads_fits heap = record { entries = search rules; roots = search rules; pool = search rules; cells = search rules; report = search rules }
 
 two_threads_limits : IsWithinLimits two_threads_trace
-two_threads_limits = record { version = refl; head = search rules; lines = search rules; few = search rules }
+two_threads_limits = record { version = (omega arith, omega arith); head = search rules; lines = search rules; few = search rules }
 
 pub two_threads_are_told : TwoThreadsAreTold
 two_threads_are_told =

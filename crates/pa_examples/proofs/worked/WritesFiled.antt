@@ -1,5 +1,5 @@
 -- There is the worked run of writes, and it is the one in the order of the lines.
-use Rattle.std.proofs.Common.{[], ◌∷◌, map, refl, lit<, rules, Global}
+use Rattle.std.proofs.Common.{arith, [], ◌∷◌, map, refl, lit<, rules, Global}
 use Rattle.pa_trace.specs.Limits.{IsWithinLimits}
 use Rattle.pa_record.specs.Bits.{RunInBits}
 use Rattle.pa_rules.specs.Played.{entry_of}
@@ -16,7 +16,7 @@ fits : (heap : Global) → RunInBits (run_of (map entry_of writes_records) (writ
 fits heap = record { entries = search rules; roots = search rules; pool = search rules; cells = search rules; report = search rules }
 
 limits : IsWithinLimits writes_trace
-limits = record { version = refl; head = search rules; lines = search rules; few = search rules }
+limits = record { version = (omega arith, omega arith); head = search rules; lines = search rules; few = search rules }
 
 pub writes_are_told : WritesAreTold
 writes_are_told = told_by (map entry_of writes_records) (writes_journal ∷ []) writes_pool [] writes_report few writes_trace limits fits

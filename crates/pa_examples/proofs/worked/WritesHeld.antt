@@ -77,7 +77,13 @@ abbrev at_end : Caches
 at_end = again (again (again (again (again (again (again (again no_caches)))))))
 
 -- a raw_ptr is reset, and its slot stays held
-reset_row : DoneRow roots (record of_one { line = 7; thread = 0; phase = 1; op = ops.Reset 1; answer = answers.Done (seen_at 16384 0 0x3000003) }) (Some steps.Reset) (seen_at 16384 0 0x3000003) kept kept
+reset_row : DoneRow roots (record of_one {
+  line = 7;
+  thread = 0;
+  phase = 1;
+  op = ops.Reset 1;
+  answer = answers.Done (seen_at 16384 0 0x3000003);
+}) (Some steps.Reset) (seen_at 16384 0 0x3000003) kept kept
 reset_row = inr (λ h. absurd (omega (arith, h.0)), none_on writes_journal 7 refl, λ p c. refl)
 
 cached_to : CachesTo 1 roots no_caches writes_records at_end

@@ -84,7 +84,8 @@ module _ (s : SlotName) (k p : ℕ) (roots : Journals) where
     return_marked line seen step passes = elim (cases_Bool (same_slot s seen.slot)) [ inl hit ↦ rw (hit, passes) refl | inr miss ↦ rw miss refl ]
 
     -- the list from which a slot is taken, after a fill if it was empty
-    first_moved : (line class : ℕ) (old xs : List Numbered) → FilledFirst roots line p class old xs → (moved_in is_out s k (acts_of roots line p) + at_in s k old ≡ at_in s k xs) × (moved_in is_back s k (acts_of roots line p) ≡ 0)
+    first_moved : (line class : ℕ) (old xs : List Numbered) → FilledFirst roots line p class old xs
+        → (moved_in is_out s k (acts_of roots line p) + at_in s k old ≡ at_in s k xs) × (moved_in is_back s k (acts_of roots line p) ≡ 0)
     first_moved line class [] xs (asked, only) =
         let out : moved_in is_out s k (acts_of roots line p) ≡ at_in s k xs + 0 = ap (moved_in is_out s k) only.0 in
         let back : moved_in is_back s k (acts_of roots line p) ≡ 0 = ap (moved_in is_back s k) only.0 in
@@ -106,7 +107,8 @@ module _ (s : SlotName) (k p : ℕ) (roots : Journals) where
         elim (cases_eq q p) [
           | inl same ↦
               let (out, back) = first_moved x.line class (cache p class) xs (subst (λ z. FilledFirst roots x.line z class (cache z class) xs) same filled) in
-              let change = listed_changed s k cache after p class rest (real_in x.rules.version class (asks.3.from, asks.3.real)) (λ c. becomes p c ∙ ap (λ z. with_list cache z class rest p c) same) in
+              let change = listed_changed s k cache after p class rest (real_in x.rules.version class (asks.3.from, asks.3.real))
+              (λ c. becomes p c ∙ ap (λ z. with_list cache z class rest p c) same) in
               omega arith
           | inr other ↦
               let (out, back) = none_moved (acts_of roots x.line p) (keeps.others p (λ e. other (sym e))) in
@@ -121,7 +123,8 @@ module _ (s : SlotName) (k p : ℕ) (roots : Journals) where
         let i = issue_marked x.line seen in
         let o = off (same_slot s seen.slot) false (number_of seen.found.0 + 1 == k) refl in
         let (e, among, line, is) = line_entry roots x.line q act only.0 in
-        let zero_first : hit_once s k head ≡ hit_once s k (record { slot = seen.slot; number = 0 }) = ap (λ z. hit_once s k (record { slot = seen.slot; number = z })) (new q (e, asked, len, among, is)) in
+        let zero_first : hit_once s k head ≡ hit_once s k (record { slot = seen.slot; number = 0 }) = ap
+        (λ z. hit_once s k (record { slot = seen.slot; number = z })) (new q (e, asked, len, among, is)) in
         let one = at_cons s k (record { slot = seen.slot; number = 0 }) [] in
         quiet (acts_of roots x.line p) (Some (mark_at x.line seen (Some Issue))) cache after becomes
         (elim (cases_eq q p) [
@@ -197,7 +200,8 @@ module _ (s : SlotName) (k p : ℕ) (roots : Journals) where
         let o = off (same_slot s seen.slot) (returns_at step seen.found.0) (number_of seen.found.0 + 1 == k) (returns_no step seen.found.0 other) in
         quiet (acts_of roots x.line p) (Some (mark_at x.line seen (Some step))) cache after becomes (omega arith)
 
-  one_full : (line q : ℕ) (class : Option ℕ) (asked : ℕ) → OnlyActs roots line q (Full class asked ∷ []) → (moved_in is_out s k (acts_of roots line p) ≡ 0) × (moved_in is_back s k (acts_of roots line p) ≡ 0)
+  one_full : (line q : ℕ) (class : Option ℕ) (asked : ℕ) → OnlyActs roots line q (Full class asked ∷ [])
+      → (moved_in is_out s k (acts_of roots line p) ≡ 0) × (moved_in is_back s k (acts_of roots line p) ≡ 0)
   one_full line q class asked only = elim (cases_eq p q) [
     | inl same ↦
         let here : acts_of roots line p ≡ Full class asked ∷ [] = subst (λ z. acts_of roots line z ≡ Full class asked ∷ []) (sym same) only.0 in
@@ -231,7 +235,9 @@ module _ (s : SlotName) (k p : ℕ) (roots : Journals) where
       let o = off (same_slot s seen.slot) false (number_of seen.found.0 + 1 == k) refl in
       quiet (acts_of roots x.line p) (Some (mark_at x.line seen None)) cache after becomes (omega arith)
 
-  module _ (partitions : ℕ) (pools : List PoolEntry) (x : Played) (cache after : Cache) (journals : (q : ℕ) → IsJournal pools (roots q)) (own : IsOnlyOf roots p s) (below : p < partitions) (known : IsKnown roots cache) (new : IsNewMap roots x) (unmaps : UnmapsNext roots x) where
+  module _ (partitions : ℕ) (pools : List PoolEntry) (x : Played) (cache after : Cache) (journals : (q : ℕ) → IsJournal pools (roots q))
+      (own : IsOnlyOf roots p s) (below : p < partitions) (known : IsKnown roots cache) (new : IsNewMap roots x)
+      (unmaps : UnmapsNext roots x) where
     by_answer : (a : Answer) → x.answer ≡ a → CacheRow partitions roots x a cache after → Flows (acts_of roots x.line p) (mark_of_answer x.line x.op a) cache after
     by_answer (answers.Made seen usable) is row = made_flows own x seen cache after known (λ q. new seen usable q is) row
     by_answer (answers.Done seen) is row = done_flows own pools x (step_of x.op) seen cache after journals (λ q asked n e among line act. unmaps seen q asked n e is among line act) (no_issue x.op) row

@@ -40,8 +40,10 @@ returns_at s k x = marked (is_return_at s k) (mark_of x)
 
 -- ---- along some records
 
-module _ (partitions : ℕ) (pools : List PoolEntry) (roots : Journals) (s : SlotName) (k p t : ℕ) (journals : (q : ℕ) → IsJournal pools (roots q)) (own : IsOnlyOf roots p s) (below : p < partitions) where
-  pub all_flow : (xs : List Played) (all after : Caches) → ((x : Played) → Contains xs x → IsNewMap roots x × UnmapsNext roots x) → ((u : ℕ) → IsKnown roots (all u)) → CachesTo partitions roots all xs after →
+module _ (partitions : ℕ) (pools : List PoolEntry) (roots : Journals) (s : SlotName) (k p t : ℕ)
+    (journals : (q : ℕ) → IsJournal pools (roots q)) (own : IsOnlyOf roots p s) (below : p < partitions) where
+  pub all_flow : (xs : List Played) (all after : Caches) → ((x : Played) → Contains xs x → IsNewMap roots x × UnmapsNext roots x)
+      → ((u : ℕ) → IsKnown roots (all u)) → CachesTo partitions roots all xs after →
       listed s k (after t p) 0 170 + over t (issues_at s k) xs + over t (λ x. moved_in is_back s k (acts_of roots x.line p)) xs
       ≡ listed s k (all t p) 0 170 + over t (λ x. moved_in is_out s k (acts_of roots x.line p)) xs + over t (returns_at s k) xs
   all_flow [] all after each known e =
@@ -68,7 +70,8 @@ module _ (partitions : ℕ) (pools : List PoolEntry) (roots : Journals) (s : Slo
             let o : cond {A = ℕ} (x.thread == t) (returns_at s k x) 0 ≡ 0 = rw is refl in
             let b : cond {A = ℕ} (x.thread == t) (moved_in is_back s k (acts_of roots x.line p)) 0 ≡ 0 = rw is refl in
             let u : cond {A = ℕ} (x.thread == t) (moved_in is_out s k (acts_of roots x.line p)) 0 ≡ 0 = rw is refl in
-            let here : listed s k (with_cache all x.thread next t p) 0 170 ≡ listed s k (all t p) 0 170 = ap (λ (c : Cache). listed s k (c p) 0 170) (with_other all x.thread next t (λ e. other (sym e))) in
+            let here : listed s k (with_cache all x.thread next t p) 0 170 ≡ listed s k (all t p) 0 170 = ap
+            (λ (c : Cache). listed s k (c p) 0 170) (with_other all x.thread next t (λ e. other (sym e))) in
             omega arith
       ]
     where
@@ -207,7 +210,8 @@ weigh_more w t x xs (m ∷ ms) =
     at_move false false false all some line rest e f = omega arith
 
 -- the sum over a thread's records is that over the moves
-pub over_lines : (w : Way → Bool) (t : ℕ) (roots : Journals) (s : SlotName) (k p : ℕ) (xs : List Played) → over t (λ x. moved_in w s k (acts_of roots x.line p)) xs ≡ weigh w t xs (moves_at (roots p) s k)
+pub over_lines : (w : Way → Bool) (t : ℕ) (roots : Journals) (s : SlotName) (k p : ℕ) (xs : List Played)
+    → over t (λ x. moved_in w s k (acts_of roots x.line p)) xs ≡ weigh w t xs (moves_at (roots p) s k)
 over_lines w t roots s k p [] = sym (weigh_none w t (moves_at (roots p) s k))
 over_lines w t roots s k p (x ∷ xs) =
     let a = weigh_more w t x xs (moves_at (roots p) s k) in

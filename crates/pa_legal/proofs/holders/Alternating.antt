@@ -40,7 +40,8 @@ pub miss_same : (at : Option ℕ) (w : Way) (n k : ℕ) → (n ≡ k → ⊥) �
 miss_same at Out n k ne has = ap (λ o. away_at o k) has ∙ ap not (ne_eqb n k ne)
 miss_same at Back n k ne has = ap (λ o. away_at o k) has ∙ sym (ap not (ne_eqb n k ne))
 
-pub alternate : (thread : ℕ → ℕ) (s : SlotName) (k : ℕ) (ms : List Move) (at : Option ℕ) → IsNumbered at (filter (is_of s) ms) → Alternate (away_at at k) (map (turn_of thread) (filter (is_move_of s k) ms))
+pub alternate : (thread : ℕ → ℕ) (s : SlotName) (k : ℕ) (ms : List Move) (at : Option ℕ) → IsNumbered at (filter (is_of s) ms)
+    → Alternate (away_at at k) (map (turn_of thread) (filter (is_move_of s k) ms))
 alternate thread s k [] at h = tt
 alternate thread s k (m ∷ ms) at h = elim (cases_Bool (same_slot m.slot s)) [
   | inr miss ↦ rw miss (alternate thread s k ms at (rw miss at h))

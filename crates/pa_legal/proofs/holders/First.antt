@@ -34,7 +34,8 @@ pub record Returns (ps : List Played) (s : SlotName) (k : ℕ) (x : Played) (m :
   pub returning : IsReturning p m.found
   pub number : number_of m.found + 1 ≡ k
 
-by_step : (ps : List Played) (s : SlotName) (k : ℕ) (x : Played) (m : Mark) (o : Option Step) → Contains ps x → mark_of x ≡ Some m → m.step ≡ o → s ≡ m.slot → is_return m.found o ≡ true → number_of m.found + 1 ≡ k →
+by_step : (ps : List Played) (s : SlotName) (k : ℕ) (x : Played) (m : Mark) (o : Option Step) → Contains ps x → mark_of x ≡ Some m
+    → m.step ≡ o → s ≡ m.slot → is_return m.found o ≡ true → number_of m.found + 1 ≡ k →
     (p : Step) × Returns ps s k x m p
 by_step ps s k x m None among mark step slot passes number = absurd (false≢true passes)
 by_step ps s k x m (Some p) among mark step slot passes number =

@@ -42,13 +42,16 @@ behind (x ∷ xs) (suc i) zero e f at at' less = absurd (omega arith)
 behind (x ∷ xs) (suc i) (suc j) e f at at' less = let (before, rest, parts, member) = behind xs i j e f at at' (omega arith) in (x ∷ before, rest, ap (λ zs. x ∷ zs) parts, member)
 
 -- A direct map that a record returned.
-module _ (supers partitions : ℕ) (ps : List Played) (pools : List PoolEntry) (roots : Journals) (j : AreRoots partitions ps pools roots) (h : IsPoolOf supers ps pools roots) (unlike : AllPairs OtherRecord ps) (slots : Slots (marks_of ps)) (caches : AreCaches partitions roots ps) where
+module _ (supers partitions : ℕ) (ps : List Played) (pools : List PoolEntry) (roots : Journals) (j : AreRoots partitions ps pools roots)
+    (h : IsPoolOf supers ps pools roots) (unlike : AllPairs OtherRecord ps) (slots : Slots (marks_of ps))
+    (caches : AreCaches partitions roots ps) where
   -- it is issued at 0 alone
   issued_at_0 : (s : SlotName) (y : Played) (r : ReturnsMap roots y s) → (x : Mark) → Contains (marks_of ps) x → x.slot ≡ s → x.step ≡ Some Issue → number_of x.found ≡ 0
   issued_at_0 s y r x among slot issue =
       let (q, member, mark) = mark_from ps x among in
       let made = issue_makes q x issue mark in
-      let new = new_map supers partitions ps pools roots j h unlike slots caches q member made.seen made.usable r.partition made.answer (subst (λ n. IsDirect roots n r.partition) (sym slot ∙ made.slot) r.direct) in
+      let new = new_map supers partitions ps pools roots j h unlike slots caches q member made.seen made.usable r.partition made.answer
+      (subst (λ n. IsDirect roots n r.partition) (sym slot ∙ made.slot) r.direct) in
       ap number_of made.found ∙ new
 
   module _ (used : (x : Played) → Contains ps x → FindsInUse x) (s : SlotName) (y : Played) (r : ReturnsMap roots y s) (member : Contains ps y) where

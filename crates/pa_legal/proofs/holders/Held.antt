@@ -115,7 +115,8 @@ module _ (supers partitions : ℕ) (ps : List Played) (pools : List PoolEntry) (
     never_moved : IsNever ps s k → (ms : List Move) → moves_at (roots p) s k ≡ ms → ms ≡ []
     never_moved never [] is = refl
     never_moved never (m ∷ ms) is =
-        let turns : Alternate (away_at (Some 0) k) (map (turn_of (thread_at ps)) (m ∷ ms)) = subst (λ zs. Alternate (away_at (Some 0) k) (map (turn_of (thread_at ps)) zs)) is (turns_alternate p s k) in
+        let turns : Alternate (away_at (Some 0) k) (map (turn_of (thread_at ps)) (m ∷ ms)) = subst
+        (λ zs. Alternate (away_at (Some 0) k) (map (turn_of (thread_at ps)) zs)) is (turns_alternate p s k) in
         let away : away_at (Some 0) k ≡ true = rw (ne_eqb 0 k (λ e. never.later (sym e))) refl in
         let back = must_be_back m.way (sym away ∙ turns.0) in
         let f = less supers partitions ps pools roots a s k p left [] ms m is back in

@@ -107,12 +107,17 @@ module _ (supers partitions : ℕ) (ps : List Played) (pools : List PoolEntry) (
     inside xs rest x parts among = subst (λ zs. Contains zs x) (sym parts) (Contains-append_left xs rest x among)
 
     -- a thread got the slot at the number at least as often as it issued it and gave it back
-    pub flow : (t : ℕ) (xs rest : List Played) → ps ≡ xs ++ rest → over t (issues_at s k) xs + weigh is_back t xs (moves_at (roots p) s k) ≤ weigh is_out t xs (moves_at (roots p) s k) + over t (returns_at s k) xs
+    pub flow : (t : ℕ) (xs rest : List Played) → ps ≡ xs ++ rest
+        → over t (issues_at s k) xs + weigh is_back t xs (moves_at (roots p) s k) ≤ weigh is_out t xs (moves_at (roots p) s k) + over t
+        (returns_at s k) xs
     flow t xs rest parts =
         let (last, to) = a.caches in
         let (mid, front, back) = caches_cut partitions roots no_caches xs rest last (subst (λ zs. CachesTo partitions roots no_caches zs last) parts to) in
         let all = all_flow partitions pools roots s k p t a.journals.journals own below xs no_caches mid
-        (λ x among. (new_map supers partitions ps pools roots a.journals a.pool lines a.slots a.caches x (inside xs rest x parts among), a.unmaps x (inside xs rest x parts among))) (λ u q c n among. absurd (not_in_none n among)) front in
+        (λ x among. (
+          new_map supers partitions ps pools roots a.journals a.pool lines a.slots a.caches x (inside xs rest x parts among),
+          a.unmaps x (inside xs rest x parts among),
+        )) (λ u q c n among. absurd (not_in_none n among)) front in
         let out = over_lines is_out t roots s k p xs in
         let back' = over_lines is_back t roots s k p xs in
         let start = listed_none s k (no_caches t p) 0 170 (λ c. refl) in
@@ -163,8 +168,10 @@ module _ (supers partitions : ℕ) (ps : List Played) (pools : List PoolEntry) (
             let member : Contains xs x = Contains-append_right front (x ∷ []) x (first_in x []) in
             let one = mine_one t xs x (front_pairs xs rest (subst (λ zs. AllPairs OtherRecord zs) cut' lines)) member in
             let here : mine t xs m.line ≡ 1 = ap (mine t xs) (sym of.1) ∙ one ∙ is_one t in
-            let wb : weigh is_back t xs (moves_at (roots p) s k) ≡ weigh is_back t xs before + weigh is_back t xs (m ∷ after) = ap (weigh is_back t xs) parts ∙ weigh_append is_back t xs before (m ∷ after) in
-            let wo : weigh is_out t xs (moves_at (roots p) s k) ≡ weigh is_out t xs before + weigh is_out t xs (m ∷ after) = ap (weigh is_out t xs) parts ∙ weigh_append is_out t xs before (m ∷ after) in
+            let wb : weigh is_back t xs (moves_at (roots p) s k) ≡ weigh is_back t xs before + weigh is_back t xs (m ∷ after) = ap
+            (weigh is_back t xs) parts ∙ weigh_append is_back t xs before (m ∷ after) in
+            let wo : weigh is_out t xs (moves_at (roots p) s k) ≡ weigh is_out t xs before + weigh is_out t xs (m ∷ after) = ap
+            (weigh is_out t xs) parts ∙ weigh_append is_out t xs before (m ∷ after) in
             let cb = weigh_cons is_back t xs m after in
             let co = weigh_cons is_out t xs m after in
             let mb : cond {A = ℕ} (is_back m.way) (mine t xs m.line) 0 ≡ mine t xs m.line = ap (λ w. cond {A = ℕ} (is_back w) (mine t xs m.line) 0) back in

@@ -45,7 +45,9 @@ map_asked pools (f ∷ es) r e asked len s fits among is = elim (in_cases f e es
     there None a e = absurd (not_some a e)
     there (Some g) a e = (g, refl)
 
-module _ (supers partitions : ℕ) (ps : List Played) (pools : List PoolEntry) (roots : Journals) (r : AreRoots partitions ps pools roots) (h : IsPoolOf supers ps pools roots) (lines : AllPairs OtherRecord ps) (slots : Slots (marks_of ps)) (caches : AreCaches partitions roots ps) where
+module _ (supers partitions : ℕ) (ps : List Played) (pools : List PoolEntry) (roots : Journals) (r : AreRoots partitions ps pools roots)
+    (h : IsPoolOf supers ps pools roots) (lines : AllPairs OtherRecord ps) (slots : Slots (marks_of ps))
+    (caches : AreCaches partitions roots ps) where
   -- entries that map one slot are of one line
   one_mapper : (s : SlotName) (p q asked asked' len len' : ℕ) (e f : RootEntry) → Contains (roots p) e → Contains (roots q) f → e.act ≡ Map asked s len → f.act ≡ Map asked' s len' → e.line ≡ f.line
   one_mapper s p q asked asked' len len' e f (i, low, at) (k, low', at') is is' =
@@ -64,7 +66,8 @@ module _ (supers partitions : ℕ) (ps : List Played) (pools : List PoolEntry) (
       let (cache, after, known, row) = row_of partitions roots ps x caches among in
       by_row cache after known (subst (λ a. CacheRow partitions roots x a cache after) is row)
     where
-      by_row : (cache after : Cache) → IsKnown roots cache → MadeRow roots x seen cache after → (q asked len : ℕ) × (e : RootEntry) × Contains (roots q) e × (e.line ≡ x.line) × (e.act ≡ Map asked seen.slot len)
+      by_row : (cache after : Cache) → IsKnown roots cache → MadeRow roots x seen cache after → (q asked len : ℕ) × (e : RootEntry)
+          × Contains (roots q) e × (e.line ≡ x.line) × (e.act ≡ Map asked seen.slot len)
       by_row cache after known (inl (q, class, xs, rest, asks, filled, front, becomes)) =
           let head : Numbered = record { slot = seen.slot; number = number_of seen.found.0 } in
           let f = first_keeps seen.slot roots x.line q class (cache q class) xs (λ n. known q class n) filled in

@@ -109,7 +109,8 @@ module _ (partitions : ℕ) (roots : Journals) (x : Played) (p asked : ℕ) (slo
   by_full cache after (inl (q, class, asked', asks, empty, only, becomes)) = let no' = not_one q (Full (Some class) asked') only in absurd cc
   by_full cache after (inr (q, size, asked', asks, only, becomes)) = let no' = not_one q (Full None asked') only in absurd cc
 
-  by_return : (seen : Seen) (step : Step) (n : Numbered) (cache after : Cache) → x.answer ≡ answers.Done seen → step_of x.op ≡ Some step → IsReturning step seen.found.0 → n.slot ≡ seen.slot → ReturnRow roots x n cache after →
+  by_return : (seen : Seen) (step : Step) (n : Numbered) (cache after : Cache) → x.answer ≡ answers.Done seen → step_of x.op ≡ Some step
+      → IsReturning step seen.found.0 → n.slot ≡ seen.slot → ReturnRow roots x n cache after →
       ReturnsMap roots x slot.slot
   by_return seen step n cache after is steps returning named (inl (q, class, of, only, becomes)) = elim (cases_eq p q) [
     | inl e ↦
@@ -150,7 +151,8 @@ module _ (partitions : ℕ) (roots : Journals) (x : Played) (p asked : ℕ) (slo
   returns_map (answers.Purged slots) cache after below is row = absurd (by_purged slots cache after below row)
   returns_map answer cache after below is row = absurd (not_none (row.0 p))
 
-pub unmap_returns : (partitions : ℕ) (roots : Journals) (ps : List Played) (x : Played) (e : RootEntry) (p asked : ℕ) (slot : Numbered) → AreCaches partitions roots ps → p < partitions → Contains ps x → Contains (roots p) e →
+pub unmap_returns : (partitions : ℕ) (roots : Journals) (ps : List Played) (x : Played) (e : RootEntry) (p asked : ℕ) (slot : Numbered)
+    → AreCaches partitions roots ps → p < partitions → Contains ps x → Contains (roots p) e →
     e.line ≡ x.line → e.act ≡ Unmap asked slot → ReturnsMap roots x slot.slot
 unmap_returns partitions roots ps x e p asked slot caches below among member line is =
     let (cache, after, known, row) = row_of partitions roots ps x caches among in

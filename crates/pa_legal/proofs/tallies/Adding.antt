@@ -78,7 +78,8 @@ module _ (P : ℕ → Type 0) (up down : Step → ℕ → Bool) (test : ℕ → 
     passes s = (home s == p) && test (last_word 0 (slots s).0)
 
     -- the slots that pass weigh what went in and didn't go out
-    weighs : (g : SlotName → ℕ) → total g (filter passes names) + weight_of down (λ s. cond {A = ℕ} (home s == p) (g s) 0) (marks_of xs) ≡ weight_of up (λ s. cond {A = ℕ} (home s == p) (g s) 0) (marks_of xs)
+    weighs : (g : SlotName → ℕ) → total g (filter passes names) + weight_of down (λ s. cond {A = ℕ} (home s == p) (g s) 0) (marks_of xs) ≡
+        weight_of up (λ s. cond {A = ℕ} (home s == p) (g s) 0) (marks_of xs)
     weighs g =
         let ms = marks_of xs in
         let once = distinct_once (map slot_at (marks_of xs)) in
@@ -106,7 +107,9 @@ module _ (P : ℕ → Type 0) (up down : Step → ℕ → Bool) (test : ℕ → 
         let bytes = weighs size in
         record { slots = omega arith; bytes = omega arith }
 
-    module _ (supers partitions : ℕ) (ps : List Played) (pools : List PoolEntry) (roots : Journals) (tally : Tally) (r : AreRoots partitions ps pools roots) (h : IsPoolOf supers ps pools roots) (homes : AreHomes roots home size (marks_of xs)) (left : IsLeft up down home size p (marks_of xs) tally) where
+    module _ (supers partitions : ℕ) (ps : List Played) (pools : List PoolEntry) (roots : Journals) (tally : Tally)
+        (r : AreRoots partitions ps pools roots) (h : IsPoolOf supers ps pools roots) (homes : AreHomes roots home size (marks_of xs))
+        (left : IsLeft up down home size p (marks_of xs) tally) where
       -- its size
       sized_here : (s : SlotName) → Contains (map slot_at (marks_of xs)) s → HasSize roots (home s) s (size s)
       sized_here s among =

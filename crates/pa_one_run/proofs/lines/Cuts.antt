@@ -103,7 +103,8 @@ pub cells_recorded : (a : Parts) (k : ℕ) (e : CellEntry) → IsFiled a → Con
 cells_recorded a k e h among = let (x, reg, there, line, op) = exchange_made a k e h among in (x, (there, line))
 
 -- the line of a record is before the cut at n, or from m on if all records after the cut are
-pub recorded_cases : (a : Parts) (n m : ℕ) (before rest : List Played) → IsCut a n before rest → ((x : Played) → Contains rest x → m ≤ x.line) → (line : ℕ) → IsRecorded a line → (line < n) ⊎ (m ≤ line)
+pub recorded_cases : (a : Parts) (n m : ℕ) (before rest : List Played) → IsCut a n before rest
+    → ((x : Played) → Contains rest x → m ≤ x.line) → (line : ℕ) → IsRecorded a line → (line < n) ⊎ (m ≤ line)
 recorded_cases a n m before rest cut late line (x, (among, same)) =
     elim (Contains-append_cases before rest x (subst (λ z. Contains z x) cut.parts among)) [
       | inl first ↦ let low = cut.early x first in inl (omega arith)

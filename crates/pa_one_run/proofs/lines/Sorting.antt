@@ -175,7 +175,8 @@ pub none_below : {A : Type 0} (f : A → ℕ) (xs ys : List A) → below f 0 xs 
 none_below f xs ys = below_none f 0 xs (λ x among. omega arith) ∙ sym (below_none f 0 ys (λ x among. omega arith))
 
 -- lists that are alike before a line and on it are alike before the next
-pub next_below : {A : Type 0} (f : A → ℕ) (n : ℕ) (xs ys : List A) → IsNonDecreasingBy f xs → IsNonDecreasingBy f ys → below f n xs ≡ below f n ys → on f n xs ≡ on f n ys → below f (n + 1) xs ≡ below f (n + 1) ys
+pub next_below : {A : Type 0} (f : A → ℕ) (n : ℕ) (xs ys : List A) → IsNonDecreasingBy f xs → IsNonDecreasingBy f ys
+    → below f n xs ≡ below f n ys → on f n xs ≡ on f n ys → below f (n + 1) xs ≡ below f (n + 1) ys
 next_below f n xs ys h k same now =
     below_next f n (n + 1) xs (omega arith) (λ x among more. omega arith) h ∙ both_parts _ _ _ _ same now
     ∙ sym (below_next f n (n + 1) ys (omega arith) (λ x among more. omega arith) k)
@@ -204,7 +205,8 @@ sorted_by f xs h i j d up few = elim (cases_lt (f (get_or xs j d)) (f (get_or xs
 ]
 
 -- a list whose lines don't fall has rising lines if each entry has a line of its own
-pub rises_by : {A : Type 0} (f : A → ℕ) (xs : List A) → IsNonDecreasingBy f xs → ((i j : ℕ) (e g : A) → slice_get xs i ≡ Some e → slice_get xs j ≡ Some g → f e ≡ f g → i ≡ j) → IsStrictlyIncreasing (map f xs)
+pub rises_by : {A : Type 0} (f : A → ℕ) (xs : List A) → IsNonDecreasingBy f xs
+    → ((i j : ℕ) (e g : A) → slice_get xs i ≡ Some e → slice_get xs j ≡ Some g → f e ≡ f g → i ≡ j) → IsStrictlyIncreasing (map f xs)
 rises_by f [] h differ k few = absurd (omega arith)
 rises_by f (x ∷ xs) h differ k few =
     let many = length-map (x ∷ xs) f in

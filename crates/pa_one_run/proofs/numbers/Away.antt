@@ -86,7 +86,8 @@ unfree_away a n p mark h among unfree =
     let unheld : (holder : Holder) → IsFirstHolder a.ps s k holder → ⊥ = λ holder first. unfree (held_free a s k holder mark h first among refl refl) in
     let none : moves_at (a.roots p) s k ≡ [] = no_moves a.ps s k (moves_at (a.roots p) s k) (h.holders.moves p s k) unheld in
     let all : ways_of s k (map entry_act (a.roots p)) ≡ [] = sym (moves_ways (a.roots p) s k) ∙ ap (map way_at) none in
-    let front : ways_of s k (acts_before a n p) ≡ [] = left_none (ways_of s k (acts_before a n p)) (ways_of s k (acts_of a.roots n p) ++ ways_of s k (acts_past a n p)) (sym (journal_ways a n p s k h) ∙ all) in
+    let front : ways_of s k (acts_before a n p) ≡ [] = left_none (ways_of s k (acts_before a n p))
+    (ways_of s k (acts_of a.roots n p) ++ ways_of s k (acts_past a n p)) (sym (journal_ways a n p s k h) ∙ all) in
     rw (front, ne_eqb k 0 (λ e. unheld InRoot (inl (e, refl)))) refl
 
 -- ---- one record more

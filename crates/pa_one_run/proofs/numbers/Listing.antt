@@ -46,7 +46,8 @@ with_cases all thread next t p c m among = elim (cases_eq t thread) [
   | inr other ↦ inr (rw (ne_eqb t thread other) at among)
 ]
 
-list_cases : (cache next : Cache) (q class p c : ℕ) (xs : List Numbered) (m : Numbered) → SameLists next (with_list cache q class xs) → Contains (next p c) m → ((q ≡ p) × Contains xs m) ⊎ Contains (cache p c) m
+list_cases : (cache next : Cache) (q class p c : ℕ) (xs : List Numbered) (m : Numbered) → SameLists next (with_list cache q class xs)
+    → Contains (next p c) m → ((q ≡ p) × Contains xs m) ⊎ Contains (cache p c) m
 list_cases cache next q class p c xs m becomes among =
     let there : Contains (with_list cache q class xs p c) m = subst (λ ys. Contains ys m) (becomes p c) among in
     elim (cases_eq p q) [
@@ -57,7 +58,8 @@ list_cases cache next q class p c xs m becomes among =
       | inr e ↦ inr (rw (ne_eqb p q e) at there)
     ]
 
-pub stands_same : (all : Caches) (s : SlotName) (p threads thread : ℕ) (next : Cache) (m : Numbered) → SameLists next (all thread) → Stands (with_cache all thread next) s p threads m → Stands all s p threads m
+pub stands_same : (all : Caches) (s : SlotName) (p threads thread : ℕ) (next : Cache) (m : Numbered) → SameLists next (all thread)
+    → Stands (with_cache all thread next) s p threads m → Stands all s p threads m
 stands_same all s p threads thread next m becomes at = record {
   thread = at.thread;
   class = at.class;
@@ -80,7 +82,8 @@ stands_changed all s p threads thread q class xs next m becomes at = elim (with_
   | inr old ↦ inl (record { thread = at.thread; class = at.class; few = at.few; real = at.real; among = old; slot = at.slot })
 ]
 
-pub stands_emptied : (all : Caches) (s : SlotName) (p threads thread : ℕ) (next : Cache) (m : Numbered) → ((q c : ℕ) → next q c ≡ []) → Stands (with_cache all thread next) s p threads m → Stands all s p threads m
+pub stands_emptied : (all : Caches) (s : SlotName) (p threads thread : ℕ) (next : Cache) (m : Numbered) → ((q c : ℕ) → next q c ≡ [])
+    → Stands (with_cache all thread next) s p threads m → Stands all s p threads m
 stands_emptied all s p threads thread next m empty at = record {
   thread = at.thread;
   class = at.class;

@@ -103,7 +103,8 @@ abbrev pub AreNumberedAfter : Parts → List Played → Played → Caches → Ca
 AreNumberedAfter a before x all next s p =
     AreNumbered (acts_before a x.line p ++ acts_of a.roots x.line p) s (number_after (before ++ x ∷ []) s) (Stands (with_cache all x.thread next) s p a.threads)
 
-module _ (a : Parts) (before rest : List Played) (x : Played) (all : Caches) (next : Cache) (s : SlotName) (p class : ℕ) (n : IsNext a before rest x all next s p class) (are : AreNumberedBefore a before x all s p) where
+module _ (a : Parts) (before rest : List Played) (x : Played) (all : Caches) (next : Cache) (s : SlotName) (p class : ℕ)
+    (n : IsNext a before rest x all next s p class) (are : AreNumberedBefore a before x all s p) where
   few : x.thread < a.threads
   few = All-contains (λ (y : Played). y.thread < a.threads) a.ps x n.filed.few (in_middle before rest a.ps x n.parts)
 
@@ -294,7 +295,8 @@ module _ (a : Parts) (before rest : List Played) (x : Played) (all : Caches) (ne
       elim (cases_eq q p) [
         | inl same ↦
             let (on, one) = pushed seen step marked none in
-            return_here slot c (class_real a.pools a.roots seen.slot q c (n.filed.journals.journals q) of) on one (subst (λ z. acts_of a.roots x.line z ≡ gives (spilled c (slot ∷ all x.thread z c))) same only.0)
+            return_here slot c (class_real a.pools a.roots seen.slot q c (n.filed.journals.journals q) of) on one
+            (subst (λ z. acts_of a.roots x.line z ≡ gives (spilled c (slot ∷ all x.thread z c))) same only.0)
             (subst (λ z. SameLists next (with_list (all x.thread) z c (kept c (slot ∷ all x.thread z c)))) same becomes)
         | inr other ↦
             quiet

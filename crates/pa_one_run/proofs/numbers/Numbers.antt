@@ -129,7 +129,8 @@ module _ (a : Parts) (x : Played) (p : ℕ) (s : SlotName) (real : p < a.partiti
 alone_is : (acts : List RootAct) (act : RootAct) → IsAlone acts → Contains acts act → acts ≡ act ∷ []
 alone_is acts act (other, is) among = is ∙ ap (λ z. z ∷ []) (in_one other act (subst (λ ys. Contains ys act) is among))
 
-act_class : (a : Parts) (line p class : ℕ) (asked : Option ℕ) (slots : List Numbered) (m : Numbered) → Contains (acts_of a.roots line p) (Fill class asked slots) → Contains slots m → IsOfClass a.roots m.slot p class
+act_class : (a : Parts) (line p class : ℕ) (asked : Option ℕ) (slots : List Numbered) (m : Numbered)
+    → Contains (acts_of a.roots line p) (Fill class asked slots) → Contains slots m → IsOfClass a.roots m.slot p class
 act_class a line p class asked slots m among member =
     let (e, stands, here, is) = act_entry a.roots line p (Fill class asked slots) among in
     (e, asked, slots, stands, is, map_in (λ (n : Numbered). n.slot) slots m member)

@@ -74,7 +74,8 @@ abbrev ClassRow : Journals → Played → Seen → Cache → Cache → ℕ → �
 ClassRow roots x seen cache after p class =
     (xs rest : List Numbered) × FilledFirst roots x.line p class (cache p class) xs × FrontIs seen xs rest × SameLists after (with_list cache p class rest)
 
-class_row : (a b : Parts) (before : List Played) (x : Played) (v : Answer) (p class : ℕ) (seen other : Seen) (cache next next' : Cache) → Beside a b before x v → ClassRow a.roots x seen cache next p class →
+class_row : (a b : Parts) (before : List Played) (x : Played) (v : Answer) (p class : ℕ) (seen other : Seen) (cache next next' : Cache)
+    → Beside a b before x v → ClassRow a.roots x seen cache next p class →
     ClassRow b.roots x other cache next' p class → IsMadeAlike a b x.line seen.slot other.slot next next'
 class_row a b before x v p class seen other cache next next' h (xs, rest, filled, front, becomes) (ys, rest', filled', front', becomes') =
     let (same, line) = filled_alike a b before x v p class (cache p class) xs ys h filled filled' in
@@ -83,7 +84,11 @@ class_row a b before x v p class seen other cache next next' h (xs, rest, filled
     let lists : head ∷ rest ≡ head' ∷ rest' = sym front ∙ same ∙ front' in
     record {
       slot = ap (λ (zs : List Numbered). (get_or zs 0 head).slot) lists;
-      row = record { caches = both_become next next' (with_list cache p class rest) (with_list cache p class rest') becomes becomes' (ap (λ zs. with_list cache p class zs) (ap (drop 1) lists)); line = line };
+      row = record {
+        caches = both_become next next' (with_list cache p class rest) (with_list cache p class rest') becomes becomes'
+            (ap (λ zs. with_list cache p class zs) (ap (drop 1) lists));
+        line = line;
+      };
     }
 
 pub made_alike : (a b : Parts) (before : List Played) (x : Played) (v : Answer) (seen other : Seen) (cache next next' : Cache) → Beside a b before x v → MadeRow a.roots x seen cache next →
@@ -92,8 +97,10 @@ made_alike a b before x v seen other cache next next' h (inl (p, class, xs, rest
     let (e, f) = class_once x q p class' class asks' asks in
     class_row a b before x v p class seen other cache next next' h (xs, rest, filled, front, becomes)
     (subst (λ z. ClassRow b.roots x other cache next' z class) e (subst (λ z. ClassRow b.roots x other cache next' q z) f (ys, rest', filled', front', becomes')))
-made_alike a b before x v seen other cache next next' h (inl (p, class, xs, rest, asks, filled, front, becomes)) (inr (q, size, asked, len, asks', only', becomes')) = absurd (class_or_map x p q class size asks asks')
-made_alike a b before x v seen other cache next next' h (inr (p, size, asked, len, asks, only, becomes)) (inl (q, class', ys, rest', asks', filled', front', becomes')) = absurd (class_or_map x q p class' size asks' asks)
+made_alike a b before x v seen other cache next next' h (inl (p, class, xs, rest, asks, filled, front, becomes))
+    (inr (q, size, asked, len, asks', only', becomes')) = absurd (class_or_map x p q class size asks asks')
+made_alike a b before x v seen other cache next next' h (inr (p, size, asked, len, asks, only, becomes))
+    (inl (q, class', ys, rest', asks', filled', front', becomes')) = absurd (class_or_map x q p class' size asks' asks)
 made_alike a b before x v seen other cache next next' h (inr (p, size, i, m, asks, only, becomes)) (inr (q, size', j, k, asks', only', becomes')) =
     let (e, f) = map_once x q p size' size asks' asks in
     let there : OnlyActs b.roots x.line p (Map j other.slot k ∷ []) = subst (λ z. OnlyActs b.roots x.line z (Map j other.slot k ∷ [])) e only' in
@@ -109,7 +116,8 @@ made_alike a b before x v seen other cache next next' h (inr (p, size, i, m, ask
 
 -- ---- no room
 
-full_line : (a b : Parts) (n p i j : ℕ) (class : Option ℕ) → OnlyActs a.roots n p (Full class i ∷ []) → OnlyActs b.roots n p (Full class j ∷ []) → i ≡ j → on pool_line n a.pools ≡ on pool_line n b.pools → IsAlike a b n
+full_line : (a b : Parts) (n p i j : ℕ) (class : Option ℕ) → OnlyActs a.roots n p (Full class i ∷ [])
+    → OnlyActs b.roots n p (Full class j ∷ []) → i ≡ j → on pool_line n a.pools ≡ on pool_line n b.pools → IsAlike a b n
 full_line a b n p i j class only only' same pool =
     record { acts = only_alike a b n p (Full class i ∷ []) (Full class j ∷ []) only only' (ap (λ z. Full class z ∷ []) same); pool = pool }
 
@@ -130,12 +138,14 @@ full_alike a b before x v cache next next' h (inr (p, size, i, asks, only, becom
     record { caches = both_become next next' cache cache becomes becomes' refl; line = full_line a b x.line p i j None only there fulls.asked fulls.pool }
 
 -- no slot is made in one run if there is no room in the other
-filled_or_full : (a b : Parts) (before : List Played) (x : Played) (v : Answer) (p class j : ℕ) (list xs : List Numbered) → Beside a b before x v → FilledFirst a.roots x.line p class list xs → list ≡ [] →
+filled_or_full : (a b : Parts) (before : List Played) (x : Played) (v : Answer) (p class j : ℕ) (list xs : List Numbered)
+    → Beside a b before x v → FilledFirst a.roots x.line p class list xs → list ≡ [] →
     OnlyActs b.roots x.line p (Full (Some class) j ∷ []) → ⊥
 filled_or_full a b before x v p class j [] xs h (asked, only) empty only' = fill_or_full a b x.line p class j asked xs h.filed h.filed' h.agrees only only'
 filled_or_full a b before x v p class j (z ∷ zs) xs h filled empty only' = cc
 
-pub made_or_full : (a b : Parts) (before : List Played) (x : Played) (v : Answer) (seen : Seen) (cache next next' : Cache) → Beside a b before x v → MadeRow a.roots x seen cache next → FullRow b.roots x cache next' → ⊥
+pub made_or_full : (a b : Parts) (before : List Played) (x : Played) (v : Answer) (seen : Seen) (cache next next' : Cache)
+    → Beside a b before x v → MadeRow a.roots x seen cache next → FullRow b.roots x cache next' → ⊥
 made_or_full a b before x v seen cache next next' h (inl (p, class, xs, rest, asks, filled, front, becomes)) (inl (q, class', j, asks', empty, only', becomes')) =
     let (e, f) = class_once x q p class' class asks' asks in
     filled_or_full a b before x v p class j (cache p class) xs h filled (ap (λ z. cache z class) (sym e) ∙ ap (λ z. cache q z) (sym f) ∙ empty)
@@ -157,11 +167,13 @@ full_place a x cache next j h among is (inr (p, size, i, (reg, op, direct), only
     (p, reg, size, op, (entry_place a x.line p j (Full None i) e h only.0 at line).0)
 
 -- two runs that refuse one record name the same entry
-pub full_entry : (a b : Parts) (before : List Played) (x : Played) (i j : ℕ) (cache next next' : Cache) → Beside a b before x (answers.Full j) → x.answer ≡ answers.Full i → FullRow a.roots x cache next →
+pub full_entry : (a b : Parts) (before : List Played) (x : Played) (i j : ℕ) (cache next next' : Cache)
+    → Beside a b before x (answers.Full j) → x.answer ≡ answers.Full i → FullRow a.roots x cache next →
     FullRow b.roots x cache next' → i ≡ j
 full_entry a b before x i j cache next next' h is row row' =
     let (p, reg, size, op, place) = full_place a x cache next i h.filed (in_middle before h.rest a.ps x h.parts) is row in
-    let (q, reg', size', op', place') = full_place b (record x { answer = answers.Full j }) cache next' j h.filed' (in_middle before h.rest' b.ps (record x { answer = answers.Full j }) h.parts') refl row' in
+    let (q, reg', size', op', place') = full_place b (record x { answer = answers.Full j }) cache next' j h.filed'
+    (in_middle before h.rest' b.ps (record x { answer = answers.Full j }) h.parts') refl row' in
     let one : p ≡ q = partition_of reg reg' p q size size' (sym op ∙ op') in
     place ∙ ap (λ z. length (below entry_line x.line (a.roots z))) one ∙ ap length (h.agrees.journals q) ∙ sym place'
   where
@@ -226,7 +238,8 @@ back_alike a b before x slot cache next next' h made (m, marked, same, left) row
         }
 
 -- a row without entries
-same_alike : (a b : Parts) (before : List Played) (x : Played) (v : Answer) (cache next next' : Cache) → Beside a b before x v → NoActs a.roots x.line × SameLists next cache → NoActs b.roots x.line × SameLists next' cache →
+same_alike : (a b : Parts) (before : List Played) (x : Played) (v : Answer) (cache next next' : Cache) → Beside a b before x v
+    → NoActs a.roots x.line × SameLists next cache → NoActs b.roots x.line × SameLists next' cache →
     IsRowAlike a b x.line next next'
 same_alike a b before x v cache next next' h (none, becomes) (none', becomes') =
     record { caches = both_become next next' cache cache becomes becomes' refl; line = quiet_alike a b x.line h.filed h.filed' none none' }
@@ -254,7 +267,8 @@ purge_unasked a x slots cache next h (acts, counted, empty) = asks_nothing a x.l
 ])
 
 -- a purge gives back all lists, so two runs with the same lists answer the same count
-pub purged_alike : (a b : Parts) (before : List Played) (x : Played) (v : Answer) (slots slots' : ℕ) (cache next next' : Cache) → Beside a b before x v → PurgedRow a.partitions a.roots x slots cache next →
+pub purged_alike : (a b : Parts) (before : List Played) (x : Played) (v : Answer) (slots slots' : ℕ) (cache next next' : Cache)
+    → Beside a b before x v → PurgedRow a.partitions a.roots x slots cache next →
     PurgedRow b.partitions b.roots x slots' cache next' → (slots ≡ slots') × IsRowAlike a b x.line next next'
 purged_alike a b before x v slots slots' cache next next' h (acts, counted, empty) (acts', counted', empty') =
     let same = h.agrees.partitions in (

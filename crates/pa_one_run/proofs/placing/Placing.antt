@@ -26,7 +26,8 @@ walk a b done (x ∷ xs) rest rest' n all after after' h k parts parts' early ag
     let beside : Beside a b done x x.answer =
     record { filed = h; filed' = k; agrees = agrees_earlier a b x.line n (omega arith) agrees; rest = xs ++ rest; rest' = xs ++ rest'; parts = parts; parts' = parts' } in
     let same = (row_alike a b done x x.answer (all x.thread) next next' beside refl row row').caches in
-    walk a b (done ++ x ∷ []) xs rest rest' n (with_cache all x.thread next) after after' h k (parts ∙ sym (append_assoc done (x ∷ []) (xs ++ rest))) (parts' ∙ sym (append_assoc done (x ∷ []) (xs ++ rest')))
+    walk a b (done ++ x ∷ []) xs rest rest' n (with_cache all x.thread next) after after' h k
+    (parts ∙ sym (append_assoc done (x ∷ []) (xs ++ rest))) (parts' ∙ sym (append_assoc done (x ∷ []) (xs ++ rest')))
     (λ y among. early y (later_in x y xs among)) agrees to (subst (λ c. CachesTo b.partitions b.roots (with_cache all x.thread c) xs after') (sym same) to')
 
 -- ---- the record of a line
@@ -40,7 +41,8 @@ record HaveRows (a b : Parts) (before : List Played) (x : Played) (v : Answer) :
   row : CacheRow a.partitions a.roots x x.answer cache next
   row' : CacheRow b.partitions b.roots x v cache next'
 
-have_rows : (a b : Parts) (before rest rest' : List Played) (x : Played) (v : Answer) → IsFiled a → IsFiled b → a.ps ≡ before ++ x ∷ rest → b.ps ≡ before ++ record x { answer = v } ∷ rest' → Agrees x.line a b →
+have_rows : (a b : Parts) (before rest rest' : List Played) (x : Played) (v : Answer) → IsFiled a → IsFiled b → a.ps ≡ before ++ x ∷ rest
+    → b.ps ≡ before ++ record x { answer = v } ∷ rest' → Agrees x.line a b →
     HaveRows a b before x v
 have_rows a b before rest rest' x v h k parts parts' agrees =
     let y = record x { answer = v } in
@@ -74,7 +76,9 @@ row_is a x u v cache next e row = subst (λ z. CacheRow a.partitions a.roots x z
 rows_placed : (a b : Parts) (before : List Played) (x : Played) (v : Answer) → HaveRows a b before x v → IsPlacedAlike x.answer v
 rows_placed a b before x v h = record {
   made = λ seen other u w is is'.
-      (made_alike a b before x v seen other h.cache h.next h.next' h.beside (row_is a x x.answer (answers.Made seen u) h.cache h.next is h.row) (row_is b x v (answers.Made other w) h.cache h.next' is' h.row')).slot;
+      (made_alike a b before x v seen other h.cache h.next h.next' h.beside
+      (row_is a x x.answer (answers.Made seen u) h.cache h.next is h.row)
+      (row_is b x v (answers.Made other w) h.cache h.next' is' h.row')).slot;
   made_full = λ seen u j is is'.
       made_or_full a b before x v seen h.cache h.next h.next' h.beside (row_is a x x.answer (answers.Made seen u) h.cache h.next is h.row) (row_is b x v (answers.Full j) h.cache h.next' is' h.row');
   full_made = λ seen u j is is'.
@@ -104,7 +108,8 @@ lines_alike a b before rest rest' x h k parts parts' agrees =
     (λ p. acts_tell a b x.line p (line.acts p), line.pool)
 
 -- a record of a run, from the same lists, leaves the same lists
-pub row_once : (a : Parts) (x : Played) (cache next next' : Cache) → IsFiled a → Contains a.ps x → CacheRow a.partitions a.roots x x.answer cache next → CacheRow a.partitions a.roots x x.answer cache next' → next ≡ next'
+pub row_once : (a : Parts) (x : Played) (cache next next' : Cache) → IsFiled a → Contains a.ps x
+    → CacheRow a.partitions a.roots x x.answer cache next → CacheRow a.partitions a.roots x x.answer cache next' → next ≡ next'
 row_once a x cache next next' h among row row' =
     let (before, rest, parts) = parts_at a.ps x among in
     let beside : Beside a a before x x.answer = record { filed = h; filed' = h; agrees = agrees_self x.line a; rest = rest; rest' = rest; parts = parts; parts' = parts } in

@@ -134,7 +134,8 @@ named_alike a b n p i j act act' h at at' same =
     asked_alike a b n p i j h.entry h.entry' h.agrees h.asked h.asked' (entry_is a n p i h.entry act h.asked at ∙ same ∙ sym (entry_is b n p j h.entry' act' h.asked' at'))
 
 -- two takes of as many super pages on one line find the same ones
-pub takes_alike : (a b : Parts) (n p i j count : ℕ) (found found' : Option ℕ) → AreNamed a b n p i j → act_at a.pools i ≡ Some (turns.Take count found) → act_at b.pools j ≡ Some (turns.Take count found') → found ≡ found'
+pub takes_alike : (a b : Parts) (n p i j count : ℕ) (found found' : Option ℕ) → AreNamed a b n p i j
+    → act_at a.pools i ≡ Some (turns.Take count found) → act_at b.pools j ≡ Some (turns.Take count found') → found ≡ found'
 takes_alike a b n p i j count found found' h at at' =
     let one : PoolActFits a.pools p (turns.Take count found) (pool_at a n) = subst (λ z. PoolActFits a.pools p z (pool_at a n)) (entry_is a n p i h.entry _ h.asked at) h.asked.fits in
     let two : PoolActFits b.pools p (turns.Take count found') (pool_at b n) = subst (λ z. PoolActFits b.pools p z (pool_at b n)) (entry_is b n p j h.entry' _ h.asked' at') h.asked'.fits in
@@ -178,7 +179,8 @@ fills_alike a b n p class (Some i) (Some j) xs ys h k agrees only only' =
     let (place, pool) = named_alike a b n p i j (turns.Take 1 (Some first)) (turns.Take 1 (Some first')) both run run' (ap (λ o. turns.Take 1 o) found) in
     let act : act_at a.pools i ≡ act_at b.pools j = run ∙ ap (λ o. Some (turns.Take 1 o)) found ∙ sym run' in
     let r = root_at a n p in
-    let opens : opened (super_of (act_at a.pools i)) i r ≡ opened (super_of (act_at b.pools j)) j r = ap (λ z. opened (super_of z) i r) act ∙ ap (λ z. opened (super_of (act_at b.pools j)) z r) place in
+    let opens : opened (super_of (act_at a.pools i)) i r ≡ opened (super_of (act_at b.pools j)) j r = ap (λ z. opened (super_of z) i r)
+    act ∙ ap (λ z. opened (super_of (act_at b.pools j)) z r) place in
     record {
       slots = sym same ∙ ap (λ s. map name_of (takes class (fill_of class) s).titles) opens ∙ same';
       asked = ap Some place;
@@ -186,7 +188,8 @@ fills_alike a b n p class (Some i) (Some j) xs ys h k agrees only only' =
     }
 
 -- slots at the numbers of their words
-pub same_slots : (w : SlotName → ℕ) (xs ys : List Numbered) → ((m : Numbered) → Contains xs m → m.number ≡ w m.slot) → ((m : Numbered) → Contains ys m → m.number ≡ w m.slot) → names xs ≡ names ys → xs ≡ ys
+pub same_slots : (w : SlotName → ℕ) (xs ys : List Numbered) → ((m : Numbered) → Contains xs m → m.number ≡ w m.slot)
+    → ((m : Numbered) → Contains ys m → m.number ≡ w m.slot) → names xs ≡ names ys → xs ≡ ys
 same_slots w xs ys f g e = map_tells (λ (m : Numbered). m.slot) xs ys (λ m n among among' slot. same_numbered m n slot (f m among ∙ ap w slot ∙ sym (g n among'))) e
 
 -- ---- direct maps
@@ -198,7 +201,8 @@ full_map : (pools : List PoolEntry) (p size asked : ℕ) (x : Played) → AsksFo
 full_map pools p size asked x asks (size', asks', is) = subst (λ z. FoundNone pools asked (shape_of z).supers) (map_once x p p size' size asks' asks).1 is
 
 -- the two ops make the lines' only entries
-pub beside_makes : (a b : Parts) (before : List Played) (x : Played) (v : Answer) (p : ℕ) (act act' : RootAct) → Beside a b before x v → acts_of a.roots x.line p ≡ act ∷ [] → acts_of b.roots x.line p ≡ act' ∷ [] →
+pub beside_makes : (a b : Parts) (before : List Played) (x : Played) (v : Answer) (p : ℕ) (act act' : RootAct) → Beside a b before x v
+    → acts_of a.roots x.line p ≡ act ∷ [] → acts_of b.roots x.line p ≡ act' ∷ [] →
     MakesEntry a.pools p act x × MakesEntry b.pools p act' (record x { answer = v })
 beside_makes a b before x v p act act' h only only' = (
   makes a x p act h.filed (in_middle before h.rest a.ps x h.parts) only,
@@ -243,7 +247,8 @@ full_takes a b n p i j count both run run' =
     let (place, pool) = named_alike a b n p i j (turns.Take count None) (turns.Take count None) both run run' refl in
     record { asked = place; pool = pool }
 
-pub fulls_alike : (a b : Parts) (n p class i j : ℕ) → IsFiled a → IsFiled b → Agrees n a b → OnlyActs a.roots n p (Full (Some class) i ∷ []) → OnlyActs b.roots n p (Full (Some class) j ∷ []) → AreFulls a b n i j
+pub fulls_alike : (a b : Parts) (n p class i j : ℕ) → IsFiled a → IsFiled b → Agrees n a b
+    → OnlyActs a.roots n p (Full (Some class) i ∷ []) → OnlyActs b.roots n p (Full (Some class) j ∷ []) → AreFulls a b n i j
 fulls_alike a b n p class i j h k agrees only only' =
     let one = one_fits a n p (Full (Some class) i) h only.0 in
     let two = other_fits a b n p (Full (Some class) j) h k agrees only'.0 in

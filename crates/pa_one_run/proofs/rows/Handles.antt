@@ -92,7 +92,8 @@ change_names cells (ops.Swap cell reg) answer c s P made done found is names =
     found cell reg j refl by (sym (reg_names (found_in (slice_get (cells cell) j))) ∙ ap (λ (z : ℕ × Reg). slot_in z.1) e ∙ names)
 change_names cells ops.Purge answer c s P made done found is names = absurd (not_some c is)
 
-changed_cases : (regs : Regs) (o : Option (ℕ × Reg)) (r : ℕ) (s : SlotName) → slot_in (changed regs o r) ≡ Some s → (slot_in (regs r) ≡ Some s) ⊎ ((c : ℕ × Reg) × (o ≡ Some c) × (slot_in c.1 ≡ Some s))
+changed_cases : (regs : Regs) (o : Option (ℕ × Reg)) (r : ℕ) (s : SlotName) → slot_in (changed regs o r) ≡ Some s
+    → (slot_in (regs r) ≡ Some s) ⊎ ((c : ℕ × Reg) × (o ≡ Some c) × (slot_in c.1 ≡ Some s))
 changed_cases regs None r s e = inl e
 changed_cases regs (Some c) r s e = either (r == c.0) e
   where
@@ -108,7 +109,8 @@ pub record HoldsMade (a : Parts) (before : List Played) (all : AllRegs) : Type 0
   pub registers : (t r : ℕ) (s : SlotName) → slot_in (all t r) ≡ Some s → IsMadeIn before s
   pub cells : (k : ℕ) (e : CellEntry) (q : Played) (s : SlotName) → Contains (a.cells k) e → Contains before q → e.line ≡ q.line → slot_held e.gave ≡ Some s → IsMadeIn before s
 
-gave_named : (first : Held) (es : List CellEntry) (s : SlotName) → slot_held (gave_last first es) ≡ Some s → (slot_held first ≡ Some s) ⊎ ((e : CellEntry) × Contains es e × (slot_held e.gave ≡ Some s))
+gave_named : (first : Held) (es : List CellEntry) (s : SlotName) → slot_held (gave_last first es) ≡ Some s → (slot_held first ≡ Some s)
+    ⊎ ((e : CellEntry) × Contains es e × (slot_held e.gave ≡ Some s))
 gave_named first [] s h = inl h
 gave_named first (e ∷ es) s h = elim (gave_named e.gave es s h) [
   | inl here ↦ inr (e, first_in e es, here)
@@ -129,7 +131,8 @@ found_made a before rest x all k e s h parts holds has names =
     ]
 
 -- a record's row gave what the register held
-pub swap_gave : (a : Parts) (x : Played) (k reg : ℕ) (e : CellEntry) (regs next : Regs) → HasExchange a x k e → x.op ≡ ops.Swap k reg → Row (facts_of a) x.op regs x.answer next → e.gave ≡ handle_of (regs reg)
+pub swap_gave : (a : Parts) (x : Played) (k reg : ℕ) (e : CellEntry) (regs next : Regs) → HasExchange a x k e → x.op ≡ ops.Swap k reg
+    → Row (facts_of a) x.op regs x.answer next → e.gave ≡ handle_of (regs reg)
 swap_gave a x k reg e regs next has op row =
     let (entry, d, is, at, gave, becomes) = subst (λ o. Row (facts_of a) o regs x.answer next) op row in
     let same = of_some _ _ (ap swapped_of (sym is ∙ has.answer)) in
@@ -179,7 +182,8 @@ one_more a before rest x all next h parts holds row = record {
   ];
 }
 
-made_along : (a : Parts) (before ps rest : List Played) (all after : AllRegs) → IsFiled a → a.ps ≡ before ++ (ps ++ rest) → HoldsMade a before all → RowsTo (facts_of a) all ps after → HoldsMade a (before ++ ps) after
+made_along : (a : Parts) (before ps rest : List Played) (all after : AllRegs) → IsFiled a → a.ps ≡ before ++ (ps ++ rest)
+    → HoldsMade a before all → RowsTo (facts_of a) all ps after → HoldsMade a (before ++ ps) after
 made_along a before [] rest all after h parts holds e =
     let there : HoldsMade a (before ++ []) all = subst (λ xs. HoldsMade a xs all) (sym (append-nil before)) holds in
     subst (λ (z : AllRegs). HoldsMade a (before ++ []) z) (sym e) there

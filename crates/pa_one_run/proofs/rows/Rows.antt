@@ -43,7 +43,8 @@ use Rattle.pa_one_run.proofs.lines.Cuts.{cut_here}
 abbrev AreCellsAlike : (ℕ → List CellEntry) → (ℕ → List CellEntry) → Op → Answer → Type 0
 AreCellsAlike cells others op answer = (k reg j : ℕ) → op ≡ ops.Swap k reg → swapped_of answer ≡ Some j → slice_get (cells k) j ≡ slice_get (others k) j
 
-swap_alike : (one other : ℕ → Option CellEntry) (f : Option CellEntry → ℕ × Reg) (o : Option ℕ) → ((j : ℕ) → o ≡ Some j → one j ≡ other j) → option_map (λ j. f (one j)) o ≡ option_map (λ j. f (other j)) o
+swap_alike : (one other : ℕ → Option CellEntry) (f : Option CellEntry → ℕ × Reg) (o : Option ℕ) → ((j : ℕ) → o ≡ Some j → one j ≡ other j)
+    → option_map (λ j. f (one j)) o ≡ option_map (λ j. f (other j)) o
 swap_alike one other f None h = refl
 swap_alike one other f (Some j) h = ap {B = Option (ℕ × Reg)} (λ c. Some (f c)) (h j refl)
 
@@ -171,7 +172,8 @@ request_alike f g regs x y reg size next next' alike (inr (inr h)) (inl k) = abs
 request_alike f g regs x y reg size next next' alike (inr (inr (low, i, is, _))) (inr (inl (low', d, is', _))) = absurd (alike.placed.full_made d (g.usable_of size) i is is')
 request_alike f g regs x y reg size next next' alike (inr (inr (low, i, is, _))) (inr (inr (low', j, is', _))) = is ∙ ap {B = Answer} (λ n. Full n) (alike.placed.full i j is is') ∙ sym is'
 
-alloc_alike : (f g : Facts) (r : Reg) (regs : Regs) (x y : Answer) (reg size : ℕ) (next next' : Regs) → AreAlike f g regs x y → AllocRow r f regs reg size x next → AllocRow r g regs reg size y next' → x ≡ y
+alloc_alike : (f g : Facts) (r : Reg) (regs : Regs) (x y : Answer) (reg size : ℕ) (next next' : Regs) → AreAlike f g regs x y
+    → AllocRow r f regs reg size x next → AllocRow r g regs reg size y next' → x ≡ y
 alloc_alike f g Empty regs x y reg size next next' alike h k = request_alike f g regs x y reg size next next' alike h k
 alloc_alike f g (Own s) regs x y reg size next next' alike h k = h.0 ∙ sym k.0
 alloc_alike f g (Ref s) regs x y reg size next next' alike h k = h.0 ∙ sym k.0
@@ -179,13 +181,15 @@ alloc_alike f g Freed regs x y reg size next next' alike h k = request_alike f g
 alloc_alike f g Cleared regs x y reg size next next' alike h k = request_alike f g regs x y reg size next next' alike h k
 
 -- both saw one slot
-seen_alike : (f g : Facts) (regs : Regs) (x y a b : Answer) (c d : Seen) (s : SlotName) → AreAlike f g regs x y → x ≡ a → y ≡ b → seen_of a ≡ Some c → seen_of b ≡ Some d → c.slot ≡ s → d.slot ≡ s → c ≡ d
+seen_alike : (f g : Facts) (regs : Regs) (x y a b : Answer) (c d : Seen) (s : SlotName) → AreAlike f g regs x y → x ≡ a → y ≡ b
+    → seen_of a ≡ Some c → seen_of b ≡ Some d → c.slot ≡ s → d.slot ≡ s → c ≡ d
 seen_alike f g regs x y a b c d s alike is is' one other slot slot' = alike.seen c d (ap seen_of is ∙ one) (ap seen_of is' ∙ other) (slot ∙ sym slot')
 
 done_alike : (f g : Facts) (regs : Regs) (x y : Answer) (c d : Seen) (s : SlotName) → AreAlike f g regs x y → c.slot ≡ s → d.slot ≡ s → x ≡ Done c → y ≡ Done d → x ≡ y
 done_alike f g regs x y c d s alike slot slot' is is' = is ∙ ap {B = Answer} (λ z. Done z) (seen_alike f g regs x y (Done c) (Done d) c d s alike is is' refl refl slot slot') ∙ sym is'
 
-copy_to_alike : (f g : Facts) (r : Reg) (s : SlotName) (regs : Regs) (x y : Answer) (to : ℕ) (next next' : Regs) → AreAlike f g regs x y → CopyToRow r s regs to x next → CopyToRow r s regs to y next' → x ≡ y
+copy_to_alike : (f g : Facts) (r : Reg) (s : SlotName) (regs : Regs) (x y : Answer) (to : ℕ) (next next' : Regs) → AreAlike f g regs x y
+    → CopyToRow r s regs to x next → CopyToRow r s regs to y next' → x ≡ y
 copy_to_alike f g Empty s regs x y to next next' alike h k = done_alike f g regs x y h.0 k.0 s alike h.1 k.1 h.2 k.2
 copy_to_alike f g (Own t) s regs x y to next next' alike h k = h.0 ∙ sym k.0
 copy_to_alike f g (Ref t) s regs x y to next next' alike h k = h.0 ∙ sym k.0
@@ -232,7 +236,8 @@ free_alike f g Cleared regs x y reg next next' alike h k = h.0 ∙ sym k.0
 -- a write by the owner, by whether the slot is shared
 owner_alike : (f g : Facts) (regs : Regs) (x y : Answer) (c d : Seen) (s : SlotName) → AreAlike f g regs x y → c.slot ≡ s → d.slot ≡ s →
     ((0 < refs_of c.found.0) × (x ≡ Shared c)) ⊎ ((refs_of c.found.0 ≡ 0) × (x ≡ Done c)) → ((0 < refs_of d.found.0) × (y ≡ Shared d)) ⊎ ((refs_of d.found.0 ≡ 0) × (y ≡ Done d)) → x ≡ y
-owner_alike f g regs x y c d s alike slot slot' (inl h) (inl k) = h.1 ∙ ap {B = Answer} (λ z. Shared z) (seen_alike f g regs x y (Shared c) (Shared d) c d s alike h.1 k.1 refl refl slot slot') ∙ sym k.1
+owner_alike f g regs x y c d s alike slot slot' (inl h) (inl k) = h.1
+    ∙ ap {B = Answer} (λ z. Shared z) (seen_alike f g regs x y (Shared c) (Shared d) c d s alike h.1 k.1 refl refl slot slot') ∙ sym k.1
 owner_alike f g regs x y c d s alike slot slot' (inl h) (inr k) =
     let same : refs_of c.found.0 ≡ refs_of d.found.0 = ap (λ (z : Seen). refs_of z.found.0) (seen_alike f g regs x y (Shared c) (Done d) c d s alike h.1 k.1 refl refl slot slot') in
     absurd (omega (arith, h.0, k.0, same))
@@ -306,7 +311,8 @@ next_registers a b before rest rest' x y all all' h k parts parts' agrees rows r
     registers_agree a b before (x ∷ rest) (y ∷ rest') x.line all all' h k parts parts' (cut_here a before rest x h parts).early agrees rows rows'
 
 -- the places of the exchanges
-swaps_agree : (a b : Parts) (before rest rest' : List Played) (x y : Played) (cell reg i j : ℕ) → IsFiled a → IsFiled b → a.ps ≡ before ++ x ∷ rest → b.ps ≡ before ++ y ∷ rest' → x.op ≡ y.op → x.line ≡ y.line →
+swaps_agree : (a b : Parts) (before rest rest' : List Played) (x y : Played) (cell reg i j : ℕ) → IsFiled a → IsFiled b
+    → a.ps ≡ before ++ x ∷ rest → b.ps ≡ before ++ y ∷ rest' → x.op ≡ y.op → x.line ≡ y.line →
     Agrees x.line a b → x.op ≡ ops.Swap cell reg → x.answer ≡ Swapped i → y.answer ≡ Swapped j → i ≡ j
 swaps_agree a b before rest rest' x y cell reg i j h k parts parts' ops lines agrees op is is' =
     let (e, has) = exchange_here a x cell reg h (in_middle before rest a.ps x parts) op in

@@ -70,7 +70,8 @@ module _ (a : Parts) (before rest : List Played) (x : Played) (seen : Seen) (v :
       q,
       other,
       reg,
-      stands_before a before rest x q (mark_at x.line seen None) (mark_at q.line other (Some steps.Write)) h parts (read_mark x seen v reads) member (written_mark q other reg value op answer) slot (omega arith),
+      stands_before a before rest x q (mark_at x.line seen None) (mark_at q.line other (Some steps.Write)) h parts
+          (read_mark x seen v reads) member (written_mark q other reg value op answer) slot (omega arith),
       op,
       answer,
       slot,

@@ -17,7 +17,7 @@ use Rattle.pa_rules.specs.Verdicts.{Demand}
 use Rattle.pa_audit_report.specs.Given.{AreRecordsOf}
 use Rattle.pa_audit.specs.Lined.{TellsLine}
 use Rattle.pa_audit.specs.Placed.{IsThere, TellsPlace}
-use Rattle.pa_audit.proofs.Granted.{of_threads, pool_rest}
+use Rattle.pa_audit.proofs.Granted.{of_threads, pool_rest, region_few}
 use Rattle.pa_audit.proofs.Placing.{place_there, place_told}
 use Rattle.pa_audit.proofs.Telling.{pool_told}
 use Rattle.pa_audit.proofs.heap.pool_fails.Goals as goal
@@ -32,6 +32,9 @@ places_of t r ps pools roots o records same is tells =
     pool_told t.region (records_of t (told_by r)) r.pool.items (journal_at r.roots.items) o
     (subst (λ qs. Entries t.region qs r.pool.items r.roots.items o) records
     (subst (λ es. Entries t.region ps es r.roots.items o) same (subst (λ rs. Entries t.region ps pools rs o) is tells)))
+
+pub pool_meets-requires-clause-supers : goal.pool_meets-requires-clause-supers
+pool_meets-requires-clause-supers c = region_few c.args.trace.now c.requires.limits
 
 pub pool_meets-requires-clause-threads : goal.pool_meets-requires-clause-threads
 pool_meets-requires-clause-threads c = of_threads c.args.trace.now c.args.run.now c.args.records.now c.requires.records c.requires.limits (c.requires.before clauses.Lines (omega arith))

@@ -26,8 +26,8 @@ of-requires-clause-within c =
 pub of-requires-clause-kinds : goal.of-requires-clause-kinds
 of-requires-clause-kinds c s =
     let before = c.requires.can.before in
-    subst (λ (rs : List (List RootEntry)). HasOneHome (journal_at rs) s) (sym c.roots-2.ensures.roots)
-    (homes_held c.args.trace.now c.args.run.now c.requires.can.limits (before clauses.Lines (omega arith)) (before clauses.Pool (omega arith)) (before clauses.Roots (omega arith)) s)
+    subst (λ (rs : List (List RootEntry)). HasOneHome c.args.trace.now.version (journal_at rs) s) (sym c.roots-2.ensures.roots)
+    (homes_held c.args.trace.now c.args.run.now (before clauses.Lines (omega arith)) (before clauses.Pool (omega arith)) (before clauses.Roots (omega arith)) s)
 
 pub caches_meet-requires-clause-ends : goal.caches_meet-requires-clause-ends
 caches_meet-requires-clause-ends c =

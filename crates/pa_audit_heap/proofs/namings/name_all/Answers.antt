@@ -25,7 +25,8 @@ loop-entry-preserved c =
     let q = c.args.partition in
     let size = length c.args.namings.now.items in
     let f = c.entry-item.result in
-    let there : slice_get c.entries-entry-items.result.now i ≡ Some f = slice_get_read c.entries-entry-items.result.now (length c.entries-entry-items.result.now) i f refl c.loop-entry-test.true c.entry-item.is in
+    let there : slice_get c.entries-entry-items.result.now i ≡ Some f = slice_get_read c.entries-entry-items.result.now
+    (length c.entries-entry-items.result.now) i f refl c.loop-entry-test.true c.entry-item.is in
     let is : slice_get (roots q) i ≡ Some f = subst (λ (es : List RootEntry). slice_get es i ≡ Some f) (c.entries-entry-items.ensures.entries ∙ sym c.requires.journal) there in
     let asked : asked_by f.act ≡ c.asked_by.result = sym (c.asked_by.ensures ∙ ap asked_by c.act.ensures.act) in
     elim c.match-asked_by.branch [
@@ -43,5 +44,9 @@ pub returns : goal.returns
 returns c =
     let l = c.loop-entry in
     let roots = journal_at c.args.roots.now in
-    let past : length (roots c.args.partition) ≤ l.entry-index = omega (arith, ap (λ (es : List RootEntry). length es) (c.requires.journal ∙ sym c.entries-entry-items.ensures.entries), c.loop-entry-test.false) in
+    let past : length (roots c.args.partition) ≤ l.entry-index = omega (
+      arith,
+      ap (λ (es : List RootEntry). length es) (c.requires.journal ∙ sym c.entries-entry-items.ensures.entries),
+      c.loop-entry-test.false,
+    ) in
     record { after = namings_next roots c.args.partition l.entry-index (length c.args.namings.now.items) l.namings.items past l.invariant }

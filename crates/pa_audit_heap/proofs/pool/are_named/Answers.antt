@@ -23,7 +23,8 @@ returns-then-not-is_named c =
     let namings = c.in_ok-namings.ensures in
     let many = namings.many in
     let within = c.loop-entry-test.true in
-    let at : c.index.result.now ≡ get_or c.in_ok-namings.namings.items i Nobody = get_or_read c.in_ok-namings.namings.items _ _ (omega arith) c.index.ensures Nobody ∙ ap (λ k. get_or c.in_ok-namings.namings.items k Nobody) l.invariant.at in (
+    let at : c.index.result.now ≡ get_or c.in_ok-namings.namings.items i Nobody = get_or_read c.in_ok-namings.namings.items _ _
+    (omega arith) c.index.ensures Nobody ∙ ap (λ k. get_or c.in_ok-namings.namings.items k Nobody) l.invariant.at in (
       subst (λ k. IsNamedAt pools roots k → ⊥) (sym l.invariant.at)
           (λ named. both_ways _ c.if-not-is_named.true (c.is_named.ensures.1 (at ∙ naming_is roots (length c.args.roots.now) i e (get_or c.in_ok-namings.namings.items i Nobody)
           (all_journals c.args.roots.now) (namings.each i within) (named e (entry_at pools i within))))),
@@ -40,7 +41,8 @@ loop-entry-preserved c =
     let namings = c.in_ok-namings.ensures in
     let many = namings.many in
     let within = c.loop-entry-test.true in
-    let at : c.index.result.now ≡ get_or c.in_ok-namings.namings.items i Nobody = get_or_read c.in_ok-namings.namings.items _ _ (omega arith) c.index.ensures Nobody ∙ ap (λ k. get_or c.in_ok-namings.namings.items k Nobody) l.invariant.at in
+    let at : c.index.result.now ≡ get_or c.in_ok-namings.namings.items i Nobody = get_or_read c.in_ok-namings.namings.items _ _
+    (omega arith) c.index.ensures Nobody ∙ ap (λ k. get_or c.in_ok-namings.namings.items k Nobody) l.invariant.at in
     let is = sym at ∙ c.is_named.ensures.0 c.if-not-is_named.false in
     let named = named_is roots (length c.args.roots.now) i e (all_journals c.args.roots.now) (subst (IsNaming roots (length c.args.roots.now) 0 i) is (namings.each i within)) in
     record {

@@ -57,7 +57,8 @@ returns c =
     let behind = c.loop-at-test.false in
     let past : length (journal_at c.args.roots.now c.args.partition) ≤ c.loop-at.at = omega (arith, long, behind) in
     let all : take c.loop-at.at c.journal_of-journal.result.now ≡ journal_at c.args.roots.now c.args.partition = take_all i es (omega (arith, behind)) ∙ c.journal_of-journal.ensures in
-    let counted = counted_all c.args.phases ps pools (take i es) c.loop-at.walk.order.phase c.loop-at.walk.censuses c.fill_up.new.self (census c.loop-at.walk.replay.root) walked.counted c.in_ok-fill_up.ensures.filled
+    let counted = counted_all c.args.phases ps pools (take i es) c.loop-at.walk.order.phase c.loop-at.walk.censuses c.fill_up.new.self
+    (census c.loop-at.walk.replay.root) walked.counted c.in_ok-fill_up.ensures.filled
     (ap census walked.replayed.root) in (
       tells_none (λ j. RootsDemand n ps pools roots (places.Root p j)) i c.loop-at.invariant.met (λ j more. meets_past n ps pools roots p j (omega (arith, past, more))),
       subst (λ (xs : List RootEntry). HaveCensuses ps pools (λ q. xs) 0 c.fill_up.new.self) all counted.0.told,

@@ -27,7 +27,8 @@ loop-partition-preserved c =
     let told = subst (TellsJournal c.args.partitions c.args.phases ps pools roots l.partition) c.in-Meets.is c.in_ok-found.ensures in
     record {
       many = long_next l.censuses.items c.push.new.self.items _ l.partition c.in_ok-push-in-Meets.ensures.items l.invariant.many;
-      each = each_next (λ p censuses. HaveCensuses ps pools roots p censuses × (length censuses ≡ c.args.phases)) l.censuses.items c.push.new.self.items _ l.partition c.in_ok-push-in-Meets.ensures.items l.invariant.many l.invariant.each (told.1, told.2);
+      each = each_next (λ p censuses. HaveCensuses ps pools roots p censuses × (length censuses ≡ c.args.phases)) l.censuses.items
+          c.push.new.self.items _ l.partition c.in_ok-push-in-Meets.ensures.items l.invariant.many l.invariant.each (told.1, told.2);
       met = partition_more (λ (p j : ℕ). RootsDemand c.args.partitions ps pools roots (places.Root p j)) l.partition l.invariant.met told.0;
     }
 

@@ -19,5 +19,6 @@ pub returns-in_default : goal.returns-in_default
 returns-in_default c = λ before h.
     let slot = c.args.slot in
     let (asked, is) = c.requires in
-    gone_entered before c.args.entry.now (value_at c.args.gone.now) (value_at c.replace.new.self) asked c.key-key.result slot c.in_ok-before.before slot.number is c.key-key.ensures.start c.key-key.ensures.key
+    gone_entered before c.args.entry.now (value_at c.args.gone.now) (value_at c.replace.new.self) asked c.key-key.result slot
+    c.in_ok-before.before slot.number is c.key-key.ensures.start c.key-key.ensures.key
     c.in_ok-before.ensures.old (ap (λ o. lesser_of o slot.number) (sym c.in_default.is)) c.in_ok-before.ensures.puts h

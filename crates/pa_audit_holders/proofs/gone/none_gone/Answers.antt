@@ -9,7 +9,8 @@ loop-slot-init c = λ before h i n d less. absurd (omega (arith, less))
 
 pub loop-slot-preserved : goal.loop-slot-preserved
 loop-slot-preserved c =
-    none_next (value_at c.args.gone.now) c.args.slots.now c.loop-slot.slot-index _ c.loop-slot-test.true c.loop-slot.invariant (λ before h gone. false≢true (sym c.if-has.false ∙ (c.has.ensures before h).1 gone))
+    none_next (value_at c.args.gone.now) c.args.slots.now c.loop-slot.slot-index _ c.loop-slot-test.true c.loop-slot.invariant
+    (λ before h gone. false≢true (sym c.if-has.false ∙ (c.has.ensures before h).1 gone))
 
 pub returns-then-has : goal.returns-then-has
 returns-then-has c = λ before h. (

@@ -11,7 +11,8 @@ returns-then-not-both c =
     let ps = c.args.records.now in
     let roots = journal_at c.args.roots.now in
     record_stops (λ i. HoldersDemand ps roots (places.Record i)) l.at l.record-index c.both.result l.invariant.at
-    (record_fits ps roots l.record-index _ c.is_issued-issued.result c.stays_there-stays.result c.both.result c.loop-record-test.true c.is_issued-issued.ensures c.stays_there-stays.ensures c.both.ensures) c.if-not-both.true
+    (record_fits ps roots l.record-index _ c.is_issued-issued.result c.stays_there-stays.result c.both.result c.loop-record-test.true
+    c.is_issued-issued.ensures c.stays_there-stays.ensures c.both.ensures) c.if-not-both.true
     l.invariant.met
 
 pub loop-record-preserved : goal.loop-record-preserved
@@ -23,7 +24,8 @@ loop-record-preserved c =
       at = ap (λ n. n + 1) l.invariant.at;
       met =
           record_next (λ i. HoldersDemand ps roots (places.Record i)) l.at l.record-index c.both.result l.invariant.at
-          (record_fits ps roots l.record-index _ c.is_issued-issued.result c.stays_there-stays.result c.both.result c.loop-record-test.true c.is_issued-issued.ensures c.stays_there-stays.ensures c.both.ensures)
+          (record_fits ps roots l.record-index _ c.is_issued-issued.result c.stays_there-stays.result c.both.result
+          c.loop-record-test.true c.is_issued-issued.ensures c.stays_there-stays.ensures c.both.ensures)
           c.if-not-both.false l.invariant.met;
     }
 

@@ -14,7 +14,8 @@ returns-then-not-is_there c =
     let i = c.loop-table.table-index in
     let t = c.table-item.result in
     let roots = journal_at c.args.roots.now in
-    let known : KnowsJournal c.args.records.now (roots i) t = subst (λ (z : Table). KnowsJournal c.args.records.now (roots i) z) (sym c.table-item.is) (c.requires.tables.each i t c.loop-table-test.true) in
+    let known : KnowsJournal c.args.records.now (roots i) t = subst (λ (z : Table). KnowsJournal c.args.records.now (roots i) z)
+    (sym c.table-item.is) (c.requires.tables.each i t c.loop-table-test.true) in
     (λ no. absurd (false≢true no), λ each. absurd (false≢true (sym c.if-not-is_there.true ∙ (c.is_there.ensures (roots i) known.gone).1 (each i))))
 
 pub loop-table-preserved : goal.loop-table-preserved
@@ -22,7 +23,8 @@ loop-table-preserved c =
     let i = c.loop-table.table-index in
     let t = c.table-item.result in
     let roots = journal_at c.args.roots.now in
-    let known : KnowsJournal c.args.records.now (roots i) t = subst (λ (z : Table). KnowsJournal c.args.records.now (roots i) z) (sym c.table-item.is) (c.requires.tables.each i t c.loop-table-test.true) in
+    let known : KnowsJournal c.args.records.now (roots i) t = subst (λ (z : Table). KnowsJournal c.args.records.now (roots i) z)
+    (sym c.table-item.is) (c.requires.tables.each i t c.loop-table-test.true) in
     there_next roots c.args.slot.slot c.args.slot.number i c.loop-table.invariant ((c.is_there.ensures (roots i) known.gone).0 c.if-not-is_there.false)
 
 pub returns : goal.returns

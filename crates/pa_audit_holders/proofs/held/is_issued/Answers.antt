@@ -17,6 +17,7 @@ returns-in-Made c =
     let o = c.owner_of-owner.result in
     let held : (o ≡ Thread x.thread) ↔ IsHeld ps roots seen.slot (number_of seen.found.0) (WithThread x.thread) =
     subst (λ (z : SlotName). (o ≡ Thread x.thread) ↔ IsHeld ps roots z (number_of seen.found.0) (WithThread x.thread)) c.numbered.ensures.slot
-    (subst (λ k. (o ≡ Thread x.thread) ↔ IsHeld ps roots n.slot k (WithThread x.thread)) c.numbered.ensures.number (held_is ps roots n.slot n.number x.thread o c.requires.known c.owner_of-owner.ensures)) in
+    (subst (λ k. (o ≡ Thread x.thread) ↔ IsHeld ps roots n.slot k (WithThread x.thread)) c.numbered.ensures.number
+    (held_is ps roots n.slot n.number x.thread o c.requires.known c.owner_of-owner.ensures)) in
     let is = issued_is ps roots x seen c.in-Made.usable c.in-Made.is in
     (λ yes. is.0 (held.0 (c.is_owner.ensures.0 yes)), λ issued. c.is_owner.ensures.1 (held.1 (is.1 issued)))

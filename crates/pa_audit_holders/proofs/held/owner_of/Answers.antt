@@ -23,7 +23,8 @@ returns-then-are_two c =
     let f = value_at t.owners in
     let known : KnowsJournal ps (roots i) t = subst (λ (z : Table). KnowsJournal ps (roots i) z) (sym c.table-item.is) (c.requires.tables.each i t c.loop-table-test.true) in
     let e : c.find-owner.result ≡ f (word_key s k) = c.find-owner.ensures ∙ ap f c.key_at-key.ensures.key in
-    found_two ps roots s k i f c.loop-table.found c.key_at-key.ensures.sized known.owners c.loop-table.invariant (subst (λ o. IsSome c.loop-table.found × IsSome o) e (c.are_two.ensures.0 c.if-are_two.true))
+    found_two ps roots s k i f c.loop-table.found c.key_at-key.ensures.sized known.owners c.loop-table.invariant
+    (subst (λ o. IsSome c.loop-table.found × IsSome o) e (c.are_two.ensures.0 c.if-are_two.true))
 
 pub loop-table-preserved : goal.loop-table-preserved
 loop-table-preserved c =

@@ -9,7 +9,8 @@ pub returns-clause-homes : goal.returns-clause-homes
 returns-clause-homes c =
     let f = value_at c.args.homes.now in
     let g = value_at c.put.new.self in
-    homes_more (journal_at c.args.roots.now) f g c.args.slot c.args.home c.requires.homes c.key.ensures.start c.requires.home (subst (λ k. Puts f g k c.args.home) c.key.ensures.key c.in_ok-put.ensures.puts)
+    homes_more (journal_at c.args.roots.now) f g c.args.slot c.args.home c.requires.homes c.key.ensures.start c.requires.home
+    (subst (λ k. Puts f g k c.args.home) c.key.ensures.key c.in_ok-put.ensures.puts)
 
 pub returns-clause-enters : goal.returns-clause-enters
 returns-clause-enters c =

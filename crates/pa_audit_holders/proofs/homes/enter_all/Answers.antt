@@ -14,7 +14,9 @@ loop-entry-preserved c =
     let f = c.entry-item.result in
     let es = c.entries-entry-items.result.now in
     let there : slice_get es l.entry-index ≡ Some f = slice_get_read es (length es) l.entry-index f refl c.loop-entry-test.true c.entry-item.is in
-    let is : slice_get (roots c.args.partition) l.entry-index ≡ Some f = subst (λ (xs : List RootEntry). slice_get xs l.entry-index ≡ Some f) (c.entries-entry-items.ensures.entries ∙ sym c.requires.journal) there in
+    let is : slice_get (roots c.args.partition) l.entry-index ≡ Some f = subst
+    (λ (xs : List RootEntry). slice_get xs l.entry-index ≡ Some f)
+    (c.entries-entry-items.ensures.entries ∙ sym c.requires.journal) there in
     record {
       homes = c.enter_entry.ensures.homes;
       above = above_more roots c.args.partition l.entry-index f (value_at l.homes) (value_at c.enter_entry.new.homes) is l.invariant.above c.in_ok-enter_entry.ensures.enters;
@@ -24,5 +26,9 @@ pub returns-clause-above : goal.returns-clause-above
 returns-clause-above c =
     let l = c.loop-entry in
     let roots = journal_at c.args.roots.now in
-    let past : length (roots c.args.partition) ≤ l.entry-index = omega (arith, ap (λ (es : List RootEntry). length es) (c.requires.journal ∙ sym c.entries-entry-items.ensures.entries), c.loop-entry-test.false) in
+    let past : length (roots c.args.partition) ≤ l.entry-index = omega (
+      arith,
+      ap (λ (es : List RootEntry). length es) (c.requires.journal ∙ sym c.entries-entry-items.ensures.entries),
+      c.loop-entry-test.false,
+    ) in
     above_end roots c.args.partition l.entry-index (value_at l.homes) past l.invariant.above

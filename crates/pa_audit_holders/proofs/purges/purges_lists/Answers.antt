@@ -1,110 +1,92 @@
-use Rattle.std.proofs.Common.{◌≡◌, suc, ◌+◌, ◌-◌, ◌<◌, length, map, subst, ap, sym, ◌∙◌, arith, rules}
+use Rattle.std.proofs.Common.{◌≡◌, ℕ, ◌<◌, ◌≤◌, List, Option, Some, map, sym, ◌∙◌, ap, subst, arith, rules}
 use Rattle.std.specs.Option.{IfSome}
 use Rattle.std.proofs.lemmas.Bool.{false≢true}
-use Rattle.pa_rules.proofs.Sums.{slots_sparse}
+use Rattle.pa_buckets.specs.Limits.{first_class, past_class}
+use Rattle.pa_record.specs.declared.numbered.Numbered.{Numbered}
+use Rattle.pa_record.specs.declared.root.RootAct.{RootAct}
+use Rattle.pa_rules.specs.Sizes.{HasClass}
+use Rattle.pa_rules.proofs.Versions.{real_in}
+use Rattle.pa_audit_holders.specs.Gives.{whole_count}
 use Rattle.pa_audit_holders.specs.Lines.{did_at}
-use Rattle.pa_audit_holders.specs.Lists.{cache_in}
+use Rattle.pa_audit_holders.specs.Lists.{VersionLists, cache_in, IsListedBy}
 use Rattle.pa_audit_holders.proofs.Listing.{none_but}
-use Rattle.pa_audit_holders.proofs.Purging.{IsPurging, purging_end, purging_more, purging_no_end, purging_not, purging_over, purging_start}
-use Rattle.pa_audit_holders.proofs.Remaining.{AreLeft, left_more, left_part, left_some, left_start}
+use Rattle.pa_audit_holders.proofs.Purging.{IsPurging, purging_end, purging_more, purging_no_end, purging_not, purging_over, purging_part, purging_start}
+use Rattle.pa_audit_holders.proofs.Remaining.{left_some}
 use Rattle.pa_audit_holders.proofs.purges.purges_lists.Goals as goal
 
 pub lists-init : goal.lists-init
-lists-init c = record {
-  purging = purging_start (map (did_at c.args.journal.now) c.args.places.now) (cache_in c.args.cache.now c.args.partition) c.args.slots (none_but c.args.cache.now c.args.partition);
-  lists = left_start (cache_in c.args.cache.now c.args.partition) c.sum-rest.result.slots
-      (c.sum-rest.ensures.listed.slots ∙ slots_sparse (cache_in c.args.cache.now c.args.partition) (none_but c.args.cache.now c.args.partition));
-}
+unfolding whole_count
+lists-init c =
+    let all = c.args.cache.now in
+    let lists = cache_in all c.args.partition in
+    let acts = map (did_at c.args.journal.now) c.args.places.now in
+    let first : c.first_class-number.result ≡ first_class all.version = c.first_class-number.ensures ∙ ap first_class c.version.ensures in
+    let rest = c.sum-rest.result.slots in
+    record {
+      low = omega (arith, first);
+      purging = subst (λ k. IsPurging acts lists c.args.slots (past_class all.version) k 0 c.args.slots rest) (sym first)
+          (purging_start all.version acts lists c.args.slots rest (none_but all c.args.partition) c.sum-rest.ensures.listed.slots);
+    }
+
+-- while slots are left the number is that of a class of the version
+has_class : (all : VersionLists) (acts : List RootAct) (p slots k at left rest : ℕ) → first_class all.version ≤ k
+    → IsPurging acts (cache_in all p) slots (past_class all.version) k at left rest → 0 < rest → HasClass all.version k
+has_class all acts p slots k at left rest low h some = (low, left_some (cache_in all p) (past_class all.version) k rest h.lists_left some)
+
+-- the class of a number has that number
+same_number : (o : Option ℕ) (class number : ℕ) → o ≡ Some class → IfSome o (λ k. k ≡ number) → class ≡ number
+same_number o class number e h = subst (λ z. IfSome z (λ k. k ≡ number)) e h
 
 pub unwrap-requires : goal.unwrap-requires
 unwrap-requires c =
-    let few : c.lists.number < 59 = left_some (cache_in c.args.cache.now c.args.partition) c.lists.number (59 - c.lists.number) c.lists.rest c.lists.invariant.lists c.lists-test.true in
-    let less : c.lists.number < 170 = omega (arith, few) in
+    let l = c.lists in
+    let less = real_in c.args.cache.now.version l.number (has_class _ _ _ _ _ _ _ _ l.invariant.low l.invariant.purging c.lists-test.true) in
     search rules
 
 pub list-list-requires-clause-class : goal.list-list-requires-clause-class
 list-list-requires-clause-class c =
     let l = c.lists in
-    let less : l.number < 59 = left_some (cache_in c.args.cache.now c.args.partition) l.number (59 - l.number) l.rest l.invariant.lists c.lists-test.true in
-    let number : c.unwrap.result ≡ l.number = subst (λ o. IfSome o (λ k. k ≡ l.number)) c.unwrap.ensures c.of.ensures.class in
-    omega (arith, less, number)
+    subst (HasClass c.args.cache.now.version) (sym (same_number _ _ _ c.unwrap.ensures c.of.ensures.class))
+    (has_class _ _ _ _ _ _ _ _ l.invariant.low l.invariant.purging c.lists-test.true)
+
+-- the list that was read is that of the number
+read_here : (lists : ℕ → List Numbered) (o : Option ℕ) (class number : ℕ) (xs : List Numbered) → o ≡ Some class → IfSome o (λ k. k ≡ number)
+    → xs ≡ lists class → xs ≡ lists number
+read_here lists o class number xs e h is = is ∙ ap lists (same_number o class number e h)
+
+pub overflow_sub-rest : goal.overflow_sub-rest
+overflow_sub-rest c = purging_part c.lists.invariant.purging c.lists-test.true
+    (read_here (cache_in c.args.cache.now c.args.partition) _ _ _ _ c.unwrap.ensures c.of.ensures.class c.list-list.ensures.slots)
 
 pub lists-preserved : goal.lists-preserved
 lists-preserved c =
-    let acts = map (did_at c.args.journal.now) c.args.places.now in
-    let lists = cache_in c.args.cache.now c.args.partition in
-    let l = c.lists in
-    let less : l.number < 59 = left_some lists l.number (59 - l.number) l.rest l.invariant.lists c.lists-test.true in
-    let n = 59 - (l.number + 1) in
-    let count : 59 - l.number ≡ suc n = omega (arith, less) in
-    let before : IsPurging acts lists c.args.slots l.number (suc n) l.at l.left = subst (λ m. IsPurging acts lists c.args.slots l.number m l.at l.left) count l.invariant.purging in
-    let left : AreLeft lists l.number (suc n) l.rest = subst (λ m. AreLeft lists l.number m l.rest) count l.invariant.lists in
-    let u = c.unwrap.ensures in
-    let k = c.of.ensures.class in
-    let number : c.unwrap.result ≡ l.number = subst (λ o. IfSome o (λ k. k ≡ l.number)) u k in
-    let is = c.list-list.ensures.slots ∙ ap lists number in
+    let low = c.lists.invariant.low in
     record {
-      purging = purging_more acts lists c.args.slots l.number n l.at l.left c.in-Some.next c.list-list.result.now before is c.if-list-left.false c.in-Some.ensures;
-      lists = left_more lists l.number n l.rest (length c.list-list.result.now) left (ap length is);
+      low = omega (arith, low);
+      purging = purging_more c.lists.invariant.purging c.lists-test.true
+          (read_here (cache_in c.args.cache.now c.args.partition) _ _ _ _ c.unwrap.ensures c.of.ensures.class c.list-list.ensures.slots)
+          c.in-Some.next c.if-list-left.false c.in-Some.ensures;
     }
-
-pub returns-in_default : goal.returns-in_default
-returns-in_default c =
-    let acts = map (did_at c.args.journal.now) c.args.places.now in
-    let lists = cache_in c.args.cache.now c.args.partition in
-    let l = c.lists in
-    let less : l.number < 59 = left_some lists l.number (59 - l.number) l.rest l.invariant.lists c.lists-test.true in
-    let n = 59 - (l.number + 1) in
-    let count : 59 - l.number ≡ suc n = omega (arith, less) in
-    let before : IsPurging acts lists c.args.slots l.number (suc n) l.at l.left = subst (λ m. IsPurging acts lists c.args.slots l.number m l.at l.left) count l.invariant.purging in
-    let u = c.unwrap.ensures in
-    let k = c.of.ensures.class in
-    let number : c.unwrap.result ≡ l.number = subst (λ o. IfSome o (λ k. k ≡ l.number)) u k in
-    let is = c.list-list.ensures.slots ∙ ap lists number in
-    purging_not acts lists c.args.slots l.number n l.at l.left c.list-list.result.now before is c.in_default.ensures
-
-pub overflow_sub-rest : goal.overflow_sub-rest
-overflow_sub-rest c =
-    let lists = cache_in c.args.cache.now c.args.partition in
-    let l = c.lists in
-    let less : l.number < 59 = left_some lists l.number (59 - l.number) l.rest l.invariant.lists c.lists-test.true in
-    let n = 59 - (l.number + 1) in
-    let count : 59 - l.number ≡ suc n = omega (arith, less) in
-    let left : AreLeft lists l.number (suc n) l.rest = subst (λ m. AreLeft lists l.number m l.rest) count l.invariant.lists in
-    let u = c.unwrap.ensures in
-    let k = c.of.ensures.class in
-    let number : c.unwrap.result ≡ l.number = subst (λ o. IfSome o (λ k. k ≡ l.number)) u k in
-    let is = c.list-list.ensures.slots ∙ ap lists number in
-    left_part lists l.number n l.rest (length c.list-list.result.now) left (ap length is)
-
-pub returns-then-ends_with_purge : goal.returns-then-ends_with_purge
-returns-then-ends_with_purge c =
-    let l = c.lists in
-    purging_end (map (did_at c.args.journal.now) c.args.places.now) (cache_in c.args.cache.now c.args.partition) c.args.slots l.number (59 - l.number) l.at l.left l.rest l.invariant.purging l.invariant.lists
-    (omega (arith, c.lists-test.false)) (c.ends_with_purge.ensures.0 c.if-ends_with_purge.true)
-
-pub returns-else-ends_with_purge : goal.returns-else-ends_with_purge
-returns-else-ends_with_purge c =
-    let l = c.lists in
-    purging_no_end (map (did_at c.args.journal.now) c.args.places.now) (cache_in c.args.cache.now c.args.partition) c.args.slots l.number (59 - l.number) l.at l.left l.rest l.invariant.purging l.invariant.lists
-    (omega (arith, c.lists-test.false)) (λ ends. false≢true (sym c.if-ends_with_purge.false ∙ c.ends_with_purge.ensures.1 ends))
-
-pub returns-then-list-left : goal.returns-then-list-left
-returns-then-list-left c =
-    let acts = map (did_at c.args.journal.now) c.args.places.now in
-    let lists = cache_in c.args.cache.now c.args.partition in
-    let l = c.lists in
-    let less : l.number < 59 = left_some lists l.number (59 - l.number) l.rest l.invariant.lists c.lists-test.true in
-    let n = 59 - (l.number + 1) in
-    let count : 59 - l.number ≡ suc n = omega (arith, less) in
-    let before : IsPurging acts lists c.args.slots l.number (suc n) l.at l.left = subst (λ m. IsPurging acts lists c.args.slots l.number m l.at l.left) count l.invariant.purging in
-    let number : c.unwrap.result ≡ l.number = subst (λ o. IfSome o (λ k. k ≡ l.number)) c.unwrap.ensures c.of.ensures.class in
-    let is = c.list-list.ensures.slots ∙ ap lists number in
-    let more : l.left < length c.list-list.result.now = omega (arith, c.if-list-left.true) in
-    purging_over acts lists c.args.slots l.number n l.at l.left c.list-list.result.now before is more
 
 pub lists-smaller : goal.lists-smaller
 lists-smaller c =
-    let lists = cache_in c.args.cache.now c.args.partition in
-    let less : c.lists.number < 59 = left_some lists c.lists.number (59 - c.lists.number) c.lists.rest c.lists.invariant.lists c.lists-test.true in
-    omega (arith, less)
+    let l = c.lists in
+    let less = has_class _ _ _ _ _ _ _ _ l.invariant.low l.invariant.purging c.lists-test.true in
+    omega (arith, less.1)
+
+pub returns-in_default : goal.returns-in_default
+returns-in_default c = purging_not c.lists.invariant.purging c.lists-test.true
+    (read_here (cache_in c.args.cache.now c.args.partition) _ _ _ _ c.unwrap.ensures c.of.ensures.class c.list-list.ensures.slots) c.in_default.ensures
+
+pub returns-then-list-left : goal.returns-then-list-left
+returns-then-list-left c = purging_over c.lists.invariant.purging c.lists-test.true
+    (read_here (cache_in c.args.cache.now c.args.partition) _ _ _ _ c.unwrap.ensures c.of.ensures.class c.list-list.ensures.slots) (omega (arith, c.if-list-left.true))
+
+pub returns-then-ends_with_purge : goal.returns-then-ends_with_purge
+returns-then-ends_with_purge c =
+    purging_end c.lists.invariant.purging (omega (arith, c.lists-test.false)) (c.ends_with_purge.ensures.0 c.if-ends_with_purge.true)
+
+pub returns-else-ends_with_purge : goal.returns-else-ends_with_purge
+returns-else-ends_with_purge c =
+    purging_no_end c.lists.invariant.purging (omega (arith, c.lists-test.false))
+    (λ ends. false≢true (sym c.if-ends_with_purge.false ∙ c.ends_with_purge.ensures.1 ends))

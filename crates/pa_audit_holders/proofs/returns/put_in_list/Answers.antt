@@ -7,8 +7,8 @@ use Rattle.pa_audit_holders.proofs.Listing.{with_again}
 use Rattle.pa_audit_holders.proofs.Leading.{put_row, slice_rest}
 use Rattle.pa_audit_holders.proofs.returns.put_in_list.Goals as goal
 
-pub returns : goal.returns
-returns c =
+pub returns-clause-row : goal.returns-clause-row
+returns-clause-row c =
     let stays = c.how_many_stay-stays in
     let roots = journal_at c.args.page.now.roots in
     let p = c.args.bin.now.partition in

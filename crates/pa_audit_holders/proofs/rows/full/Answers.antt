@@ -1,6 +1,6 @@
-use Rattle.std.proofs.Common.{◌≡◌, ℕ, ◌↔◌, List, [], subst}
+use Rattle.std.proofs.Common.{◌≡◌, ℕ, ◌↔◌, List, [], sym, ◌∙◌, subst}
 use Rattle.std.specs.Prelude.{IsTrue}
-use Rattle.pa_rules.proofs.Versions.{real_first}
+use Rattle.pa_rules.specs.Sizes.{HasClass}
 use Rattle.pa_rules.specs.declared.played.Played.{Played}
 use Rattle.pa_record.specs.declared.numbered.Numbered.{Numbered}
 use Rattle.pa_rules.specs.Roots.{AsksForClass, AsksForMap, journal_at}
@@ -9,7 +9,9 @@ use Rattle.pa_audit_holders.proofs.Leading.{IsRoomless, full_by_class, full_by_m
 use Rattle.pa_audit_holders.proofs.rows.full.Goals as goal
 
 pub list-list-requires-clause-class : goal.list-list-requires-clause-class
-list-list-requires-clause-class c = let (reg, size, is, class) = c.in-Some.ensures.some in real_first _ _ c.told-told.ensures.version (class.from, class.real)
+list-list-requires-clause-class c =
+    let (reg, size, is, class) = c.in-Some.ensures.some in
+    subst (λ v. HasClass v c.in-Some.bin.class) (c.told-told.ensures.version ∙ sym c.requires.version) (class.from, class.real)
 
 pub returns-in-Some : goal.returns-in-Some
 returns-in-Some c =

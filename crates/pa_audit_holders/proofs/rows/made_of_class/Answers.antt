@@ -7,8 +7,8 @@ use Rattle.pa_audit_holders.proofs.Listing.{with_again}
 use Rattle.pa_audit_holders.proofs.Leading.{class_none, class_other, class_row, filled_is, filled_not, front_drop, front_told}
 use Rattle.pa_audit_holders.proofs.rows.made_of_class.Goals as goal
 
-pub returns-then-not-filled : goal.returns-then-not-filled
-returns-then-not-filled c =
+pub returns-then-not-filled-clause-row : goal.returns-then-not-filled-clause-row
+returns-then-not-filled-clause-row c =
     let roots = journal_at c.args.page.now.roots in
     let p = c.args.bin.now.partition in
     let class = c.args.bin.now.class in
@@ -16,8 +16,8 @@ returns-then-not-filled c =
     class_none roots c.args.page.now.told.line p class c.args.seen (cache_in c.args.cache.now) list c.replace-slots.ensures.slots
     (filled_not (FilledFirst roots c.args.page.now.told.line p class list) c.fill_first.new.slots c.in_ok-filled.filled c.in_ok-filled.ensures.filled c.if-not-filled.true)
 
-pub returns-then-not-is_front : goal.returns-then-not-is_front
-returns-then-not-is_front c =
+pub returns-then-not-is_front-clause-row : goal.returns-then-not-is_front-clause-row
+returns-then-not-is_front-clause-row c =
     let roots = journal_at c.args.page.now.roots in
     let p = c.args.bin.now.partition in
     let class = c.args.bin.now.class in
@@ -28,8 +28,8 @@ returns-then-not-is_front c =
     (filled_is (FilledFirst roots c.args.page.now.told.line p class list) xs c.in_ok-filled.filled c.in_ok-filled.ensures.filled c.if-not-filled.false)
     (λ rest front. both_ways _ c.if-not-is_front.true (test.1 (front_drop c.args.seen xs rest front)))
 
-pub returns : goal.returns
-returns c =
+pub returns-clause-row : goal.returns-clause-row
+returns-clause-row c =
     let roots = journal_at c.args.page.now.roots in
     let p = c.args.bin.now.partition in
     let class = c.args.bin.now.class in

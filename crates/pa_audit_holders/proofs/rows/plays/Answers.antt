@@ -6,20 +6,20 @@ use Rattle.pa_audit_holders.specs.Lists.{cache_in}
 use Rattle.pa_audit_holders.specs.Rows.{TellsRow}
 use Rattle.pa_audit_holders.proofs.rows.plays.Goals as goal
 
-pub returns-in-Made : goal.returns-in-Made
-returns-in-Made c =
+pub returns-in-Made-clause-row : goal.returns-in-Made-clause-row
+returns-in-Made-clause-row c =
     subst (λ a. IfOk c.made.result (TellsRow
     (CacheRow c.args.page.now.partitions (journal_at c.args.page.now.roots) c.args.page.now.told a (cache_in c.args.cache.now))
-    (cache_in c.made.new.cache))) (sym c.in-Made.is ∙ c.answer.ensures) c.made.ensures
+    (cache_in c.made.new.cache))) (sym c.in-Made.is ∙ c.answer.ensures) c.made.ensures.row
 
-pub returns-in-Full : goal.returns-in-Full
-returns-in-Full c =
+pub returns-in-Full-clause-row : goal.returns-in-Full-clause-row
+returns-in-Full-clause-row c =
     subst (λ a. TellsRow
     (CacheRow c.args.page.now.partitions (journal_at c.args.page.now.roots) c.args.page.now.told a (cache_in c.args.cache.now))
     (cache_in c.args.cache.now) c.full.result) (sym c.in-Full.is ∙ c.answer.ensures) c.full.ensures
 
-pub returns-in-Purged : goal.returns-in-Purged
-returns-in-Purged c =
+pub returns-in-Purged-clause-row : goal.returns-in-Purged-clause-row
+returns-in-Purged-clause-row c =
     subst (λ a. TellsRow
     (CacheRow c.args.page.now.partitions (journal_at c.args.page.now.roots) c.args.page.now.told a (cache_in c.args.cache.now))
-    (cache_in c.purged.new.cache) c.purged.result) (sym c.in-Purged.is ∙ c.answer.ensures) c.purged.ensures
+    (cache_in c.purged.new.cache) c.purged.result) (sym c.in-Purged.is ∙ c.answer.ensures) c.purged.ensures.row

@@ -23,7 +23,8 @@ loop-entry-preserved c =
       at = ap (λ n. n + 1) l.invariant.at;
       table = table_next ps journal l.at i e c.play.new.table l.invariant.at there (c.in_ok-fits.ensures.table (take l.at journal) l.invariant.table);
       first = subst (λ o. FirstSoFar (EntryMovesFitAt ps journal) (l.at + 1) o) (sym c.first_misfit-misfit.ensures)
-          (first_next (EntryMovesFitAt ps journal) l.misfit l.at c.in_ok-fits.fits l.invariant.first (fits_at ps journal l.at e c.in_ok-fits.fits here (c.in_ok-fits.ensures.fits (take l.at journal) l.invariant.table)));
+          (first_next (EntryMovesFitAt ps journal) l.misfit l.at c.in_ok-fits.fits l.invariant.first
+          (fits_at ps journal l.at e c.in_ok-fits.fits here (c.in_ok-fits.ensures.fits (take l.at journal) l.invariant.table)));
     }
 
 pub returns-clause-misfit : goal.returns-clause-misfit

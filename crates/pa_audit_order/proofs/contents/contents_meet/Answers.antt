@@ -27,35 +27,38 @@ may_give-requires-clause-one_free c = one_at Free c.args.records.now c.requires.
 
 pub loop-record-init : goal.loop-record-init
 loop-record-init c = record {
-  met = λ j below. absurd (omega arith);
-  regs = regs_start (history_at c.args.cells.now) c.args.records.now c.in_ok-registers.registers c.in_ok-registers.ensures;
+  met = λ version meet j below. absurd (omega arith);
+  regs = λ version meet. regs_start version (history_at c.args.cells.now) c.args.records.now c.in_ok-registers.registers c.in_ok-registers.ensures;
   at = refl;
 }
 
 pub returns-then-not-may_give : goal.returns-then-not-may_give
-returns-then-not-may_give c =
+returns-then-not-may_give c = λ version meet.
     let ps = c.args.records.now in
     let cells = history_at c.args.cells.now in
-    let i = c.loop-record.record-index in
-    tells_at (λ k. ContentsDemand (usable_of 1) cells ps (places.Record k)) i c.loop-record.at c.loop-record.invariant.at
+    let l = c.loop-record in
+    tells_at (λ k. ContentsDemand (usable_of version) cells ps (places.Record k)) l.record-index l.at l.invariant.at
     (λ asks. false≢true (c.if-not-may_give.ensures.1
-    (content_may cells ps c.loop-record.registers i _ c.requires.rising c.loop-record-test.true c.loop-record.invariant.regs asks))) c.loop-record.invariant.met
+    (content_may version cells ps l.registers l.record-index _ c.requires.rising c.loop-record-test.true (l.invariant.regs version meet) asks)))
+    (l.invariant.met version meet)
 
 pub loop-record-preserved : goal.loop-record-preserved
 loop-record-preserved c =
     let ps = c.args.records.now in
     let cells = history_at c.args.cells.now in
-    let i = c.loop-record.record-index in
+    let l = c.loop-record in
+    let i = l.record-index in
     record {
-      met =
-          met_more (λ k. ContentsDemand (usable_of 1) cells ps (places.Record k)) i c.loop-record.invariant.met
-          (content_met cells ps c.loop-record.registers i _ c.loop-record-test.true c.loop-record.invariant.regs (c.if-not-may_give.ensures.0 refl));
-      regs = regs_on cells ps c.loop-record.registers c.change.new.self i _ c.loop-record-test.true c.requires.registers c.loop-record.invariant.regs c.change.ensures;
-      at = ap (λ n. n + 1) c.loop-record.invariant.at;
+      met = λ version meet. met_more (λ k. ContentsDemand (usable_of version) cells ps (places.Record k)) i (l.invariant.met version meet)
+          (content_met version cells ps l.registers i _ c.loop-record-test.true (l.invariant.regs version meet) (c.if-not-may_give.ensures.0 refl));
+      regs = λ version meet. regs_on version cells ps l.registers c.change.new.self i _ c.loop-record-test.true meet
+          (l.invariant.regs version meet) c.change.ensures;
+      at = ap (λ n. n + 1) l.invariant.at;
     }
 
 pub returns : goal.returns
-returns c =
+returns c = λ version meet.
     let ps = c.args.records.now in
     let cells = history_at c.args.cells.now in
-    tells_none (λ k. ContentsDemand (usable_of 1) cells ps (places.Record k)) (length ps) c.loop-record.record-index c.loop-record-test.false c.loop-record.invariant.met (λ j past x at. absurd (none_past ps j x past at))
+    tells_none (λ k. ContentsDemand (usable_of version) cells ps (places.Record k)) (length ps) c.loop-record.record-index
+    c.loop-record-test.false (c.loop-record.invariant.met version meet) (λ j past x at. absurd (none_past ps j x past at))

@@ -18,7 +18,8 @@ loop-floor-preserved c =
 
 pub returns-else-records-floor-clause-all : goal.returns-else-records-floor-clause-all
 returns-else-records-floor-clause-all c =
-    adds_stop c.args.records.now c.args.phase c.args.stack.now.items c.args.floor.now c.loop-floor.stack.items c.loop-floor.floor _ c.loop-floor-test.true c.if-records-floor.false c.loop-floor.invariant
+    adds_stop c.args.records.now c.args.phase c.args.stack.now.items c.args.floor.now c.loop-floor.stack.items c.loop-floor.floor _
+    c.loop-floor-test.true c.if-records-floor.false c.loop-floor.invariant
 
 pub returns-after-loop-floor-clause-all : goal.returns-after-loop-floor-clause-all
 returns-after-loop-floor-clause-all c =

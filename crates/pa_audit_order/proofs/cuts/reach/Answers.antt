@@ -78,7 +78,9 @@ loop-next-preserved-in-Continue-branch-3 c =
     let within : next < length marked = let low = h.within next (Contains-push rest next) in let long = h.long in omega (arith, low, long) in
     let set_ = set marked next true in
     let made = cut_mark cells ps A next marked rest cut.floor (value_at cut.left) left c.in_ok-mark.ensures.left h in
-    let steps = cut_steps cells ps A next set_ rest new cut.floor high left (λ x y here step. step_behind cells ps c.args.at next x y here step (h.ahead next y (inr (Contains-push rest next)) here)) adds made in
+    let steps = cut_steps cells ps A next set_ rest new cut.floor high left
+    (λ x y here step. step_behind cells ps c.args.at next x y here step (h.ahead next y (inr (Contains-push rest next)) here))
+    adds made in
     let near = steps_in cells ps A next set_ rest new cut.floor high left adds made in
     let all = cut_all cells ps A next set_ new high left near steps in
     let is = sym c.mark.ensures.marked in

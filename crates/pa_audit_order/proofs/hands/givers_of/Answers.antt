@@ -18,7 +18,8 @@ loop-record-preserved c =
     let l = c.loop-record in
     let k = l.record-index in
     subst (λ zs. AreGivers (history_at c.args.cells.now) c.args.records.now zs (k + 1)) (sym c.in_ok-push.ensures.items)
-    (givers_more (history_at c.args.cells.now) c.args.records.now l.givers.items k _ c.giver-giver.result c.loop-record-test.true (record { some = c.giver-giver.ensures.some; all = c.giver-giver.ensures.all }) l.invariant)
+    (givers_more (history_at c.args.cells.now) c.args.records.now l.givers.items k _ c.giver-giver.result c.loop-record-test.true
+    (record { some = c.giver-giver.ensures.some; all = c.giver-giver.ensures.all }) l.invariant)
 
 pub returns : goal.returns
 returns c =

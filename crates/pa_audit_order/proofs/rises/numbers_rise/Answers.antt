@@ -12,7 +12,8 @@ loop-record-preserved c =
     elim c.match-look_of.branch [
       | in-Some+in_ok-old+else-look-unwrap_or w ↦
           subst (λ z. RisesSoFar ps (value_at z) (n + 1)) (sym w.left-is)
-          (rises_told ps before (value_at w.replace.new.self) n w.key.result _ w.in-Some.look w.in_ok-old.old c.loop-record-test.true w.in-Some.ensures w.key.ensures.key w.in_ok-old.ensures.old w.in_ok-old.ensures.puts
+          (rises_told ps before (value_at w.replace.new.self) n w.key.result _ w.in-Some.look w.in_ok-old.old c.loop-record-test.true
+          w.in-Some.ensures w.key.ensures.key w.in_ok-old.ensures.old w.in_ok-old.ensures.puts
           (subst (λ z. z ≤ w.in-Some.look.found) w.unwrap_or.ensures w.if-look-unwrap_or.false) c.loop-record.invariant)
       | in_default w ↦
           subst (λ z. RisesSoFar ps (value_at z) (n + 1)) (sym w.left-is) (rises_quiet ps before n _ c.loop-record-test.true w.in_default.ensures c.loop-record.invariant)

@@ -28,15 +28,18 @@ loop-record-init c =
 pub reach-requires-clause-cut : goal.reach-requires-clause-cut
 reach-requires-clause-cut c =
     let cut = c.loop-record.cut in
-    walked_cut (history_at c.args.cells.now) c.args.records.now c.args.thread c.loop-record.record-index c.loop-record.at _ cut.marked.items cut.stack.items cut.floor (value_at cut.left) c.loop-record.invariant.at
+    walked_cut (history_at c.args.cells.now) c.args.records.now c.args.thread c.loop-record.record-index c.loop-record.at _
+    cut.marked.items cut.stack.items cut.floor (value_at cut.left) c.loop-record.invariant.at
     c.loop-record-test.true c.if-record-thread.true c.loop-record.invariant.walked
 
 pub returns-then-not-is_fresh : goal.returns-then-not-is_fresh
 returns-then-not-is_fresh c =
     let cut = c.reach.new.cut in
     let old = c.loop-record.cut in
-    walked_not (history_at c.args.cells.now) c.args.records.now c.args.thread c.loop-record.record-index c.loop-record.at _ old.marked.items cut.marked.items old.stack.items old.floor cut.floor (value_at old.left) (value_at cut.left)
-    c.loop-record.invariant.at c.loop-record-test.true c.loop-record.invariant.walked c.in_ok-reach.ensures.cut c.if-not-is_fresh.ensures.sized (λ fresh. false≢true (c.if-not-is_fresh.ensures.fresh.1 fresh))
+    walked_not (history_at c.args.cells.now) c.args.records.now c.args.thread c.loop-record.record-index c.loop-record.at _
+    old.marked.items cut.marked.items old.stack.items old.floor cut.floor (value_at old.left) (value_at cut.left)
+    c.loop-record.invariant.at c.loop-record-test.true c.loop-record.invariant.walked c.in_ok-reach.ensures.cut
+    c.if-not-is_fresh.ensures.sized (λ fresh. false≢true (c.if-not-is_fresh.ensures.fresh.1 fresh))
 
 pub loop-record-preserved : goal.loop-record-preserved
 loop-record-preserved c =
@@ -52,7 +55,8 @@ loop-record-preserved c =
         | then-record-thread+in_ok-reach+else-not-is_fresh w ↦
             let cut = w.reach.new.cut in
             subst P (sym w.cut-is)
-            (walked_on cells ps c.args.previous.now t k c.loop-record.at _ old.marked.items cut.marked.items old.stack.items cut.stack.items old.floor cut.floor (value_at old.left) (value_at cut.left) inv.at
+            (walked_on cells ps c.args.previous.now t k c.loop-record.at _ old.marked.items cut.marked.items old.stack.items
+            cut.stack.items old.floor cut.floor (value_at old.left) (value_at cut.left) inv.at
             c.loop-record-test.true w.if-record-thread.true c.requires.ready.rising c.requires.ready.threads inv.walked w.in_ok-reach.ensures.cut w.in_ok-reach.ensures.empty w.in_ok-reach.ensures.near
             (w.if-not-is_fresh.ensures.fresh.0 refl))
         | else-record-thread w ↦
@@ -65,4 +69,5 @@ loop-record-preserved c =
 pub returns : goal.returns
 returns c =
     let cut = c.loop-record.cut in
-    walked_all (history_at c.args.cells.now) c.args.records.now c.args.thread c.loop-record.record-index cut.marked.items cut.stack.items cut.floor (value_at cut.left) c.loop-record-test.false c.loop-record.invariant.walked
+    walked_all (history_at c.args.cells.now) c.args.records.now c.args.thread c.loop-record.record-index cut.marked.items cut.stack.items
+    cut.floor (value_at cut.left) c.loop-record-test.false c.loop-record.invariant.walked

@@ -16,7 +16,8 @@ loop-record-preserved c =
     elim c.match-told_mark.branch [
       | in-Some+in_ok-continues+else-not-branch w ↦
           subst (λ z. RunsTo ps (n + 1) (word_by (value_at z))) (sym w.words-is)
-          (along_told ps before (word_by (value_at w.continues.new.words)) n _ _ c.requires.rising c.loop-record-test.true w.in-Some.ensures.mark (w.in_ok-continues.ensures w.if-not-branch.false) c.loop-record.invariant)
+          (along_told ps before (word_by (value_at w.continues.new.words)) n _ _ c.requires.rising c.loop-record-test.true
+          w.in-Some.ensures.mark (w.in_ok-continues.ensures w.if-not-branch.false) c.loop-record.invariant)
       | in_default w ↦
           subst (λ z. RunsTo ps (n + 1) (word_by (value_at z))) (sym w.words-is) (along_quiet ps before n _ c.loop-record-test.true w.in_default.ensures.mark c.loop-record.invariant)
     ]

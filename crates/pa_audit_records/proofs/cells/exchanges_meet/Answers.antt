@@ -36,4 +36,5 @@ returns c =
     let cells = history_at c.args.cells.now in
     let ps = c.args.records.now in
     let end : length c.args.cells.now ≤ c.loop-history.cell = omega arith in
-    cells_all (λ k j. CellsDemand cells ps (places.Cell k j)) (length c.args.cells.now) c.loop-history.cell end c.loop-history.invariant.met (λ k j past e at. absurd (history_past c.args.cells.now k j e past at))
+    cells_all (λ k j. CellsDemand cells ps (places.Cell k j)) (length c.args.cells.now) c.loop-history.cell end
+    c.loop-history.invariant.met (λ k j past e at. absurd (history_past c.args.cells.now k j e past at))

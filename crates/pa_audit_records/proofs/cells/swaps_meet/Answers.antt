@@ -31,4 +31,5 @@ pub returns : goal.returns
 returns c =
     let ps = c.args.records.now in
     let cells = history_at c.args.cells.now in
-    tells_none (λ k. CellsDemand cells ps (places.Record k)) (length ps) c.loop-record.record-index c.loop-record-test.false c.loop-record.invariant.met (λ j past x k reg at op. absurd (none_past ps j x past at))
+    tells_none (λ k. CellsDemand cells ps (places.Record k)) (length ps) c.loop-record.record-index c.loop-record-test.false
+    c.loop-record.invariant.met (λ j past x k reg at op. absurd (none_past ps j x past at))

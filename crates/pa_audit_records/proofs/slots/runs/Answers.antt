@@ -21,12 +21,14 @@ loop-record-preserved c =
     elim c.match-told_mark.branch [
       | in-Some+then-is_none+in_ok-reach w ↦
           subst (λ z. RunsSoFar ps (value_at z) (n + 1)) (sym w.reached-is)
-          (runs_told ps f before (value_at w.reach.new.reached) n _ _ c.loop-record-test.true c.requires.firsts c.loop-record.invariant w.in_ok-reach.ensures.reached w.in_ok-reach.ensures.kept w.in-Some.ensures.mark
+          (runs_told ps f before (value_at w.reach.new.reached) n _ _ c.loop-record-test.true c.requires.firsts c.loop-record.invariant
+          w.in_ok-reach.ensures.reached w.in_ok-reach.ensures.kept w.in-Some.ensures.mark
           w.in_ok-reach.ensures.first)
       | in-Some+else-is_none w ↦
           let there : is_some w.find.result ≡ is_some (before (word_key w.in-Some.mark.slot 0)) = ap is_some (w.find.ensures ∙ ap before w.key_word.ensures.key) in
           subst (λ z. RunsSoFar ps (value_at z) (n + 1)) (sym w.reached-is)
-          (runs_told ps f before before n _ _ c.loop-record-test.true c.requires.firsts c.loop-record.invariant c.loop-record.invariant.runs (λ t low some. some) w.in-Some.ensures.mark (sym there ∙ w.if-is_none.ensures))
+          (runs_told ps f before before n _ _ c.loop-record-test.true c.requires.firsts c.loop-record.invariant
+          c.loop-record.invariant.runs (λ t low some. some) w.in-Some.ensures.mark (sym there ∙ w.if-is_none.ensures))
       | in_default w ↦
           subst (λ z. RunsSoFar ps (value_at z) (n + 1)) (sym w.reached-is) (runs_quiet ps f before n _ c.loop-record-test.true c.requires.firsts c.loop-record.invariant w.in_default.ensures.mark)
     ]

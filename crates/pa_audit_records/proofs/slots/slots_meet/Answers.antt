@@ -19,7 +19,8 @@ returns-then-not-mark_fits c =
     let i = c.loop-record.record-index in
     tells_at (λ k. SlotsDemand ps (places.Record k)) i c.loop-record.at c.loop-record.invariant.at
     (λ asks. false≢true (c.if-not-mark_fits.ensures.1
-    (slot_fits ps (value_at c.in_ok-firsts.firsts) (value_at c.in_ok-reached.reached) i c.loop-record.at _ c.loop-record.invariant.at c.requires.rising c.in_ok-firsts.ensures c.in_ok-reached.ensures.reached c.in_ok-reached.ensures.all
+    (slot_fits ps (value_at c.in_ok-firsts.firsts) (value_at c.in_ok-reached.reached) i c.loop-record.at _ c.loop-record.invariant.at
+    c.requires.rising c.in_ok-firsts.ensures c.in_ok-reached.ensures.reached c.in_ok-reached.ensures.all
     c.loop-record-test.true asks))) c.loop-record.invariant.met
 
 pub loop-record-preserved : goal.loop-record-preserved
@@ -29,7 +30,8 @@ loop-record-preserved c =
     record {
       met =
           met_more (λ k. SlotsDemand ps (places.Record k)) i c.loop-record.invariant.met
-          (slot_met ps (value_at c.in_ok-firsts.firsts) (value_at c.in_ok-reached.reached) i c.loop-record.at _ c.loop-record.invariant.at c.requires.rising c.in_ok-firsts.ensures c.in_ok-reached.ensures.reached c.loop-record-test.true
+          (slot_met ps (value_at c.in_ok-firsts.firsts) (value_at c.in_ok-reached.reached) i c.loop-record.at _ c.loop-record.invariant.at
+          c.requires.rising c.in_ok-firsts.ensures c.in_ok-reached.ensures.reached c.loop-record-test.true
           (c.if-not-mark_fits.ensures.0 refl));
       at = ap (λ n. n + 1) c.loop-record.invariant.at;
     }
@@ -37,4 +39,5 @@ loop-record-preserved c =
 pub returns : goal.returns
 returns c =
     let ps = c.args.records.now in
-    tells_none (λ k. SlotsDemand ps (places.Record k)) (length ps) c.loop-record.record-index c.loop-record-test.false c.loop-record.invariant.met (λ j past x m at is. absurd (none_past ps j x past at))
+    tells_none (λ k. SlotsDemand ps (places.Record k)) (length ps) c.loop-record.record-index c.loop-record-test.false
+    c.loop-record.invariant.met (λ j past x m at is. absurd (none_past ps j x past at))

@@ -13,5 +13,6 @@ loop-at-preserved-in-Continue-1 c =
     record {
       below = omega arith;
       usables =
-          used_here c.args.records.now (c.loop-at.at - 1) c.loop-at.at _ c.in-Made.seen c.in-Made.usable f g (omega arith) (omega arith) c.in-Made.is c.key.ensures.start puts c.loop-at.invariant.usables;
+          used_here c.args.records.now (c.loop-at.at - 1) c.loop-at.at _ c.in-Made.seen c.in-Made.usable f g (omega arith) (omega arith)
+          c.in-Made.is c.key.ensures.start puts c.loop-at.invariant.usables;
     }

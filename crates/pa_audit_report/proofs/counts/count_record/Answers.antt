@@ -13,12 +13,14 @@ returns-in-None c =
 pub returns-in-None-bytes_in : goal.returns-in-None-bytes_in
 returns-in-None-bytes_in c =
     let ps = c.args.records.now in
-    counted_other (value_at c.args.homes.now) c.args.partition c.args.at ps _ c.in-Some.stepped c.args.count (slice_get-get_or ps c.args.at _ c.requires.within) c.in-Some.ensures.some c.in-None-bytes_in.ensures.none c.requires.counted
+    counted_other (value_at c.args.homes.now) c.args.partition c.args.at ps _ c.in-Some.stepped c.args.count
+    (slice_get-get_or ps c.args.at _ c.requires.within) c.in-Some.ensures.some c.in-None-bytes_in.ensures.none c.requires.counted
 
 pub returns-in-Some-bytes_in : goal.returns-in-Some-bytes_in
 returns-in-Some-bytes_in c =
     let ps = c.args.records.now in
     let at = value_at c.args.homes.now in
     subst (λ z. HasCounted at c.args.partition (take (c.args.at + 1) ps) z) (sym c.raised.ensures)
-    (counted_more at c.args.partition c.args.at c.in-Some-bytes_in.bytes ps _ c.in-Some.stepped c.args.count (slice_get-get_or ps c.args.at _ c.requires.within) c.in-Some.ensures.some c.in-Some-bytes_in.ensures.some
+    (counted_more at c.args.partition c.args.at c.in-Some-bytes_in.bytes ps _ c.in-Some.stepped c.args.count
+    (slice_get-get_or ps c.args.at _ c.requires.within) c.in-Some.ensures.some c.in-Some-bytes_in.ensures.some
     c.in-Some-bytes_in.ensures.small c.requires.counted)

@@ -25,9 +25,11 @@ loop-at-preserved c =
     let below : c.args.partition < length c.args.known.now.censuses.items = let many = known.censuses.many in omega (arith, many, c.requires.partition) in
     let there : slice_get c.args.known.now.censuses.items c.args.partition ≡ Some c.items-censuses.result.now =
     slice_get-get_or all c.args.partition c.index.result.now below ∙ ap Some (sym c.index.ensures) ∙ ap Some (sym c.items-censuses.ensures.items) in
-    let here = c.line_at-line.ensures c.args.trace.now.region c.args.trace.now.partitions c.args.trace.now.threads ps pools roots at c.requires.given known.lists.homes uses cached ((known.censuses.each c.args.partition c.items-censuses.result.now there).0) in
+    let here = c.line_at-line.ensures c.args.trace.now.region c.args.trace.now.partitions c.args.trace.now.threads ps pools roots at
+    c.requires.given known.lists.homes uses cached ((known.censuses.each c.args.partition c.items-censuses.result.now there).0) in
     record {
       many = long_next l.lines.items c.push.new.self.items c.line_at-line.result l.at c.in_ok-push.ensures.items l.invariant.many;
-      column = each_next (λ k z. IsDueAt c.args.trace.now.partitions c.args.trace.now.threads ps pools roots (k + 1) c.args.partition z) l.lines.items c.push.new.self.items c.line_at-line.result l.at c.in_ok-push.ensures.items
+      column = each_next (λ k z. IsDueAt c.args.trace.now.partitions c.args.trace.now.threads ps pools roots (k + 1) c.args.partition z)
+          l.lines.items c.push.new.self.items c.line_at-line.result l.at c.in_ok-push.ensures.items
           l.invariant.many l.invariant.column here;
     }

@@ -21,12 +21,15 @@ use Rattle.pa_region.proofs.Pieces.{found_title}
 use Rattle.pa_cells.proofs.laws.givers_lack_handles.Goals as goal
 
 -- a sum without the first member that passes a test, if the amount of each that passes is the same
-sum_without : {A : Type 0} (test : A → Bool) (f : A → ℕ) (amount : ℕ) (xs : List A) → ((x : A) → test x ≡ true → f x ≡ amount) → 0 < sum_by (λ x. one (test x)) xs → sum_by f (without test xs) + amount ≡ sum_by f xs
+sum_without : {A : Type 0} (test : A → Bool) (f : A → ℕ) (amount : ℕ) (xs : List A) → ((x : A) → test x ≡ true → f x ≡ amount)
+    → 0 < sum_by (λ x. one (test x)) xs → sum_by f (without test xs) + amount ≡ sum_by f xs
 sum_without test f amount [] is there = absurd (omega arith)
 sum_without {A} test f amount (x ∷ xs) is there =
     go (test x) refl (let e = sum_by-cons (λ y. one (test y)) x xs in omega arith) (λ has. sum_without test f amount xs is has) ∙ sym (sum_by-cons f x xs)
   where
-    go : (b : Bool) → test x ≡ b → 0 < one b + sum_by (λ y. one (test y)) xs → (0 < sum_by (λ y. one (test y)) xs → sum_by f (without test xs) + amount ≡ sum_by f xs) → sum_by f (if b then xs else x ∷ without test xs) + amount ≡ f x + sum_by f xs
+    go : (b : Bool) → test x ≡ b → 0 < one b + sum_by (λ y. one (test y)) xs
+        → (0 < sum_by (λ y. one (test y)) xs → sum_by f (without test xs) + amount ≡ sum_by f xs)
+        → sum_by f (if b then xs else x ∷ without test xs) + amount ≡ f x + sum_by f xs
     go true passes has later = let e = is x passes in omega arith
     go false fails has later =
         let e = later (omega arith) in
@@ -58,7 +61,8 @@ returns c true t budget v holds = record {
   stakes = all_stay v.stakes;
   lends = λ can. (
     subst (λ (ss : List Stake). least_stake ss < 16) (sym (all_stay v.stakes)) can.0,
-    (let same = sum_without (is_clean_of t) (λ (o : OwnTitle). one (is_unclean o.state)) 0 v.owns (λ o is. ap (λ (s : OwnState). one (is_unclean s)) (own_is t o is).1) holds in let clean = can.1 in omega arith),
+    (let same = sum_without (is_clean_of t) (λ (o : OwnTitle). one (is_unclean o.state)) 0 v.owns
+        (λ o is. ap (λ (s : OwnState). one (is_unclean s)) (own_is t o is).1) holds in let clean = can.1 in omega arith),
   );
 }
 returns c false t budget v holds = record {

@@ -13,36 +13,89 @@ use Rattle.pa_heap.proofs.allocs.alloc_map.Goals as goal
 pub issue-requires-clause-stake : goal.issue-requires-clause-stake
 issue-requires-clause-stake g c =
     let low : c.args.partition < 4 = let few = c.kept.ensures.stock.partitions in let here = c.requires.partition in omega arith in
-    (map_issues c.args.line c.args.partition c.in-Some.shape.slot c.args.reg c.in-Ok.title c.args.stock.now c.map_title.new.self c.in-Ok.ensures.mapped low (record { stock = c.kept.ensures.stock; aware = c.kept.ensures.aware; stake = c.requires.stake; bare = c.requires.none; below = c.requires.reg; now = c.kept-in-Ok.ensures.stock; now_aware = c.kept-in-Ok.ensures.aware })).stake
+    (map_issues c.args.line c.args.partition c.in-Some.shape.slot c.args.reg c.in-Ok.title c.args.stock.now c.map_title.new.self
+    c.in-Ok.ensures.mapped low (record {
+      stock = c.kept.ensures.stock;
+      aware = c.kept.ensures.aware;
+      stake = c.requires.stake;
+      bare = c.requires.none;
+      below = c.requires.reg;
+      now = c.kept-in-Ok.ensures.stock;
+      now_aware = c.kept-in-Ok.ensures.aware;
+    })).stake
 
 pub issue-requires-clause-none : goal.issue-requires-clause-none
 issue-requires-clause-none g c =
     let low : c.args.partition < 4 = let few = c.kept.ensures.stock.partitions in let here = c.requires.partition in omega arith in
-    (map_issues c.args.line c.args.partition c.in-Some.shape.slot c.args.reg c.in-Ok.title c.args.stock.now c.map_title.new.self c.in-Ok.ensures.mapped low (record { stock = c.kept.ensures.stock; aware = c.kept.ensures.aware; stake = c.requires.stake; bare = c.requires.none; below = c.requires.reg; now = c.kept-in-Ok.ensures.stock; now_aware = c.kept-in-Ok.ensures.aware })).bare
+    (map_issues c.args.line c.args.partition c.in-Some.shape.slot c.args.reg c.in-Ok.title c.args.stock.now c.map_title.new.self
+    c.in-Ok.ensures.mapped low (record {
+      stock = c.kept.ensures.stock;
+      aware = c.kept.ensures.aware;
+      stake = c.requires.stake;
+      bare = c.requires.none;
+      below = c.requires.reg;
+      now = c.kept-in-Ok.ensures.stock;
+      now_aware = c.kept-in-Ok.ensures.aware;
+    })).bare
 
 pub issue-requires-clause-back : goal.issue-requires-clause-back
 issue-requires-clause-back g c =
     let low : c.args.partition < 4 = let few = c.kept.ensures.stock.partitions in let here = c.requires.partition in omega arith in
-    (map_issues c.args.line c.args.partition c.in-Some.shape.slot c.args.reg c.in-Ok.title c.args.stock.now c.map_title.new.self c.in-Ok.ensures.mapped low (record { stock = c.kept.ensures.stock; aware = c.kept.ensures.aware; stake = c.requires.stake; bare = c.requires.none; below = c.requires.reg; now = c.kept-in-Ok.ensures.stock; now_aware = c.kept-in-Ok.ensures.aware })).back
+    (map_issues c.args.line c.args.partition c.in-Some.shape.slot c.args.reg c.in-Ok.title c.args.stock.now c.map_title.new.self
+    c.in-Ok.ensures.mapped low (record {
+      stock = c.kept.ensures.stock;
+      aware = c.kept.ensures.aware;
+      stake = c.requires.stake;
+      bare = c.requires.none;
+      below = c.requires.reg;
+      now = c.kept-in-Ok.ensures.stock;
+      now_aware = c.kept-in-Ok.ensures.aware;
+    })).back
 
 pub issue-requires-clause-budget : goal.issue-requires-clause-budget
 issue-requires-clause-budget g c =
     let low : c.args.partition < 4 = let few = c.kept.ensures.stock.partitions in let here = c.requires.partition in omega arith in
-    let more = (map_issues c.args.line c.args.partition c.in-Some.shape.slot c.args.reg c.in-Ok.title c.args.stock.now c.map_title.new.self c.in-Ok.ensures.mapped low (record { stock = c.kept.ensures.stock; aware = c.kept.ensures.aware; stake = c.requires.stake; bare = c.requires.none; below = c.requires.reg; now = c.kept-in-Ok.ensures.stock; now_aware = c.kept-in-Ok.ensures.aware })).budget in
+    let more = (map_issues c.args.line c.args.partition c.in-Some.shape.slot c.args.reg c.in-Ok.title c.args.stock.now
+    c.map_title.new.self c.in-Ok.ensures.mapped low (record {
+      stock = c.kept.ensures.stock;
+      aware = c.kept.ensures.aware;
+      stake = c.requires.stake;
+      bare = c.requires.none;
+      below = c.requires.reg;
+      now = c.kept-in-Ok.ensures.stock;
+      now_aware = c.kept-in-Ok.ensures.aware;
+    })).budget in
     let some = c.requires.budget in
     omega arith
 
 pub returns-in-Ok-clause-does : goal.returns-in-Ok-clause-does
 returns-in-Ok-clause-does g c =
     map_does c.counted_steps_leave.ensures c.args.line c.args.size c.args.partition c.in-Some.shape.slot c.args.reg c.in-Ok.title c.args.stock.now c.map_title.new.self c.issue.new.self c.issue.result
-    c.in-Ok.ensures.mapped c.requires.partition (record { stock = c.kept.ensures.stock; aware = c.kept.ensures.aware; stake = c.requires.stake; bare = c.requires.none; below = c.requires.reg; now = c.kept-in-Ok.ensures.stock; now_aware = c.kept-in-Ok.ensures.aware })
+    c.in-Ok.ensures.mapped c.requires.partition (record {
+      stock = c.kept.ensures.stock;
+      aware = c.kept.ensures.aware;
+      stake = c.requires.stake;
+      bare = c.requires.none;
+      below = c.requires.reg;
+      now = c.kept-in-Ok.ensures.stock;
+      now_aware = c.kept-in-Ok.ensures.aware;
+    })
     c.requires.direct (ap (λ (x : Shape). x.slot) c.in-Some.ensures.shape) c.issue.ensures
 
 pub returns-in-Ok-clause-budget : goal.returns-in-Ok-clause-budget
 returns-in-Ok-clause-budget g c =
     let low : c.args.partition < 4 = let few = c.kept.ensures.stock.partitions in let here = c.requires.partition in omega arith in
     issued_budget (mapped_slot c.args.partition c.in-Ok.title) c.args.reg c.args.stock.now.view.budget c.issue.result c.map_title.new.self c.issue.new.self c.issue.ensures
-    (map_issues c.args.line c.args.partition c.in-Some.shape.slot c.args.reg c.in-Ok.title c.args.stock.now c.map_title.new.self c.in-Ok.ensures.mapped low (record { stock = c.kept.ensures.stock; aware = c.kept.ensures.aware; stake = c.requires.stake; bare = c.requires.none; below = c.requires.reg; now = c.kept-in-Ok.ensures.stock; now_aware = c.kept-in-Ok.ensures.aware })).budget
+    (map_issues c.args.line c.args.partition c.in-Some.shape.slot c.args.reg c.in-Ok.title c.args.stock.now c.map_title.new.self
+    c.in-Ok.ensures.mapped low (record {
+      stock = c.kept.ensures.stock;
+      aware = c.kept.ensures.aware;
+      stake = c.requires.stake;
+      bare = c.requires.none;
+      below = c.requires.reg;
+      now = c.kept-in-Ok.ensures.stock;
+      now_aware = c.kept-in-Ok.ensures.aware;
+    })).budget
 
 pub returns-in-Err-Full-clause-does : goal.returns-in-Err-Full-clause-does
 returns-in-Err-Full-clause-does g c =

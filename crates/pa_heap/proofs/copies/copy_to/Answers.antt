@@ -18,7 +18,8 @@ point-seen-requires-clause-none g c =
 
 pub returns-else-filled-clause-does : goal.returns-else-filled-clause-does
 returns-else-filled-clause-does g c line =
-    point_does c.counted_steps_leave.ensures c.args.stock.now c.point-seen.new.self c.args.from c.args.to c.args.handle c.point-seen.result c.kept.ensures.stock c.kept.ensures.aware c.requires.stake c.requires.budget
+    point_does c.counted_steps_leave.ensures c.args.stock.now c.point-seen.new.self c.args.from c.args.to c.args.handle
+    c.point-seen.result c.kept.ensures.stock c.kept.ensures.aware c.requires.stake c.requires.budget
     c.requires.registers.0 c.requires.registers.1 c.requires.handle
     (bare_register _ c.has_handle-filled.result c.if-filled.false
     (subst (λ (r : StockRegister). HasSomeHandle r → IsTrue c.has_handle-filled.result) c.register.ensures c.has_handle-filled.ensures.1))

@@ -10,5 +10,6 @@ returns-in-Some c = (
   _,
   get_or_default c.args.slots.now c.args.place None c.index-slots-place.result c.requires.inside ∙ c.in-Some.is,
   refl,
-  subst (λ (o : Slot). (k : ℕ) × (k < length o.refs.items) × (slice_index o.refs.items k ≡ c.args.from) × IsNextSlot o c.hand_ref.new.self o.free o.own (slice_set o.refs.items k c.args.to)) c.deref_mut.ensures.value c.hand_ref.ensures,
+  subst (λ (o : Slot). (k : ℕ) × (k < length o.refs.items) × (slice_index o.refs.items k ≡ c.args.from)
+      × IsNextSlot o c.hand_ref.new.self o.free o.own (slice_set o.refs.items k c.args.to)) c.deref_mut.ensures.value c.hand_ref.ensures,
 )

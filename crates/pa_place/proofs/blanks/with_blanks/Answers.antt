@@ -13,7 +13,8 @@ loop-blank-preserved c =
     let len = c.push_reserved.ensures.len in
     let capacity = c.push_reserved.ensures.capacity in
     record {
-      blank = subst (All (λ s. s ≡ blank_span c.args.class)) (sym {A = List Span} c.push_reserved.ensures.items) (All-push (λ (s : Span). s ≡ blank_span c.args.class) l.list.items c.in_ok-blank.field-0 l.invariant.blank c.in_ok-blank.ensures);
+      blank = subst (All (λ s. s ≡ blank_span c.args.class)) (sym {A = List Span} c.push_reserved.ensures.items)
+          (All-push (λ (s : Span). s ≡ blank_span c.args.class) l.list.items c.in_ok-blank.field-0 l.invariant.blank c.in_ok-blank.ensures);
       many = omega (arith, many, len);
       room = omega (arith, room, capacity);
     }

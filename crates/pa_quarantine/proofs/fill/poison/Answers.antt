@@ -13,7 +13,8 @@ loop-word-init c = record { region = refl; view = refl }
 
 pub poison_next-requires-clause-able : goal.poison_next-requires-clause-able
 poison_next-requires-clause-able c =
-    poison_can c.states_are_owns.ensures c.owns_change.ensures c.args.title c.loop-word.word c.args.seat.now.view c.loop-word.seat.view (omega arith) c.requires.able.0 c.requires.able.1 c.requires.begins c.loop-word.invariant.view
+    poison_can c.states_are_owns.ensures c.owns_change.ensures c.args.title c.loop-word.word c.args.seat.now.view c.loop-word.seat.view
+    (omega arith) c.requires.able.0 c.requires.able.1 c.requires.begins c.loop-word.invariant.view
 
 pub loop-word-preserved : goal.loop-word-preserved
 loop-word-preserved c = record {

@@ -14,12 +14,14 @@ loop-word-init c = record { region = refl; view = refl }
 
 pub store-requires-clause-able : goal.store-requires-clause-able
 store-requires-clause-able c =
-    write_can c.states_are_owns.ensures c.owns_change.ensures (byte_word_count c.args.seat.now.region) c.args.title c.args.value c.loop-word.word (c.args.title.start + 8 * c.loop-word.word) c.args.seat.now.view c.loop-word.seat.view
+    write_can c.states_are_owns.ensures c.owns_change.ensures (byte_word_count c.args.seat.now.region) c.args.title c.args.value
+    c.loop-word.word (c.args.title.start + 8 * c.loop-word.word) c.args.seat.now.view c.loop-word.seat.view
     c.placed.ensures.well refl (omega arith) c.requires.own c.requires.able.0 c.loop-word.invariant.view
 
 pub loop-word-preserved : goal.loop-word-preserved
 loop-word-preserved c =
-    let own = write_own c.states_are_owns.ensures c.owns_change.ensures (byte_word_count c.args.seat.now.region) c.args.title c.args.value c.loop-word.word (c.args.title.start + 8 * c.loop-word.word) c.args.seat.now.view c.loop-word.seat.view
+    let own = write_own c.states_are_owns.ensures c.owns_change.ensures (byte_word_count c.args.seat.now.region) c.args.title c.args.value
+    c.loop-word.word (c.args.title.start + 8 * c.loop-word.word) c.args.seat.now.view c.loop-word.seat.view
     c.placed.ensures.well refl (omega arith) c.requires.own c.loop-word.invariant.view in
     record {
       region = c.store.ensures.region ∙ c.loop-word.invariant.region;
@@ -30,7 +32,9 @@ loop-word-preserved c =
 pub wrote-requires-clause-able : goal.wrote-requires-clause-able
 wrote-requires-clause-able c =
     let long = c.placed.ensures.well.long in
-    write_told c.states_are_owns.ensures c.owns_change.ensures c.filled_words_have_the_value.ensures (byte_word_count c.args.seat.now.region) c.args.title c.args.value c.args.seat.now.view c.loop-word.seat.view c.placed.ensures.well c.placed.ensures.long
+    write_told c.states_are_owns.ensures c.owns_change.ensures c.filled_words_have_the_value.ensures
+    (byte_word_count c.args.seat.now.region) c.args.title c.args.value c.args.seat.now.view c.loop-word.seat.view
+    c.placed.ensures.well c.placed.ensures.long
     c.requires.own c.requires.able.0 c.requires.able.1
     (write_end c.args.title c.args.value c.loop-word.word c.args.seat.now.view c.loop-word.seat.view (omega arith) (omega arith) c.loop-word.invariant.view)
 

@@ -15,7 +15,9 @@ pub loop-word-preserved : goal.loop-word-preserved
 loop-word-preserved c = record {
   region = c.store.ensures.region ∙ c.loop-word.invariant.region;
   view = zero_next (byte_word_count c.args.seat.now.region) c.args.title c.loop-word.word (c.args.title.start + 8 * c.loop-word.word) c.args.seat.now.view c.loop-word.seat.view c.store.new.seat.view
-      c.placed.ensures.well refl c.loop-word.invariant.view c.store.ensures.view (c.store.ensures.owns.plain (zero_plain (byte_word_count c.args.seat.now.region) c.args.title c.loop-word.word (c.args.title.start + 8 * c.loop-word.word) c.args.seat.now.view c.loop-word.seat.view
+      c.placed.ensures.well refl c.loop-word.invariant.view c.store.ensures.view
+      (c.store.ensures.owns.plain (zero_plain (byte_word_count c.args.seat.now.region) c.args.title c.loop-word.word
+      (c.args.title.start + 8 * c.loop-word.word) c.args.seat.now.view c.loop-word.seat.view
       c.placed.ensures.well refl (omega arith) c.requires.able c.loop-word.invariant.view));
 }
 

@@ -36,11 +36,15 @@ take-requires-2-clause-able c k t has =
 pub returns-clause-again : goal.returns-clause-again
 returns-clause-again c =
     let long = c.aware-2.ensures.long ∙ (ap byte_word_count (c.requires.regions.1 ∙ sym c.requires.regions.0) ∙ sym c.aware.ensures.long) in
-    let longer = c.aware-4.ensures.long ∙ (ap byte_word_count (c.enter.ensures.region ∙ (c.enter_with.ensures.regions.0 ∙ (c.take.ensures.region ∙ (c.requires.regions.1 ∙ sym c.requires.regions.0)))) ∙ sym c.aware.ensures.long) in
-    let noted = (noted_twice c.args.lender.now.view c.args.middle.now.view c.lend_stake-lent.new.seat.view c.lend_stake-lent.result.view c.take.new.seat.view c.enter_with.new.lender.view c.enter.new.seat.view
+    let longer = c.aware-4.ensures.long ∙ (ap byte_word_count
+    (c.enter.ensures.region ∙ (c.enter_with.ensures.regions.0
+    ∙ (c.take.ensures.region ∙ (c.requires.regions.1 ∙ sym c.requires.regions.0)))) ∙ sym c.aware.ensures.long) in
+    let noted = (noted_twice c.args.lender.now.view c.args.middle.now.view c.lend_stake-lent.new.seat.view c.lend_stake-lent.result.view
+    c.take.new.seat.view c.enter_with.new.lender.view c.enter.new.seat.view
     c.lend_stake-back.new.seat.view c.lend_stake-back.result.view c.take-2.new.seat.view c.args.host.now.view c.enter_with.new.host.view c.args.inner c.args.outer c.args.first.now c.args.second.now
     c.lend_stake-lent.ensures.left c.lend_stake-lent.ensures.given c.take.ensures.view c.enter.ensures.view c.lend_stake-back.ensures.left c.lend_stake-back.ensures.given c.take-2.ensures.view
-    c.requires.lender c.requires.middle.0 c.requires.middle.1 c.aware.ensures.aware c.aware-2.ensures.aware long longer c.aware-3.ensures.aware c.aware-5.ensures.aware c.enter_with.ensures.noted).2 in (
+    c.requires.lender c.requires.middle.0 c.requires.middle.1 c.aware.ensures.aware c.aware-2.ensures.aware long longer
+    c.aware-3.ensures.aware c.aware-5.ensures.aware c.enter_with.ensures.noted).2 in (
       (lends_again c.args.lender.now.view c.take-2.new.seat.view noted.lends.keeps c.requires.lender).0,
       (
         hosts_again c.args.middle.now.view c.lend_stake-back.new.seat.view noted.middle_has c.requires.middle.0,
@@ -55,7 +59,9 @@ returns-clause-again c =
 pub returns-clause-noted : goal.returns-clause-noted
 returns-clause-noted c =
     let long = c.aware-2.ensures.long ∙ (ap byte_word_count (c.requires.regions.1 ∙ sym c.requires.regions.0) ∙ sym c.aware.ensures.long) in
-    let longer = c.aware-4.ensures.long ∙ (ap byte_word_count (c.enter.ensures.region ∙ (c.enter_with.ensures.regions.0 ∙ (c.take.ensures.region ∙ (c.requires.regions.1 ∙ sym c.requires.regions.0)))) ∙ sym c.aware.ensures.long) in
+    let longer = c.aware-4.ensures.long ∙ (ap byte_word_count
+    (c.enter.ensures.region ∙ (c.enter_with.ensures.regions.0
+    ∙ (c.take.ensures.region ∙ (c.requires.regions.1 ∙ sym c.requires.regions.0)))) ∙ sym c.aware.ensures.long) in
     noted_twice c.args.lender.now.view c.args.middle.now.view c.lend_stake-lent.new.seat.view c.lend_stake-lent.result.view c.take.new.seat.view c.enter_with.new.lender.view c.enter.new.seat.view
     c.lend_stake-back.new.seat.view c.lend_stake-back.result.view c.take-2.new.seat.view c.args.host.now.view c.enter_with.new.host.view c.args.inner c.args.outer c.args.first.now c.args.second.now
     c.lend_stake-lent.ensures.left c.lend_stake-lent.ensures.given c.take.ensures.view c.enter.ensures.view c.lend_stake-back.ensures.left c.lend_stake-back.ensures.given c.take-2.ensures.view

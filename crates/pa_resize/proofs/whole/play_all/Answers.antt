@@ -1,6 +1,7 @@
 use Rattle.std.proofs.Common.{◌<◌, ◌≤◌, List, [], length, get_or, refl, ap, sym, subst, arith}
 use Rattle.pa_script.specs.declared.script.ScriptLine.{ScriptLine}
 use Rattle.pa_script.specs.declared.script.ScriptLine.TheVariants.{Plain}
+use Rattle.pa_trace.specs.declared.line.Head.{Head}
 use Rattle.pa_trace.specs.declared.script.Line.TheVariants.{Phase}
 use Rattle.pa_resize.specs.Playing.{IsScriptPlayed, script_head}
 use Rattle.pa_resize.proofs.Scripts.{script_begins, next_few, next_within, next_played, all_played}
@@ -25,6 +26,7 @@ play_line-requires g c =
     let h = c.loop-line.invariant.played in
     record {
       going = h.going;
+      first = ap (λ (k : Head). k.version) h.head;
       few = next_few s i c.loop-line.player line (Plain Phase) c.loop-line.verdicts.items c.requires.within lt is h;
       within = next_within s i c.loop-line.player line (Plain Phase) c.loop-line.verdicts.items c.requires.within lt is h;
     }

@@ -45,5 +45,6 @@ returns-clause-back c =
     c.show_seen.new.to.view c.uncut_with.new.lender.view c.args.root.now.view c.show_seen.new.from.view c.take.new.seat.view c.uncut_with.new.host.view
     c.show_seen.ensures.shown c.requires.lender c.aware.ensures.aware c.aware-2.ensures.aware c.aware-3.ensures.aware c.take.ensures.view long
     c.placed.ensures.well c.placed.ensures.small c.number_seen-number.ensures.number
-    (subst (λ (v : View). IsUncutWith (least_stake c.show_seen.new.to.view.stakes) c.args.title c.show_seen.new.to.view c.uncut_with.new.lender.view v c.uncut_with.new.host.view) c.number_seen-number.ensures.view
+    (subst (λ (v : View). IsUncutWith (least_stake c.show_seen.new.to.view.stakes) c.args.title c.show_seen.new.to.view
+    c.uncut_with.new.lender.view v c.uncut_with.new.host.view) c.number_seen-number.ensures.view
     c.uncut_with.ensures.uncut)

@@ -9,7 +9,8 @@ loop-digit-preserved c =
 pub returns-then-value-digit : goal.returns-then-value-digit
 returns-then-value-digit c =
     record {
-      read = too_wide c.loop-digit.value c.in-Some.digit c.args.first c.loop-digit.rest.now c.in-Some.after.now c.args.bytes.now c.in-Some.ensures.read c.loop-digit.invariant (omega (arith, c.in-Some.ensures.small, c.if-value-digit.true));
+      read = too_wide c.loop-digit.value c.in-Some.digit c.args.first c.loop-digit.rest.now c.in-Some.after.now c.args.bytes.now
+          c.in-Some.ensures.read c.loop-digit.invariant (omega (arith, c.in-Some.ensures.small, c.if-value-digit.true));
     }
 
 pub returns : goal.returns

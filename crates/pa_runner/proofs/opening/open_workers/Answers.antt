@@ -53,7 +53,7 @@ loop-k-preserved g c =
       low = omega arith;
       opening = subst (λ (ws : List WorkerValue). IsOpening t (k + 1) ws c.args.seat.now.view c.open_worker.new.seat.view) (sym c.in_ok-push.ensures.items)
           (open_next t k c.loop-k.workers.items c.args.seat.now.view c.loop-k.seat.view c.loop-k.invariant.opening below c.open_worker.new.seat.view w left
-          (subst (λ n. IsNewFor k t.partitions n w) e c.in_ok-open_worker.ensures.new));
+          (subst (λ n. IsNewFor k t.partitions t.version n w) e c.in_ok-open_worker.ensures.new));
     }
 
 pub returns-in_err-open_worker-clause-stops : goal.returns-in_err-open_worker-clause-stops

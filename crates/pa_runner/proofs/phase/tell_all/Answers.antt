@@ -26,7 +26,8 @@ loop-k-preserved g c =
     record {
       region = c.tell.ensures.region ∙ sym c.requires.region;
       few = omega arith;
-      telling = tell_more c.loop-k.k c.args.workers.now c.loop-k.workers c.args.seat.now.view c.loop-k.seat.view c.tell.new.seat.view _ c.tell.new.worker c.loop-k.invariant.telling low c.requires.stakes
+      telling = tell_more c.loop-k.k c.args.workers.now c.loop-k.workers c.args.seat.now.view c.loop-k.seat.view c.tell.new.seat.view _
+          c.tell.new.worker c.loop-k.invariant.telling low c.requires.stakes
           c.tell.ensures.told c.tell.ensures.none c.tell.ensures.heard c.tell.ensures.aware;
     }
 

@@ -56,7 +56,8 @@ pub returns-in-Read-clause-plays : goal.returns-in-Read-clause-plays
 returns-in-Read-clause-plays g c = subst (λ (op : Op). PlaysOp c.args.due.line op c.deref.result c.args.worker.now c.deref.new.self) (sym c.in-Read.is) c.deref.ensures.plays
 
 pub returns-in-Swap-clause-plays : goal.returns-in-Swap-clause-plays
-returns-in-Swap-clause-plays g c = subst (λ (op : Op). IfOk c.exchange.result (λ answer. PlaysOp c.args.due.line op answer c.args.worker.now c.exchange.new.self)) (sym c.in-Swap.is) c.exchange.ensures.plays
+returns-in-Swap-clause-plays g c = subst (λ (op : Op). IfOk c.exchange.result
+    (λ answer. PlaysOp c.args.due.line op answer c.args.worker.now c.exchange.new.self)) (sym c.in-Swap.is) c.exchange.ensures.plays
 
 pub returns-in-Swap-clause-records : goal.returns-in-Swap-clause-records
 returns-in-Swap-clause-records g c = on_err_weaker c.exchange.result (stopped_records c.args.worker.now c.exchange.new.self) c.exchange.ensures.same

@@ -37,7 +37,8 @@ returns g c =
     let same : c.in_ok-roots.roots.items ≡ left.roots = c.in_ok-roots.ensures.items in
     let four : length left.roots ≡ 4 =
     (let e = ap (λ (js : List (List RootEntry)). length js) same in let l = c.in_ok-roots.ensures.len in let k = c.in_ok-roots.roots.ok in omega arith) in
-    let merged = are_merged_in t c.args.workers.items c.args.seat.view c.args.report.items c.requires.limits c.requires.played c.as_slice.result.now c.as_slice-2.result.now c.as_slice.ensures
+    let merged = are_merged_in t c.args.workers.items c.args.seat.view c.args.report.items c.requires.limits
+    c.requires.played c.as_slice.result.now c.as_slice-2.result.now c.as_slice.ensures
     c.as_slice-2.ensures.value in
     is_run t c.args.workers.items c.args.seat.view c.args.report.items c.requires.limits c.requires.played _ left c.requires.long four c.close-roots.ensures _
     (c.in_ok-entries.ensures (entries_of t c.requires.played.course) merged) same refl refl refl c.slots_stay_seen.ensures

@@ -48,7 +48,8 @@ deref-read-requires-clause-ready g c =
     record {
       going = op4.going;
       stake = op4.stake;
-      room = (let d = new.room in let a1 = op1.count in let b1 = op1.room in let a2 = op2.count in let b2 = op2.room in let a3 = op3.count in let b3 = op3.room in let a4 = op4.count in let b4 = op4.room in omega arith);
+      room = (let d = new.room in let a1 = op1.count in let b1 = op1.room in let a2 = op2.count in let b2 = op2.room in let a3 = op3.count
+          in let b3 = op3.room in let a4 = op4.count in let b4 = op4.room in omega arith);
     }
 
 pub reset-requires-clause-ready : goal.reset-requires-clause-ready
@@ -63,7 +64,8 @@ reset-requires-clause-ready g c =
     record {
       going = op5.going;
       stake = op5.stake;
-      room = (let d = new.room in let a1 = op1.count in let b1 = op1.room in let a2 = op2.count in let b2 = op2.room in let a3 = op3.count in let b3 = op3.room in let a4 = op4.count in let b4 = op4.room in let a5 = op5.count in let b5 = op5.room in omega arith);
+      room = (let d = new.room in let a1 = op1.count in let b1 = op1.room in let a2 = op2.count in let b2 = op2.room in let a3 = op3.count
+          in let b3 = op3.room in let a4 = op4.count in let b4 = op4.room in let a5 = op5.count in let b5 = op5.room in omega arith);
     }
 
 pub exchange-requires-clause-ready : goal.exchange-requires-clause-ready
@@ -79,5 +81,7 @@ exchange-requires-clause-ready g c =
     record {
       going = op6.going;
       stake = op6.stake;
-      room = (let d = new.room in let a1 = op1.count in let b1 = op1.room in let a2 = op2.count in let b2 = op2.room in let a3 = op3.count in let b3 = op3.room in let a4 = op4.count in let b4 = op4.room in let a5 = op5.count in let b5 = op5.room in let a6 = op6.count in let b6 = op6.room in omega arith);
+      room = (let d = new.room in let a1 = op1.count in let b1 = op1.room in let a2 = op2.count in let b2 = op2.room in let a3 = op3.count
+          in let b3 = op3.room in let a4 = op4.count in let b4 = op4.room in let a5 = op5.count in let b5 = op5.room in let a6 = op6.count
+          in let b6 = op6.room in omega arith);
     }

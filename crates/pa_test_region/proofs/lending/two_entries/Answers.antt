@@ -32,7 +32,8 @@ pub returns-clause-entries : goal.returns-clause-entries
 returns-clause-entries c =
     let x = c.enter_with.ensures.noted in
     let y = c.enter_with-2.ensures.noted in
-    let both = two (least_stake c.args.lender.now.view.stakes) c.args.lender.now.view c.enter_with.new.lender.view c.enter_with-2.new.lender.view c.args.pool.now.view c.enter_with.new.host.view c.enter_with-2.new.host.view
+    let both = two (least_stake c.args.lender.now.view.stakes) c.args.lender.now.view c.enter_with.new.lender.view
+    c.enter_with-2.new.lender.view c.args.pool.now.view c.enter_with.new.host.view c.enter_with-2.new.host.view
     x.0 y.0 (7 ∷ 8 ∷ []) (9 ∷ []) c.requires.lender refl x.1 y.1 in (
       x.0 ∷ y.0 ∷ [],
       ap (λ (ns : List ℕ). ns ∷ y.0.numbers ∷ []) x.1.says ∙ ap (λ (ns : List ℕ). (7 ∷ 8 ∷ []) ∷ ns ∷ []) y.1.says,

@@ -12,7 +12,8 @@ use Rattle.pa_root.proofs.Showing.{all_stakes}
 use Rattle.pa_test_root.proofs.root.a_direct_map_is_cut_and_made_raw_again.Goals as goal
 
 -- who handed a free title over still has its stakes
-still_lends : (t : Title) (v : View) → HasStake v → unclean_of v ≡ 0 → HasStake (left_after (frees_parcel (t ∷ [])) (after_cut t v)) × (unclean_of (left_after (frees_parcel (t ∷ [])) (after_cut t v)) ≡ 0)
+still_lends : (t : Title) (v : View) → HasStake v → unclean_of v ≡ 0 → HasStake (left_after (frees_parcel (t ∷ [])) (after_cut t v))
+    × (unclean_of (left_after (frees_parcel (t ∷ [])) (after_cut t v)) ≡ 0)
 still_lends t v has clean = (subst (λ (ss : List Stake). least_stake ss < 16) (sym (all_stakes v.stakes)) has, clean)
 
 pub uncut_with-requires-clause-lender : goal.uncut_with-requires-clause-lender

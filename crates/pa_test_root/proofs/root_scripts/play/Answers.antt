@@ -11,7 +11,8 @@ use Rattle.pa_test_root.proofs.root_scripts.play.Goals as goal
 
 pub play_by-requires-clause-lender : goal.play_by-requires-clause-lender
 play_by-requires-clause-lender g c =
-    others_lend (262144 * c.args.supers) c.seat-seat.result.view c.hand.result.view c.in_ok-region.first.view (ap (λ (s : Share). s.view) c.seat-seat.ensures.same) c.hand.ensures.given c.in_ok-region.ensures.view
+    others_lend (262144 * c.args.supers) c.seat-seat.result.view c.hand.result.view c.in_ok-region.first.view
+    (ap (λ (s : Share). s.view) c.seat-seat.ensures.same) c.hand.ensures.given c.in_ok-region.ensures.view
 
 pub play_by-requires-clause-first : goal.play_by-requires-clause-first
 play_by-requires-clause-first g c =

@@ -7,11 +7,13 @@ loop-digit-init c = reads_first c.args.first c.args.bytes.now c.requires
 
 pub loop-digit-preserved-then-value-lt-TOO_LARGE : goal.loop-digit-preserved-then-value-lt-TOO_LARGE
 loop-digit-preserved-then-value-lt-TOO_LARGE c =
-    reads_on c.loop-digit.value c.in-Some.digit c.args.first c.loop-digit.rest.now c.in-Some.after.now c.args.bytes.now (sym c.in-Some.ensures.digit) c.in-Some.ensures.small c.if-value-lt-TOO_LARGE.true c.loop-digit.invariant
+    reads_on c.loop-digit.value c.in-Some.digit c.args.first c.loop-digit.rest.now c.in-Some.after.now c.args.bytes.now
+    (sym c.in-Some.ensures.digit) c.in-Some.ensures.small c.if-value-lt-TOO_LARGE.true c.loop-digit.invariant
 
 pub loop-digit-preserved : goal.loop-digit-preserved
 loop-digit-preserved c =
-    skips_on c.loop-digit.value c.in-Some.digit c.args.first c.loop-digit.rest.now c.in-Some.after.now c.args.bytes.now (sym c.in-Some.ensures.digit) c.if-value-lt-TOO_LARGE.false c.loop-digit.invariant
+    skips_on c.loop-digit.value c.in-Some.digit c.args.first c.loop-digit.rest.now c.in-Some.after.now c.args.bytes.now
+    (sym c.in-Some.ensures.digit) c.if-value-lt-TOO_LARGE.false c.loop-digit.invariant
 
 pub returns-clause-value : goal.returns-clause-value
 returns-clause-value c =

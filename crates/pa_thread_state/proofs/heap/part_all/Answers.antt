@@ -65,7 +65,8 @@ returns-clause-workers c =
     let three = c.part-third.ensures.left ∙ ap (left_after (keeper_parcel 2)) two in
     let four = c.part-fourth.ensures.left ∙ ap (left_after (keeper_parcel 3)) three in
     let five = c.part-cells.ensures.left ∙ ap (left_after (keeper_parcel 5)) four in
-    subst (λ (v : View). HasAllStakes c.args.budget v) (sym (c.part_stakes-workers.ensures.given ∙ ap (given_after (stakes_parcel c.args.budget)) five)) (stakes_are_all (262144 * c.args.supers) c.args.budget)
+    subst (λ (v : View). HasAllStakes c.args.budget v) (sym (c.part_stakes-workers.ensures.given
+    ∙ ap (given_after (stakes_parcel c.args.budget)) five)) (stakes_are_all (262144 * c.args.supers) c.args.budget)
 
 pub returns-clause-pool : goal.returns-clause-pool
 returns-clause-pool c =

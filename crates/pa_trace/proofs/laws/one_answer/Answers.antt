@@ -9,4 +9,4 @@ pub returns-clause-one : goal.returns-clause-one
 returns-clause-one c = one_fault
 
 pub returns-clause-some : goal.returns-clause-some
-returns-clause-some c = some_fault
+returns-clause-some c = λ known bytes recent. some_fault known recent bytes

@@ -1,8 +1,7 @@
-use Rattle.std.proofs.Common.{ℕ, Option, Result, sym, ap, ◌∙◌}
-use Rattle.pa_trace.specs.declared.field.LineFault.{LineFault}
-use Rattle.pa_trace.specs.Reading.{◌>>=◌, head_of, head_in}
+use Rattle.std.proofs.Common.{sym}
+use Rattle.pa_trace.specs.Reading.{◌>>=◌, head_in}
 use Rattle.pa_trace.proofs.line.head_in.Goals as goal
 
 pub returns : goal.returns
 unfolding head_in
-returns c = c.head_of.ensures ∙ sym (ap (λ (r : Result (Option ℕ × Option ℕ × Option ℕ) LineFault). r >>= λ numbers. head_of numbers.0 numbers.1 numbers.2) c.in_ok-region.ensures)
+returns c = rw (c.in_ok-first.ensures, c.in_ok-region.ensures, sym c.in_ok-version.ensures) c.head_of.ensures

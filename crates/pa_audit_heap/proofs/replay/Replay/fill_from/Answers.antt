@@ -27,7 +27,8 @@ pub fill-requires-clause-born : goal.fill-requires-clause-born
 fill-requires-clause-born c =
     let (first, found) = some_is c.found_run.result (FoundRun c.args.pools.now c.args.asked 1) c.found_run.ensures.some c.is_none.result c.is_none.ensures c.if-is_none.false in
     let at = at_entry c.args.pools.now c.args.self.now.plan.supers c.args.asked (pool.Take 1 (Some first)) c.play_to.new.self.plan c.requires.pool found c.play_to.ensures.plan in
-    ready_at c.args.pools.now c.args.self.now.plan c.play_to.new.self.plan c.args.self.now.root c.play_to.new.self.root c.args.asked (pool.Take 1 (Some first)) c.requires.step c.requires.ahead at c.play_to.ensures.root
+    ready_at c.args.pools.now c.args.self.now.plan c.play_to.new.self.plan c.args.self.now.root c.play_to.new.self.root c.args.asked
+    (pool.Take 1 (Some first)) c.requires.step c.requires.ahead at c.play_to.ensures.root
 
 pub returns-then-is_some-clause-plays : goal.returns-then-is_some-clause-plays
 returns-then-is_some-clause-plays c =

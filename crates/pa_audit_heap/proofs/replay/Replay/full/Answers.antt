@@ -24,7 +24,8 @@ pub fill-requires-clause-born : goal.fill-requires-clause-born
 fill-requires-clause-born c =
     let found = c.found_none.ensures.0 c.if-not-found_none.false in
     let at = at_entry c.args.pools.now c.args.self.now.plan.supers c.args.asked (pool.Take 1 None) c.play_to.new.self.plan c.requires.pool found c.play_to.ensures.plan in
-    ready_at c.args.pools.now c.args.self.now.plan c.play_to.new.self.plan c.args.self.now.root c.play_to.new.self.root c.args.asked (pool.Take 1 None) c.requires.step c.requires.ahead at c.play_to.ensures.root
+    ready_at c.args.pools.now c.args.self.now.plan c.play_to.new.self.plan c.args.self.now.root c.play_to.new.self.root c.args.asked
+    (pool.Take 1 None) c.requires.step c.requires.ahead at c.play_to.ensures.root
 
 pub returns-clause-plays : goal.returns-clause-plays
 returns-clause-plays c =
@@ -39,5 +40,6 @@ returns-clause-plays c =
     (subst (λ w. FillDid c.args.class w plan c.fill.new.pool c.play_to.new.self.root c.fill.new.self placed) c.fill_count.ensures.count c.in_ok-placed.ensures.filled) in
     let step : IsStep plan.entries c.fill.new.pool.entries r c.fill.new.self = subst (λ z. IsStep plan.entries c.fill.new.pool.entries z c.fill.new.self) c.play_to.ensures.root c.fill.ensures.step in
     plays_by pools (Full (Some c.args.class) c.args.asked) c.args.self.now.plan r c.fill.new.pool c.fill.new.self c.is_some.result
-    (λ some. full_plays pools c.args.self.now.plan plan c.fill.new.pool r c.fill.new.self c.args.class c.args.asked placed c.requires.step c.requires.ahead found at did step (sym c.is_some.ensures ∙ some))
+    (λ some. full_plays pools c.args.self.now.plan plan c.fill.new.pool r c.fill.new.self c.args.class c.args.asked placed c.requires.step
+    c.requires.ahead found at did step (sym c.is_some.ensures ∙ some))
     (λ none. full_misfits pools plan c.fill.new.pool r c.fill.new.self c.args.class c.args.asked placed did (sym c.is_some.ensures ∙ none))

@@ -9,7 +9,9 @@ use Rattle.pa_audit_heap.proofs.replay.Replay.map.Goals as goal
 pub map-requires-clause-entries : goal.map-requires-clause-entries
 map-requires-clause-entries c =
     let few = c.requires.few in
-    let at = at_entry c.args.pools.now c.args.self.now.plan.supers c.args.asked (pool.Take c.supers_for-supers.result (Some c.in-Some.first)) c.play_to.new.self.plan c.requires.pool c.in-Some.ensures.some c.play_to.ensures.plan in
+    let at = at_entry c.args.pools.now c.args.self.now.plan.supers c.args.asked
+    (pool.Take c.supers_for-supers.result (Some c.in-Some.first)) c.play_to.new.self.plan c.requires.pool c.in-Some.ensures.some
+    c.play_to.ensures.plan in
     omega (arith, at.entries, at.within)
 
 pub map-requires-clause-born : goal.map-requires-clause-born

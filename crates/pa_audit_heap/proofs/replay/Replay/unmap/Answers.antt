@@ -61,5 +61,6 @@ returns c =
     let at = at_entry pools plan0.supers c.args.asked (pool.Give (supers_for t.len) (super_page_at t.start)) plan c.requires.pool gave c.play_to.ensures.plan in
     let start : t.start ≡ page_place (super_page_at t.start) 1 = omega (arith, c.if-title-ne16384.false) in
     let after_is = c.unmap.ensures.unmapped ∙ ap (λ name. unmapped name c.play_to.new.self.root) found.1 ∙ ap (unmapped c.args.slot.slot) c.play_to.ensures.root in
-    let step : IsStep plan.entries c.unmap.new.pool.entries r c.unmap.new.self = subst (λ z. IsStep plan.entries c.unmap.new.pool.entries z c.unmap.new.self) c.play_to.ensures.root c.unmap.ensures.step in
+    let step : IsStep plan.entries c.unmap.new.pool.entries r c.unmap.new.self = subst
+    (λ z. IsStep plan.entries c.unmap.new.pool.entries z c.unmap.new.self) c.play_to.ensures.root c.unmap.ensures.step in
     unmap_plays pools plan0 plan c.unmap.new.pool r c.unmap.new.self c.args.asked c.args.slot t c.requires.step c.requires.ahead found.0 found.1 start gave at c.unmap.ensures.pool after_is step

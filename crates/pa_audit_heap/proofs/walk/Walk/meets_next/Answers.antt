@@ -90,6 +90,7 @@ returns-clause-walks c =
     let played = subst (TellsPlay pools e.act w.replay.plan w.replay.root c.play.new.self.plan c.play.new.self.root) c.if-not-played.false told in
     let filled = subst (λ n. AreFilledUp (census w.replay.root) n w.censuses c.fill_up.new.self) c.phases_before-over.ensures c.in_ok-fill_up.ensures.filled in (
       meets_here c.args.partitions ps pools es p c.args.at e at (fits_next c.args.supers c.args.partitions c.args.phases ps pools es p c.args.at w e x c.requires.walked at taken played.0),
-      walked_next c.args.supers c.args.partitions c.args.phases ps pools es p c.args.at w _ e x c.requires.threads c.requires.walked at taken (c.enter.ensures.entered c.if-not-enter.false) filled played.1
+      walked_next c.args.supers c.args.partitions c.args.phases ps pools es p c.args.at w _ e x c.requires.threads c.requires.walked at
+          taken (c.enter.ensures.entered c.if-not-enter.false) filled played.1
           (c.least_after-self.ensures.next ∙ ap (least_after w.least) asks) c.least_after-self.ensures.bound,
     )

@@ -19,7 +19,9 @@ invariant_of-self-2 g c =
           c.requires.given (c.self.invariant.1 k)),
       cells_more _ c.enter_with.new.host.view c.append.new.histories.items c.replace-found.new.parked.items c.args.line c.args.cell c.args.given c.held_name.result c.held_name-2.result noted.0
           c.requires.cell kept (omega arith) c.enter_with.ensures.again.1 noted.1.list (noted.1.says ∙ (c.as_slice.ensures.value ∙ c.exchange_numbers-numbers.ensures)) c.held_name.ensures
-          (c.held_name-2.ensures ∙ ap held_as (c.index.ensures ∙ get_or_default c.self.inside.parked.items c.args.cell c.index.result.now None (let n = kept.held in omega arith))) c.in-Some.ensures.pushed c.replace-found.ensures.after,
+          (c.held_name-2.ensures ∙ ap held_as (c.index.ensures
+          ∙ get_or_default c.self.inside.parked.items c.args.cell c.index.result.now None (let n = kept.held in omega arith)))
+          c.in-Some.ensures.pushed c.replace-found.ensures.after,
     )
 
 pub returns-clause-place : goal.returns-clause-place

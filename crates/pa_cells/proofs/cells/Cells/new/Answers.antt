@@ -13,7 +13,13 @@ pub invariant_of-result : goal.invariant_of-result
 invariant_of-result g c =
     let v = c.seat.result.view in
     let same = c.seat.ensures.same in
-    let hosts : HostsKeeper 5 v = ((subst (λ (s : Share). (k : ℕ) → stake_of s.view k ≡ 0) (sym same) c.requires.stakes, c.seat.ensures.clean), subst (λ (s : Share). 0 < keeper_of s.view 5) (sym same) c.requires.keeper) in
+    let hosts : HostsKeeper 5 v = (
+      (
+        subst (λ (s : Share). (k : ℕ) → stake_of s.view k ≡ 0) (sym same) c.requires.stakes,
+        c.seat.ensures.clean,
+      ),
+      subst (λ (s : Share). 0 < keeper_of s.view 5) (sym same) c.requires.keeper,
+    ) in
     let empty : list_of 5 v ≡ [] = ap (λ (s : Share). list_of 5 s.view) same ∙ c.requires.empty in (
       ap (λ (s : Share). s.region) same ∙ c.requires.region,
       subst (λ (ps : List (Option ParkedHandle)). (k : ℕ) → IfSome (cell_holds ps k) (λ p. p.note.region ≡ g.N.Name.region)) (sym c.in_ok-parked.ensures)

@@ -21,7 +21,9 @@ returns-in_err-step_at-clause-sound c =
     let after : Tables = record now { slots = with_items now.slots c.step_at.new.slots } in
     let h = c.in_err-step_at.ensures.err in
     (same_row now after (c.args.title.start / 8) h.0 h.1 c.requires.sound
-    (changed_row now after IsSameSlot c.deref_mut.result.now c.step_at.new.slots c.first_word.result c.args.title c.deref_mut.ensures.value c.first_word.ensures (kept_items now.slots IsSameSlot c.deref_mut.result.now c.step_at.new.slots c.first_word.result c.deref_mut.ensures.value h) refl refl refl h) refl h.4).1
+    (changed_row now after IsSameSlot c.deref_mut.result.now c.step_at.new.slots c.first_word.result c.args.title
+    c.deref_mut.ensures.value c.first_word.ensures (kept_items now.slots IsSameSlot c.deref_mut.result.now c.step_at.new.slots
+    c.first_word.result c.deref_mut.ensures.value h) refl refl refl h) refl h.4).1
 
 pub returns-in_err-step_at-clause-err : goal.returns-in_err-step_at-clause-err
 returns-in_err-step_at-clause-err c =
@@ -30,7 +32,9 @@ returns-in_err-step_at-clause-err c =
     let h = c.in_err-step_at.ensures.err in
     any_err c.from_residual.result _
     (same_row now after (c.args.title.start / 8) h.0 h.1 c.requires.sound
-    (changed_row now after IsSameSlot c.deref_mut.result.now c.step_at.new.slots c.first_word.result c.args.title c.deref_mut.ensures.value c.first_word.ensures (kept_items now.slots IsSameSlot c.deref_mut.result.now c.step_at.new.slots c.first_word.result c.deref_mut.ensures.value h) refl refl refl h) refl h.4).0
+    (changed_row now after IsSameSlot c.deref_mut.result.now c.step_at.new.slots c.first_word.result c.args.title
+    c.deref_mut.ensures.value c.first_word.ensures (kept_items now.slots IsSameSlot c.deref_mut.result.now c.step_at.new.slots
+    c.first_word.result c.deref_mut.ensures.value h) refl refl refl h) refl h.4).0
 
 pub returns-clause-ok : goal.returns-clause-ok
 returns-clause-ok c =
@@ -39,7 +43,10 @@ returns-clause-ok c =
     let h = c.in_ok-step_at.ensures.ok in
     let next = c.next-after.ensures ∙ ap (λ w. stepped c.args.step w) c.count_word.ensures in
     (count_row now after c.args.actor c.args.title c.args.step c.is_free-back.result h.0 h.1 c.requires.sound c.requires.enabled
-    (changed_row now after (IsSlotStepped c.args.step c.args.actor c.is_free-back.result) c.deref_mut.result.now c.step_at.new.slots c.first_word.result c.args.title c.deref_mut.ensures.value c.first_word.ensures (kept_items now.slots (IsSlotStepped c.args.step c.args.actor c.is_free-back.result) c.deref_mut.result.now c.step_at.new.slots c.first_word.result c.deref_mut.ensures.value h) refl refl refl h)
+    (changed_row now after (IsSlotStepped c.args.step c.args.actor c.is_free-back.result) c.deref_mut.result.now c.step_at.new.slots
+    c.first_word.result c.args.title c.deref_mut.ensures.value c.first_word.ensures
+    (kept_items now.slots (IsSlotStepped c.args.step c.args.actor c.is_free-back.result) c.deref_mut.result.now c.step_at.new.slots
+    c.first_word.result c.deref_mut.ensures.value h) refl refl refl h)
     (rw (← next, ← c.count_place.ensures) refl) (c.is_free-back.ensures ∙ ap back_after next) h.4).happens
 
 pub returns-clause-sound : goal.returns-clause-sound
@@ -49,5 +56,8 @@ returns-clause-sound c =
     let h = c.in_ok-step_at.ensures.ok in
     let next = c.next-after.ensures ∙ ap (λ w. stepped c.args.step w) c.count_word.ensures in
     (count_row now after c.args.actor c.args.title c.args.step c.is_free-back.result h.0 h.1 c.requires.sound c.requires.enabled
-    (changed_row now after (IsSlotStepped c.args.step c.args.actor c.is_free-back.result) c.deref_mut.result.now c.step_at.new.slots c.first_word.result c.args.title c.deref_mut.ensures.value c.first_word.ensures (kept_items now.slots (IsSlotStepped c.args.step c.args.actor c.is_free-back.result) c.deref_mut.result.now c.step_at.new.slots c.first_word.result c.deref_mut.ensures.value h) refl refl refl h)
+    (changed_row now after (IsSlotStepped c.args.step c.args.actor c.is_free-back.result) c.deref_mut.result.now c.step_at.new.slots
+    c.first_word.result c.args.title c.deref_mut.ensures.value c.first_word.ensures
+    (kept_items now.slots (IsSlotStepped c.args.step c.args.actor c.is_free-back.result) c.deref_mut.result.now c.step_at.new.slots
+    c.first_word.result c.deref_mut.ensures.value h) refl refl refl h)
     (rw (← next, ← c.count_place.ensures) refl) (c.is_free-back.ensures ∙ ap back_after next) h.4).sound

@@ -42,7 +42,11 @@ point_words-requires-clause-inside c =
 pub returns-clause-ok : goal.returns-clause-ok
 returns-clause-ok c =
     let now = c.args.self.now in
-    let after : Tables = record now { holders = with_items now.holders c.give_bytes.new.holders; slots = with_item now.slots c.first_word-first.result (Some c.in_ok-entry.entry); homes = with_items now.homes c.point_words.new.homes } in
+    let after : Tables = record now {
+      holders = with_items now.holders c.give_bytes.new.holders;
+      slots = with_item now.slots c.first_word-first.result (Some c.in_ok-entry.entry);
+      homes = with_items now.homes c.point_words.new.homes;
+    } in
     let filled = c.give_bytes.ensures in
     let pointed = c.point_words.ensures in
     let kept = with_items_is now.holders c.give_bytes.new.holders (filled.len ∙ (ap length c.deref_mut.ensures.value ∙ sym now.holders.ok.0)) in
@@ -66,7 +70,11 @@ returns-clause-ok c =
 pub returns-clause-sound : goal.returns-clause-sound
 returns-clause-sound c =
     let now = c.args.self.now in
-    let after : Tables = record now { holders = with_items now.holders c.give_bytes.new.holders; slots = with_item now.slots c.first_word-first.result (Some c.in_ok-entry.entry); homes = with_items now.homes c.point_words.new.homes } in
+    let after : Tables = record now {
+      holders = with_items now.holders c.give_bytes.new.holders;
+      slots = with_item now.slots c.first_word-first.result (Some c.in_ok-entry.entry);
+      homes = with_items now.homes c.point_words.new.homes;
+    } in
     let filled = c.give_bytes.ensures in
     let pointed = c.point_words.ensures in
     let kept = with_items_is now.holders c.give_bytes.new.holders (filled.len ∙ (ap length c.deref_mut.ensures.value ∙ sym now.holders.ok.0)) in

@@ -19,7 +19,8 @@ returns-clause-happens c =
     let after : Tables = record now { slots = with_items now.slots c.hand_free_at.new.slots } in
     let h = c.hand_free_at.ensures in
     (hand_free_row now after c.args.from c.args.to c.args.title h.0 h.1 c.requires.sound c.requires.enabled
-    (changed_row now after (λ o n. IsNextSlot o n (Some c.args.to) o.own o.refs.items) c.deref_mut.result.now c.hand_free_at.new.slots c.first_word.result c.args.title c.deref_mut.ensures.value c.first_word.ensures
+    (changed_row now after (λ o n. IsNextSlot o n (Some c.args.to) o.own o.refs.items) c.deref_mut.result.now c.hand_free_at.new.slots
+    c.first_word.result c.args.title c.deref_mut.ensures.value c.first_word.ensures
     (kept_items now.slots (λ o n. IsNextSlot o n (Some c.args.to) o.own o.refs.items) c.deref_mut.result.now c.hand_free_at.new.slots c.first_word.result c.deref_mut.ensures.value h) refl refl refl h)
     refl h.4).happens
 
@@ -29,6 +30,7 @@ returns-clause-sound c =
     let after : Tables = record now { slots = with_items now.slots c.hand_free_at.new.slots } in
     let h = c.hand_free_at.ensures in
     (hand_free_row now after c.args.from c.args.to c.args.title h.0 h.1 c.requires.sound c.requires.enabled
-    (changed_row now after (λ o n. IsNextSlot o n (Some c.args.to) o.own o.refs.items) c.deref_mut.result.now c.hand_free_at.new.slots c.first_word.result c.args.title c.deref_mut.ensures.value c.first_word.ensures
+    (changed_row now after (λ o n. IsNextSlot o n (Some c.args.to) o.own o.refs.items) c.deref_mut.result.now c.hand_free_at.new.slots
+    c.first_word.result c.args.title c.deref_mut.ensures.value c.first_word.ensures
     (kept_items now.slots (λ o n. IsNextSlot o n (Some c.args.to) o.own o.refs.items) c.deref_mut.result.now c.hand_free_at.new.slots c.first_word.result c.deref_mut.ensures.value h) refl refl refl h)
     refl h.4).sound

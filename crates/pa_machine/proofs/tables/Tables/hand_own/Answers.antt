@@ -28,8 +28,10 @@ returns-clause-happens c =
     let after : Tables = record now { slots = with_items now.slots c.restate_at.new.slots } in
     let h = c.restate_at.ensures in
     (hand_own_row now after c.args.from c.args.to c.args.title h.0 h.1 c.requires.sound c.requires.enabled
-    (changed_row now after (λ o n. IsNextSlot o n o.free (Some (record { actor = c.args.to; state = Clean })) o.refs.items) c.deref_mut.result.now c.restate_at.new.slots c.first_word.result c.args.title c.deref_mut.ensures.value c.first_word.ensures
-    (kept_items now.slots (λ o n. IsNextSlot o n o.free (Some (record { actor = c.args.to; state = Clean })) o.refs.items) c.deref_mut.result.now c.restate_at.new.slots c.first_word.result c.deref_mut.ensures.value h) refl refl refl h)
+    (changed_row now after (λ o n. IsNextSlot o n o.free (Some (record { actor = c.args.to; state = Clean })) o.refs.items)
+    c.deref_mut.result.now c.restate_at.new.slots c.first_word.result c.args.title c.deref_mut.ensures.value c.first_word.ensures
+    (kept_items now.slots (λ o n. IsNextSlot o n o.free (Some (record { actor = c.args.to; state = Clean })) o.refs.items)
+    c.deref_mut.result.now c.restate_at.new.slots c.first_word.result c.deref_mut.ensures.value h) refl refl refl h)
     refl h.4).happens
 
 pub returns-clause-sound : goal.returns-clause-sound
@@ -38,6 +40,8 @@ returns-clause-sound c =
     let after : Tables = record now { slots = with_items now.slots c.restate_at.new.slots } in
     let h = c.restate_at.ensures in
     (hand_own_row now after c.args.from c.args.to c.args.title h.0 h.1 c.requires.sound c.requires.enabled
-    (changed_row now after (λ o n. IsNextSlot o n o.free (Some (record { actor = c.args.to; state = Clean })) o.refs.items) c.deref_mut.result.now c.restate_at.new.slots c.first_word.result c.args.title c.deref_mut.ensures.value c.first_word.ensures
-    (kept_items now.slots (λ o n. IsNextSlot o n o.free (Some (record { actor = c.args.to; state = Clean })) o.refs.items) c.deref_mut.result.now c.restate_at.new.slots c.first_word.result c.deref_mut.ensures.value h) refl refl refl h)
+    (changed_row now after (λ o n. IsNextSlot o n o.free (Some (record { actor = c.args.to; state = Clean })) o.refs.items)
+    c.deref_mut.result.now c.restate_at.new.slots c.first_word.result c.args.title c.deref_mut.ensures.value c.first_word.ensures
+    (kept_items now.slots (λ o n. IsNextSlot o n o.free (Some (record { actor = c.args.to; state = Clean })) o.refs.items)
+    c.deref_mut.result.now c.restate_at.new.slots c.first_word.result c.deref_mut.ensures.value h) refl refl refl h)
     refl h.4).sound

@@ -20,8 +20,12 @@ returns-clause-happens c =
     let after : Tables = record now { slots = with_items now.slots c.hand_ref_at.new.slots } in
     let h = c.hand_ref_at.ensures in
     (hand_ref_row now after c.args.from c.args.to c.args.title h.0 h.1 c.requires.sound c.requires.enabled
-    (changed_row now after (λ o n. (k : ℕ) × (k < length o.refs.items) × (get_or o.refs.items k 0 ≡ c.args.from) × IsNextSlot o n o.free o.own (set o.refs.items k c.args.to)) c.deref_mut.result.now c.hand_ref_at.new.slots c.first_word.result c.args.title c.deref_mut.ensures.value c.first_word.ensures
-    (kept_items now.slots (λ o n. (k : ℕ) × (k < length o.refs.items) × (get_or o.refs.items k 0 ≡ c.args.from) × IsNextSlot o n o.free o.own (set o.refs.items k c.args.to)) c.deref_mut.result.now c.hand_ref_at.new.slots c.first_word.result c.deref_mut.ensures.value h) refl refl refl h)
+    (changed_row now after (λ o n. (k : ℕ) × (k < length o.refs.items) × (get_or o.refs.items k 0 ≡ c.args.from)
+    × IsNextSlot o n o.free o.own (set o.refs.items k c.args.to)) c.deref_mut.result.now c.hand_ref_at.new.slots c.first_word.result
+    c.args.title c.deref_mut.ensures.value c.first_word.ensures
+    (kept_items now.slots (λ o n. (k : ℕ) × (k < length o.refs.items) × (get_or o.refs.items k 0 ≡ c.args.from)
+    × IsNextSlot o n o.free o.own (set o.refs.items k c.args.to)) c.deref_mut.result.now c.hand_ref_at.new.slots c.first_word.result
+    c.deref_mut.ensures.value h) refl refl refl h)
     refl h.4.0 h.4.1 h.4.2 h.4.3).happens
 
 pub returns-clause-sound : goal.returns-clause-sound
@@ -30,6 +34,10 @@ returns-clause-sound c =
     let after : Tables = record now { slots = with_items now.slots c.hand_ref_at.new.slots } in
     let h = c.hand_ref_at.ensures in
     (hand_ref_row now after c.args.from c.args.to c.args.title h.0 h.1 c.requires.sound c.requires.enabled
-    (changed_row now after (λ o n. (k : ℕ) × (k < length o.refs.items) × (get_or o.refs.items k 0 ≡ c.args.from) × IsNextSlot o n o.free o.own (set o.refs.items k c.args.to)) c.deref_mut.result.now c.hand_ref_at.new.slots c.first_word.result c.args.title c.deref_mut.ensures.value c.first_word.ensures
-    (kept_items now.slots (λ o n. (k : ℕ) × (k < length o.refs.items) × (get_or o.refs.items k 0 ≡ c.args.from) × IsNextSlot o n o.free o.own (set o.refs.items k c.args.to)) c.deref_mut.result.now c.hand_ref_at.new.slots c.first_word.result c.deref_mut.ensures.value h) refl refl refl h)
+    (changed_row now after (λ o n. (k : ℕ) × (k < length o.refs.items) × (get_or o.refs.items k 0 ≡ c.args.from)
+    × IsNextSlot o n o.free o.own (set o.refs.items k c.args.to)) c.deref_mut.result.now c.hand_ref_at.new.slots c.first_word.result
+    c.args.title c.deref_mut.ensures.value c.first_word.ensures
+    (kept_items now.slots (λ o n. (k : ℕ) × (k < length o.refs.items) × (get_or o.refs.items k 0 ≡ c.args.from)
+    × IsNextSlot o n o.free o.own (set o.refs.items k c.args.to)) c.deref_mut.result.now c.hand_ref_at.new.slots c.first_word.result
+    c.deref_mut.ensures.value h) refl refl refl h)
     refl h.4.0 h.4.1 h.4.2 h.4.3).sound

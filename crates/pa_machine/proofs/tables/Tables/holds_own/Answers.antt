@@ -9,5 +9,8 @@ returns-in-Some c =
     (λ yes. same.0 (c.is_owned_by.ensures.0 yes), λ holds. c.is_owned_by.ensures.1 (same.1 holds))
 
 pub returns-in-None : goal.returns-in-None
-returns-in-None c =
-    (λ yes. cc, λ holds. absurd (none_own c.args.self.now c.args.actor c.args.title c.args.state c.requires.sound (actor_is c.args.self.now c.args.actor c.requires.actor) (sym c.in-None.ensures) holds))
+returns-in-None c = (
+  λ yes. cc,
+  λ holds. absurd (none_own c.args.self.now c.args.actor c.args.title c.args.state c.requires.sound
+      (actor_is c.args.self.now c.args.actor c.requires.actor) (sym c.in-None.ensures) holds),
+)

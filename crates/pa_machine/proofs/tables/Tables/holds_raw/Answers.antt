@@ -14,15 +14,19 @@ returns-then-to-len c =
         λ yes. absurd (let z = n.0 in cc),
         λ holds.
             let ne = n.1 in
-            let last = reads_raw held c.args.actor (c.args.start + c.args.len - 1) (actor_is c.args.self.now c.args.actor c.requires) (holds (c.args.start + c.args.len - 1) (omega arith) (omega arith)) in
+            let last = reads_raw held c.args.actor (c.args.start + c.args.len - 1) (actor_is c.args.self.now c.args.actor c.requires)
+            (holds (c.args.start + c.args.len - 1) (omega arith) (omega arith)) in
             let past = get_or_past held.holders.items (c.args.start + c.args.len - 1) None (omega arith) in
             absurd cc,
       )
     ]
 
 pub returns-then-not-is_raw_of : goal.returns-then-not-is_raw_of
-returns-then-not-is_raw_of c =
-    (λ yes. cc, λ holds. c.if-not-is_raw_of.ensures.1 (reads_raw c.args.self.now c.args.actor c.loop-byte.byte (actor_is c.args.self.now c.args.actor c.requires) (holds c.loop-byte.byte (omega arith) (omega arith))))
+returns-then-not-is_raw_of c = (
+  λ yes. cc,
+  λ holds. c.if-not-is_raw_of.ensures.1 (reads_raw c.args.self.now c.args.actor c.loop-byte.byte
+      (actor_is c.args.self.now c.args.actor c.requires) (holds c.loop-byte.byte (omega arith) (omega arith))),
+)
 
 pub returns : goal.returns
 returns c = (

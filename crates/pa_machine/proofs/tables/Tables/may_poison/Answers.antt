@@ -9,4 +9,8 @@ returns-in-Some c =
     (λ yes. same.0 (c.can_poison.ensures.0 yes), λ h. c.can_poison.ensures.1 (same.1 h))
 
 pub returns-in-None : goal.returns-in-None
-returns-in-None c = (λ yes. cc, λ h. absurd (none_own c.args.self.now c.args.actor c.args.title h.0 c.requires.sound (actor_is c.args.self.now c.args.actor c.requires.actor) (sym c.in-None.ensures) h.1))
+returns-in-None c = (
+  λ yes. cc,
+  λ h. absurd (none_own c.args.self.now c.args.actor c.args.title h.0 c.requires.sound
+      (actor_is c.args.self.now c.args.actor c.requires.actor) (sym c.in-None.ensures) h.1),
+)

@@ -69,8 +69,12 @@ returns-clause-happens c =
     let r = reads_own now c.args.actor c.args.title own.0 c.requires.sound (actor_is now c.args.actor c.requires.enabled.0) own.1 in
     let done = c.progress_of-done.ensures r.0 _ r.1 r.3 in
     (poison_row now after c.args.actor c.args.title own.0 h.0 h.1 c.requires.sound c.requires.enabled own.1
-    (changed_row now after (λ o n. IsNextSlot o n o.free (Some (record { actor = c.args.actor; state = Poisoned (c.progress_of-done.result + 1) })) o.refs.items) c.deref_mut.result.now c.restate_at.new.slots c.first_word.result c.args.title c.deref_mut.ensures.value c.first_word.ensures
-    (kept_items now.slots (λ o n. IsNextSlot o n o.free (Some (record { actor = c.args.actor; state = Poisoned (c.progress_of-done.result + 1) })) o.refs.items) c.deref_mut.result.now c.restate_at.new.slots c.first_word.result c.deref_mut.ensures.value h) refl refl refl h)
+    (changed_row now after (λ o n. IsNextSlot o n o.free (Some
+    (record { actor = c.args.actor; state = Poisoned (c.progress_of-done.result + 1) })) o.refs.items) c.deref_mut.result.now
+    c.restate_at.new.slots c.first_word.result c.args.title c.deref_mut.ensures.value c.first_word.ensures
+    (kept_items now.slots (λ o n. IsNextSlot o n o.free (Some
+    (record { actor = c.args.actor; state = Poisoned (c.progress_of-done.result + 1) })) o.refs.items) c.deref_mut.result.now
+    c.restate_at.new.slots c.first_word.result c.deref_mut.ensures.value h) refl refl refl h)
     (rw (c.first_word-2.ensures, done) refl)
     (subst (λ (d : ℕ). IsNextSlot h.0.value h.1.value h.0.value.free (Some (record { actor = c.args.actor; state = Poisoned (d + 1) })) h.0.value.refs.items) done h.4)).happens
 
@@ -83,7 +87,11 @@ returns-clause-sound c =
     let r = reads_own now c.args.actor c.args.title own.0 c.requires.sound (actor_is now c.args.actor c.requires.enabled.0) own.1 in
     let done = c.progress_of-done.ensures r.0 _ r.1 r.3 in
     (poison_row now after c.args.actor c.args.title own.0 h.0 h.1 c.requires.sound c.requires.enabled own.1
-    (changed_row now after (λ o n. IsNextSlot o n o.free (Some (record { actor = c.args.actor; state = Poisoned (c.progress_of-done.result + 1) })) o.refs.items) c.deref_mut.result.now c.restate_at.new.slots c.first_word.result c.args.title c.deref_mut.ensures.value c.first_word.ensures
-    (kept_items now.slots (λ o n. IsNextSlot o n o.free (Some (record { actor = c.args.actor; state = Poisoned (c.progress_of-done.result + 1) })) o.refs.items) c.deref_mut.result.now c.restate_at.new.slots c.first_word.result c.deref_mut.ensures.value h) refl refl refl h)
+    (changed_row now after (λ o n. IsNextSlot o n o.free (Some
+    (record { actor = c.args.actor; state = Poisoned (c.progress_of-done.result + 1) })) o.refs.items) c.deref_mut.result.now
+    c.restate_at.new.slots c.first_word.result c.args.title c.deref_mut.ensures.value c.first_word.ensures
+    (kept_items now.slots (λ o n. IsNextSlot o n o.free (Some
+    (record { actor = c.args.actor; state = Poisoned (c.progress_of-done.result + 1) })) o.refs.items) c.deref_mut.result.now
+    c.restate_at.new.slots c.first_word.result c.deref_mut.ensures.value h) refl refl refl h)
     (rw (c.first_word-2.ensures, done) refl)
     (subst (λ (d : ℕ). IsNextSlot h.0.value h.1.value h.0.value.free (Some (record { actor = c.args.actor; state = Poisoned (d + 1) })) h.0.value.refs.items) done h.4)).sound

@@ -21,8 +21,10 @@ returns-in-Some-clause-happens c =
     let h = c.restate_at.ensures in
     let f = c.in-Some.ensures.some in
     (store_own_row now after c.args.actor c.args.at c.args.value f.0 f.1 h.0 h.1 c.requires.sound c.requires.enabled f.2 f.3
-    (changed_row now after (λ o n. IsNextSlot o n o.free (Some (record { actor = c.args.actor; state = Dirty })) o.refs.items) c.deref_mut.result.now c.restate_at.new.slots c.in-Some.place f.0.title c.deref_mut.ensures.value f.4
-    (kept_items now.slots (λ o n. IsNextSlot o n o.free (Some (record { actor = c.args.actor; state = Dirty })) o.refs.items) c.deref_mut.result.now c.restate_at.new.slots c.in-Some.place c.deref_mut.ensures.value h) refl refl refl h)
+    (changed_row now after (λ o n. IsNextSlot o n o.free (Some (record { actor = c.args.actor; state = Dirty })) o.refs.items)
+    c.deref_mut.result.now c.restate_at.new.slots c.in-Some.place f.0.title c.deref_mut.ensures.value f.4
+    (kept_items now.slots (λ o n. IsNextSlot o n o.free (Some (record { actor = c.args.actor; state = Dirty })) o.refs.items)
+    c.deref_mut.result.now c.restate_at.new.slots c.in-Some.place c.deref_mut.ensures.value h) refl refl refl h)
     refl h.4).happens
 
 pub returns-in-Some-clause-sound : goal.returns-in-Some-clause-sound
@@ -32,8 +34,10 @@ returns-in-Some-clause-sound c =
     let h = c.restate_at.ensures in
     let f = c.in-Some.ensures.some in
     (store_own_row now after c.args.actor c.args.at c.args.value f.0 f.1 h.0 h.1 c.requires.sound c.requires.enabled f.2 f.3
-    (changed_row now after (λ o n. IsNextSlot o n o.free (Some (record { actor = c.args.actor; state = Dirty })) o.refs.items) c.deref_mut.result.now c.restate_at.new.slots c.in-Some.place f.0.title c.deref_mut.ensures.value f.4
-    (kept_items now.slots (λ o n. IsNextSlot o n o.free (Some (record { actor = c.args.actor; state = Dirty })) o.refs.items) c.deref_mut.result.now c.restate_at.new.slots c.in-Some.place c.deref_mut.ensures.value h) refl refl refl h)
+    (changed_row now after (λ o n. IsNextSlot o n o.free (Some (record { actor = c.args.actor; state = Dirty })) o.refs.items)
+    c.deref_mut.result.now c.restate_at.new.slots c.in-Some.place f.0.title c.deref_mut.ensures.value f.4
+    (kept_items now.slots (λ o n. IsNextSlot o n o.free (Some (record { actor = c.args.actor; state = Dirty })) o.refs.items)
+    c.deref_mut.result.now c.restate_at.new.slots c.in-Some.place c.deref_mut.ensures.value h) refl refl refl h)
     refl h.4).sound
 
 pub index_mut-requires-2 : goal.index_mut-requires-2

@@ -18,7 +18,8 @@ returns-clause-happens c =
       slots = rw c.first_word.ensures refl;
       homes = refl;
       actors = refl;
-      holders = rw kept (subst (λ (b : List (Option ℕ)). IsFilled None b c.args.title.start (c.args.title.start + c.args.title.len) (Some c.args.actor) c.give_bytes.new.holders) c.deref_mut.ensures.value filled);
+      holders = rw kept (subst (λ (b : List (Option ℕ)). IsFilled None b c.args.title.start (c.args.title.start + c.args.title.len)
+          (Some c.args.actor) c.give_bytes.new.holders) c.deref_mut.ensures.value filled);
     })).happens
 
 pub returns-clause-sound : goal.returns-clause-sound
@@ -32,5 +33,6 @@ returns-clause-sound c =
       slots = rw c.first_word.ensures refl;
       homes = refl;
       actors = refl;
-      holders = rw kept (subst (λ (b : List (Option ℕ)). IsFilled None b c.args.title.start (c.args.title.start + c.args.title.len) (Some c.args.actor) c.give_bytes.new.holders) c.deref_mut.ensures.value filled);
+      holders = rw kept (subst (λ (b : List (Option ℕ)). IsFilled None b c.args.title.start (c.args.title.start + c.args.title.len)
+          (Some c.args.actor) c.give_bytes.new.holders) c.deref_mut.ensures.value filled);
     })).sound

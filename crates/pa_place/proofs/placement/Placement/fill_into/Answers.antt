@@ -19,7 +19,8 @@ returns-clause-empty c =
     let e = c.ready.ensures.root ∙ c.self.view_is in
     let real : c.args.class < 170 = search rules in
     let sound = subst (λ r. IsSound r) c.self.view_is c.is_sound.ensures.sound in
-    fill_refused c.args.class c.args.want c.args.pool.now c.ask-entry.new.pool c.args.self.now c.take.new.self.root c.take.new.titles.items c.ask-entry.result sound c.requires.born real c.requires.some
+    fill_refused c.args.class c.args.want c.args.pool.now c.ask-entry.new.pool c.args.self.now c.take.new.self.root
+    c.take.new.titles.items c.ask-entry.result sound c.requires.born real c.requires.some
     (fills_by c.args.class c.args.want c.args.pool.now c.ask-entry.new.pool c.args.self.now c.ask-entry.new.root.root c.take.new.self.root c.take.new.titles.items c.ask-entry.result
     (subst (λ r. AsksWhere c.args.class c.args.pool.now c.ask-entry.new.pool r c.ask-entry.new.root.root c.ask-entry.result) e c.ask-entry.ensures.asks)
     c.take.ensures.took)

@@ -17,17 +17,23 @@ invariant_of-self c =
     let s = c.self.inside.store in
     let e = ap (λ (z : RoomyRoot). z.root) c.self.view_is in
     let k = c.self.invariant.0 in
-    let a = gives (root_of s) (root_of c.give_all.new.self) c.args.titles.now (good_of s k) c.requires.few (subst (λ r. All (IsOut r) (map name_of c.args.titles.now)) (sym e) c.requires.out) c.requires.once c.give_all.ensures.returned c.give_all.ensures.ordered in
+    let a = gives (root_of s) (root_of c.give_all.new.self) c.args.titles.now (good_of s k) c.requires.few
+    (subst (λ r. All (IsOut r) (map name_of c.args.titles.now)) (sym e) c.requires.out) c.requires.once
+    c.give_all.ensures.returned c.give_all.ensures.ordered in
     let many = c.give_all.ensures.many in
-    let few = k.spans in
-    (kept_by c.give_all.new.self (root_of c.give_all.new.self) refl a.good (omega arith) c.give_all.ensures.filed, rw c.none-self-inside.ensures (no_rooms c.give_all.new.self c.self.inside.spare.items))
+    let few = k.spans in (
+      kept_by c.give_all.new.self (root_of c.give_all.new.self) refl a.good (omega arith) c.give_all.ensures.filed,
+      rw c.none-self-inside.ensures (no_rooms c.give_all.new.self c.self.inside.spare.items),
+    )
 
 pub returns-clause-step : goal.returns-clause-step
 returns-clause-step c = λ n.
     let s = c.self.inside.store in
     let e = ap (λ (z : RoomyRoot). z.root) c.self.view_is in
     let k = c.self.invariant.0 in
-    let a = gives (root_of s) (root_of c.give_all.new.self) c.args.titles.now (good_of s k) c.requires.few (subst (λ r. All (IsOut r) (map name_of c.args.titles.now)) (sym e) c.requires.out) c.requires.once c.give_all.ensures.returned c.give_all.ensures.ordered in
+    let a = gives (root_of s) (root_of c.give_all.new.self) c.args.titles.now (good_of s k) c.requires.few
+    (subst (λ r. All (IsOut r) (map name_of c.args.titles.now)) (sym e) c.requires.out) c.requires.once
+    c.give_all.ensures.returned c.give_all.ensures.ordered in
     subst (λ z. IsStep n n z (root_of c.give_all.new.self)) e (in_place n (root_of s) (root_of c.give_all.new.self) a)
 
 pub returns-clause-maps : goal.returns-clause-maps
@@ -35,5 +41,7 @@ returns-clause-maps c =
     let s = c.self.inside.store in
     let e = ap (λ (z : RoomyRoot). z.root) c.self.view_is in
     let k = c.self.invariant.0 in
-    let a = gives (root_of s) (root_of c.give_all.new.self) c.args.titles.now (good_of s k) c.requires.few (subst (λ r. All (IsOut r) (map name_of c.args.titles.now)) (sym e) c.requires.out) c.requires.once c.give_all.ensures.returned c.give_all.ensures.ordered in
+    let a = gives (root_of s) (root_of c.give_all.new.self) c.args.titles.now (good_of s k) c.requires.few
+    (subst (λ r. All (IsOut r) (map name_of c.args.titles.now)) (sym e) c.requires.out) c.requires.once
+    c.give_all.ensures.returned c.give_all.ensures.ordered in
     a.maps ∙ ap (λ (z : Root). z.maps) e

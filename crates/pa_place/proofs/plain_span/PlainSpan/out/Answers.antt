@@ -54,7 +54,8 @@ returns-then-title-name-clause-some c =
         provisioned = omega (arith, f, p, number, low);
         named = search rules;
         out = λ among. both_ways _ c.if-has.false
-            (c.has.ensures.1 (listed_back i.returned.items i.kept_from i.provisioned c.number_of-number.result number (subst (λ xs. Contains xs c.number_of-number.result) (sym q) (subst (Contains v.free) (sym f) among))));
+            (c.has.ensures.1 (listed_back i.returned.items i.kept_from i.provisioned c.number_of-number.result number
+            (subst (λ xs. Contains xs c.number_of-number.result) (sym q) (subst (Contains v.free) (sym f) among))));
       },
     )
 

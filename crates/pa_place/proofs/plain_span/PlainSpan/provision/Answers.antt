@@ -44,7 +44,8 @@ returns c =
     let more : pages ≡ more_pages v = c.max-pages.ensures ∙ ap (λ k. max (i.committed + 1) ((k * (i.provisioned + 1) + 4095) / 4096)) c.slot_size-size.ensures.size ∙ ap more_pages c.self.view_is in
     let most : c.span_of.result.slots ≡ slots_of v.class = ap (λ (s : SpanShape). s.slots) c.span_of.ensures.shape ∙ ap (λ (s : Span). slots_of s.class) c.self.view_is in
     let all : slots ≡ more_slots v =
-    c.min-slots.ensures ∙ ap (λ k. min (4096 * k / size) c.span_of.result.slots) more ∙ ap (λ k. min (4096 * more_pages v / k) c.span_of.result.slots) sized ∙ ap (min (4096 * more_pages v / slot_of v.class)) most in
+    c.min-slots.ensures ∙ ap (λ k. min (4096 * k / size) c.span_of.result.slots) more
+    ∙ ap (λ k. min (4096 * more_pages v / k) c.span_of.result.slots) sized ∙ ap (min (4096 * more_pages v / slot_of v.class)) most in
     let made : c.max-self-inside.result ≡ max v.made slots = c.max-self-inside.ensures ∙ ap (λ (s : Span). max s.made slots) c.self.view_is in
     ap (λ (s : Span). record s { committed = pages; provisioned = slots; made = c.max-self-inside.result; free = xs ++ numbers i.kept_from (slots - i.kept_from) }) c.self.view_is
     ∙ provisioned_is v xs i.kept_from pages slots c.max-self-inside.result is low c.requires.none more all made

@@ -23,6 +23,10 @@ invariant_of-self c =
           let found : IsFreeRun c.args.self.now c.args.count w.in-Some.first = w.in-Some.ensures.0 in
           let run = subst (λ p. IsFreeRun p c.args.count w.in-Some.first) (sym c.self.view_is) found in
           let e = w.push_reserved.ensures.capacity in
-          rw w.self-inside-is (omega (arith, c.self.invariant.0), rw w.push_reserved.ensures.items (took_sound s.supers s.entries (s.entries + 1) s.taken.items t c.self.invariant.1 c.requires.some run))
+          rw w.self-inside-is (
+            omega (arith, c.self.invariant.0),
+            rw w.push_reserved.ensures.items (took_sound s.supers s.entries (s.entries + 1) s.taken.items t c.self.invariant.1
+                c.requires.some run),
+          )
       | in_default w ↦ rw w.self-inside-is (c.self.invariant.0, entered_sound s.supers s.entries (s.entries + 1) s.taken.items c.self.invariant.1)
     ]

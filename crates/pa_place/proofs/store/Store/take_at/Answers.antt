@@ -87,7 +87,9 @@ tell_made-requires-clause-most c =
     let here = slice_get_read ss (length ss) c.args.at s refl within c.index_mut-span.ensures.value in
     let among = at_in ss c.args.at s here in
     let served = c.take_slot-title.ensures in
-    served_most s c.take_slot-title.new.self c.take_slot-title.result (c.requires.ready.sound.spans s among).counted (subst (λ (z : Span). z.allocated < slots_of z.class) (of_some c.requires.usable.0 s (sym c.requires.usable.1 ∙ here)) c.requires.usable.2) served
+    served_most s c.take_slot-title.new.self c.take_slot-title.result (c.requires.ready.sound.spans s among).counted
+    (subst (λ (z : Span). z.allocated < slots_of z.class) (of_some c.requires.usable.0 s (sym c.requires.usable.1 ∙ here))
+    c.requires.usable.2) served
 
 pub returns-clause-cut : goal.returns-clause-cut
 returns-clause-cut c = λ s e.

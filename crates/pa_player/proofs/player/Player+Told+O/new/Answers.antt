@@ -1,20 +1,28 @@
-use Rattle.std.proofs.Common.{refl}
+use Rattle.std.proofs.Common.{◌≡◌, ◌-◌, ◌*◌, refl, ap, ◌∙◌}
+use Rattle.pa_rules.specs.Sizes.{class_total}
 use Rattle.pa_player.proofs.Empty.{clear_at}
 use Rattle.pa_player.proofs.player.Player+Told+O.new.Goals as goal
 
 pub returns : goal.returns
-returns g c = record {
-  pool = c.in_ok-new.ensures.pool;
-  roots = c.in_ok-new.ensures.roots;
-  table = c.new-2.ensures.empty;
-  registers = c.in_ok-new-2.ensures;
-  cells = refl;
-  cell = λ k. clear_at 64 k;
-  caches = c.in_ok-new-3.ensures;
-  live = c.new-5.ensures;
-  quarantined = c.new-6.ensures;
-  cached = c.new-7.ensures;
-  told = c.requires.told;
-  many = refl;
-  phase = refl;
-}
+returns g c =
+    let h = c.args.head in
+    let classes : c.past_class.result - c.first_class.result ≡ class_total h.version = cc (c.past_class.ensures, c.first_class.ensures) in
+    record {
+      pool = c.in_ok-new.ensures.pool;
+      roots = c.in_ok-new.ensures.roots;
+      table = c.new-2.ensures.empty;
+      registers = c.in_ok-new-2.ensures;
+      cells = refl;
+      cell = λ k. clear_at 64 k;
+      caches = record {
+        count = c.in_ok-new-3.ensures.count ∙ ap (λ n. h.threads * h.partitions * n) classes;
+        empty = c.in_ok-new-3.ensures.empty;
+      };
+      live = c.new-5.ensures;
+      quarantined = c.new-6.ensures;
+      cached = c.new-7.ensures;
+      told = c.requires.told;
+      version = refl;
+      many = refl;
+      phase = refl;
+    }

@@ -1,78 +1,66 @@
-use Rattle.std.proofs.Common.{◌≡◌, ◌+◌, length, drop, sym, ap, ◌∙◌, subst, arith}
+use Rattle.std.proofs.Common.{◌≡◌, ◌+◌, ◌<◌, length, sym, ap, ◌∙◌, subst, arith}
 use Rattle.pa_slot.proofs.Outcomes.{any_err}
-use Rattle.pa_player.specs.Asks.{CanGive}
-use Rattle.pa_player.specs.Changes.{list_in, given}
+use Rattle.pa_buckets.specs.Limits.{first_class}
+use Rattle.pa_rules.specs.Sizes.{class_total}
 use Rattle.pa_player.specs.Playing.{list_place}
-use Rattle.pa_player.proofs.Purging.{purge_start, class_ready, class_few, purge_more, purge_end, IsGivenTo}
+use Rattle.pa_player.proofs.Purging.{AreGivenTo, lists_among, lists_start, lists_past, list_ready, list_few, lists_more, lists_end}
 use Rattle.pa_player.proofs.Settling.{lists_settled}
 use Rattle.pa_player.proofs.purge.Player+Told+O.give_all.Goals as goal
 
-pub loop-number-init : goal.loop-number-init
-loop-number-init g c = purge_start c.args.thread c.args.partition c.args.self.now c.requires.among c.requires.gives (grind (arith, c.requires.gives.four))
+pub lists-init : goal.lists-init
+lists-init g c =
+    let p = c.args.self.now in
+    let class : c.unwrap.result ≡ first_class p.version = grind (arith, c.unwrap.ensures, c.of.ensures.class, c.first_class-first.ensures) in
+    let start = c.list_of-start.ensures ∙ ap (list_place p.version p.partitions c.args.thread c.args.partition) class in
+    let next = c.next_with_slots-at.ensures in
+    lists_past c.next_with_slots-at.result (lists_start c.args.thread c.args.partition c.list_of-start.result p start c.requires (grind (arith, c.requires.gives.four)))
+    c.requires next.from (omega (arith, next.to, c.past_class.ensures, c.first_class-first.ensures)) next.empty
 
 pub places-requires : goal.places-requires
 places-requires g c =
-    let class : c.unwrap-class.result ≡ c.loop-number.number = grind (arith, c.unwrap-class.ensures, c.of.ensures.class) in
-    let at : c.list_of-at.result ≡ list_place c.loop-number.self.partitions c.args.thread c.args.partition c.loop-number.number =
-    c.list_of-at.ensures ∙ ap (list_place c.loop-number.self.partitions c.args.thread c.args.partition) class in
-    let many = ap (λ m. list_place m c.args.thread c.args.partition c.loop-number.number) c.loop-number.invariant.many in
-    record { among = omega (arith, at, many, c.requires.lists c.loop-number.number c.loop-number-test.true, c.loop-number.invariant.listed) }
+    let many = lists_among c.lists.invariant c.requires (omega (arith, c.lists-test.true, c.past_class.ensures, c.first_class-first.ensures)) in
+    record { among = omega (arith, many, c.lists.invariant.classes.listed, c.lists-test.true, c.past_class.ensures, c.first_class-first.ensures) }
 
 pub overflow_cast-slots : goal.overflow_cast-slots
 overflow_cast-slots g c =
-    let class : c.unwrap-class.result ≡ c.loop-number.number = grind (arith, c.unwrap-class.ensures, c.of.ensures.class) in
-    let at : c.list_of-at.result ≡ list_place c.loop-number.self.partitions c.args.thread c.args.partition c.loop-number.number =
-    c.list_of-at.ensures ∙ ap (list_place c.loop-number.self.partitions c.args.thread c.args.partition) class in
-    let size = ap length c.places.ensures.places ∙ ap (λ k. length (list_in c.loop-number.self k)) at in
-    omega (arith, size, class_few c.args.thread c.args.partition c.loop-number.number c.args.self.now c.loop-number.self c.loop-number.slots c.loop-number.invariant c.loop-number-test.true c.requires.among)
+    let few = list_few c.lists.invariant c.requires (omega (arith, c.lists-test.true, c.past_class.ensures, c.first_class-first.ensures)) in
+    omega (arith, few, ap length c.places.ensures.places)
 
 pub overflow_add-slots : goal.overflow_add-slots
 overflow_add-slots g c =
-    let class : c.unwrap-class.result ≡ c.loop-number.number = grind (arith, c.unwrap-class.ensures, c.of.ensures.class) in
-    let at : c.list_of-at.result ≡ list_place c.loop-number.self.partitions c.args.thread c.args.partition c.loop-number.number =
-    c.list_of-at.ensures ∙ ap (list_place c.loop-number.self.partitions c.args.thread c.args.partition) class in
-    let size = ap length c.places.ensures.places ∙ ap (λ k. length (list_in c.loop-number.self k)) at in
-    omega (arith, size, class_few c.args.thread c.args.partition c.loop-number.number c.args.self.now c.loop-number.self c.loop-number.slots c.loop-number.invariant c.loop-number-test.true c.requires.among)
+    let few = list_few c.lists.invariant c.requires (omega (arith, c.lists-test.true, c.past_class.ensures, c.first_class-first.ensures)) in
+    omega (arith, few, ap length c.places.ensures.places)
 
 pub give-requires-clause-at : goal.give-requires-clause-at
 give-requires-clause-at g c =
-    let class : c.unwrap-class.result ≡ c.loop-number.number = grind (arith, c.unwrap-class.ensures, c.of.ensures.class) in
-    let at : c.list_of-at.result ≡ list_place c.loop-number.self.partitions c.args.thread c.args.partition c.loop-number.number =
-    c.list_of-at.ensures ∙ ap (list_place c.loop-number.self.partitions c.args.thread c.args.partition) class in
-    let many = ap (λ m. list_place m c.args.thread c.args.partition c.loop-number.number) c.loop-number.invariant.many in
-    omega (arith, at, many, c.requires.lists c.loop-number.number c.loop-number-test.true, c.loop-number.invariant.listed)
+    let many = lists_among c.lists.invariant c.requires (omega (arith, c.lists-test.true, c.past_class.ensures, c.first_class-first.ensures)) in
+    omega (arith, many, c.lists.invariant.classes.listed, c.lists-test.true, c.past_class.ensures, c.first_class-first.ensures)
 
 pub give-requires-clause-can : goal.give-requires-clause-can
-give-requires-clause-can g c =
-    let class : c.unwrap-class.result ≡ c.loop-number.number = grind (arith, c.unwrap-class.ensures, c.of.ensures.class) in
-    let at : c.list_of-at.result ≡ list_place c.loop-number.self.partitions c.args.thread c.args.partition c.loop-number.number =
-    c.list_of-at.ensures ∙ ap (list_place c.loop-number.self.partitions c.args.thread c.args.partition) class in
-    subst (λ k. CanGive c.args.partition (drop 0 (list_in c.loop-number.self k)) c.loop-number.self) (sym at)
-    (class_ready c.args.thread c.args.partition c.loop-number.number c.args.self.now c.loop-number.self c.loop-number.slots c.loop-number.invariant c.loop-number-test.true)
+give-requires-clause-can g c = list_ready c.lists.invariant (omega (arith, c.lists-test.true, c.past_class.ensures, c.first_class-first.ensures))
 
-pub loop-number-preserved : goal.loop-number-preserved
-loop-number-preserved g c =
-    let class : c.unwrap-class.result ≡ c.loop-number.number = grind (arith, c.unwrap-class.ensures, c.of.ensures.class) in
-    let at : c.list_of-at.result ≡ list_place c.loop-number.self.partitions c.args.thread c.args.partition c.loop-number.number =
-    c.list_of-at.ensures ∙ ap (list_place c.loop-number.self.partitions c.args.thread c.args.partition) class in
-    let size : length c.places.result.now ≡ length (list_in c.loop-number.self (list_place c.loop-number.self.partitions c.args.thread c.args.partition c.loop-number.number)) =
-    ap length c.places.ensures.places ∙ ap (λ k. length (list_in c.loop-number.self k)) at in
-    subst (λ k. IsGivenTo c.args.thread c.args.partition (c.loop-number.number + 1) c.args.self.now c.give.new.self (c.loop-number.slots + k)) (sym size)
-    (purge_more c.args.thread c.args.partition c.loop-number.number c.args.self.now c.loop-number.self c.give.new.self c.loop-number.slots c.loop-number.invariant c.loop-number-test.true c.requires.among
-    (c.in_ok-give.ensures.given ∙ ap (λ k. given c.args.partition k 0 c.loop-number.self) at))
+pub next_with_slots-at-requires-in-lists-clause-among : goal.next_with_slots-at-requires-in-lists-clause-among
+next_with_slots-at-requires-in-lists-clause-among g c =
+    let p = c.args.self.now in
+    let more : c.lists.at < c.list_of-start.result + class_total p.version = omega (arith, c.lists-test.true, c.past_class.ensures, c.first_class-first.ensures) in
+    let many = lists_among c.lists.invariant c.requires more in
+    let after = lists_more c.give.new.self c.lists.invariant c.requires more c.in_ok-give.ensures.given in
+    omega (arith, many, after.classes.listed, c.past_class.ensures, c.first_class-first.ensures)
 
-pub returns-clause-given : goal.returns-clause-given
-returns-clause-given g c =
-    let past = c.loop-number-test.false in
-    let last = c.loop-number.auto.number-end in
-    (purge_end c.args.thread c.args.partition c.loop-number.number c.args.self.now c.loop-number.self c.loop-number.slots c.loop-number.invariant (omega arith)).0
+pub lists-preserved : goal.lists-preserved
+lists-preserved g c =
+    let more : c.lists.at < c.list_of-start.result + class_total c.args.self.now.version = omega (arith, c.lists-test.true, c.past_class.ensures, c.first_class-first.ensures) in
+    let next = c.next_with_slots-at-in-lists.ensures in
+    subst (λ n. AreGivenTo c.args.thread c.args.partition c.list_of-start.result c.next_with_slots-at-in-lists.result c.args.self.now c.give.new.self (c.lists.slots + n))
+    (sym (ap length c.places.ensures.places))
+    (lists_past c.next_with_slots-at-in-lists.result (lists_more c.give.new.self c.lists.invariant c.requires more c.in_ok-give.ensures.given)
+    c.requires next.from (omega (arith, next.to, c.past_class.ensures, c.first_class-first.ensures)) next.empty)
+
+pub returns : goal.returns
+returns g c =
+    let end = lists_end c.lists.invariant (omega (arith, c.lists-test.false, c.past_class.ensures, c.first_class-first.ensures)) in
+    record { slots = end.1; given = end.0; same = tt }
 
 pub returns-in_err-give-clause-same : goal.returns-in_err-give-clause-same
 returns-in_err-give-clause-same g c =
-    any_err _ _ (c.in_err-give.ensures.same ∙ lists_settled c.args.thread c.args.partition c.loop-number.number c.args.self.now c.loop-number.self c.loop-number.slots c.loop-number.invariant)
-
-pub returns-clause-slots : goal.returns-clause-slots
-returns-clause-slots g c =
-    let past = c.loop-number-test.false in
-    let last = c.loop-number.auto.number-end in
-    (purge_end c.args.thread c.args.partition c.loop-number.number c.args.self.now c.loop-number.self c.loop-number.slots c.loop-number.invariant (omega arith)).1
+    any_err _ _ (c.in_err-give.ensures.same ∙ lists_settled c.args.thread c.args.partition _ c.args.self.now c.lists.self c.lists.slots c.lists.invariant.classes)

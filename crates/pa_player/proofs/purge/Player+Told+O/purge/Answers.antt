@@ -23,7 +23,8 @@ overflow_add-slots g c =
     let can = purge_ready c.args.self.now c.args.thread c.requires in
     let four = can.four in
     let lt = c.loop-partition-test.true in
-    let few = slots_few c.args.thread c.loop-partition.partition c.args.self.now c.loop-partition.self c.loop-partition.slots c.in_ok-slots.field-0 c.loop-partition.invariant lt c.in_ok-slots.ensures.slots in
+    let few = slots_few c.args.thread c.loop-partition.partition c.args.self.now c.loop-partition.self c.loop-partition.slots
+    c.in_ok-slots.field-0 c.loop-partition.invariant lt c.in_ok-slots.ensures.slots in
     let so_far = c.loop-partition.invariant.few in
     omega arith
 

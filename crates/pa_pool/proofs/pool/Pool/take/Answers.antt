@@ -39,7 +39,8 @@ invariant_of-self g c =
     let noted = subst (λ f. MakesEntry 4 (pool_numbers (entry f)) c.args.seat.now c.append-index.new.lender x.seat c.append-index.new.host) c.in-Some.is c.append-index.ensures.noted in
     let made = made_by _ (entry found) _ _ x.seat.view c.append-index.new.host.view noted.0 noted.1 c.append-index.ensures.again.1 in
     let ends = take_ends c.args.line c.args.partition c.args.count x.plan.supers x.entries.items x.seat.view c.append-index.new.host.view noted.0 c.in-Some.first c.append-index.result
-    c.hand_run.new.seat.view c.hand_run.result.view c.hand_run.ensures.left c.hand_run.ensures.given c.append-index.ensures.index c.hand_run.ensures.parted c.self.invariant.2 c.requires.count.0 lowest made c.aware.ensures.aware in
+    c.hand_run.new.seat.view c.hand_run.result.view c.hand_run.ensures.left c.hand_run.ensures.given c.append-index.ensures.index
+    c.hand_run.ensures.parted c.self.invariant.2 c.requires.count.0 lowest made c.aware.ensures.aware in
     let plan = plan_follows x.plan c.take-found.new.self x.entries.items c.append-index.new.entries.items (entry found) c.hand_run.new.seat.view c.self.invariant.1 c.in-Some.ensures.after
     (subst (λ f. c.append-index.new.entries.items ≡ x.entries.items ++ entry f ∷ []) c.in-Some.is c.append-index.ensures.entries) ends.0 in (
       c.hand_run.ensures.regions.0 ∙ (c.append-index.ensures.regions.1 ∙ c.self.invariant.0),
@@ -79,7 +80,8 @@ returns-in-Some-clause-took g c =
       spare = min (vec_capacity c.append-index.new.entries) 2147483647 - length c.append-index.new.entries.items;
     } in
     let same = subst (λ y. IsAsBefore c.args.self.now y) (sym {A = PoolValue} c.self.view_is) c.room.ensures.same in
-    taken_so c.args.line c.args.partition c.args.count found c.append-index.result c.args.seat.now c.append-index.new.lender c.append-index.new.host c.args.self.now was now same c.append-index.ensures.index lowest
+    taken_so c.args.line c.args.partition c.args.count found c.append-index.result c.args.seat.now c.append-index.new.lender
+    c.append-index.new.host c.args.self.now was now same c.append-index.ensures.index lowest
     noted.0 noted.1 (subst (λ f. c.append-index.new.entries.items ≡ x.entries.items ++ entry f ∷ []) c.in-Some.is c.append-index.ensures.entries)
     (ap (λ (s : PoolState). s.supers) c.in-Some.ensures.after) (ap (λ (v : View). list_of 4 v) c.hand_run.ensures.left)
 
@@ -92,7 +94,8 @@ returns-in-Some-clause-note g c =
     let noted = subst (λ f. MakesEntry 4 (pool_numbers (entry f)) c.args.seat.now c.append-index.new.lender x.seat c.append-index.new.host) c.in-Some.is c.append-index.ensures.noted in
     let made = made_by _ (entry found) _ _ x.seat.view c.append-index.new.host.view noted.0 noted.1 c.append-index.ensures.again.1 in
     let ends = take_ends c.args.line c.args.partition c.args.count x.plan.supers x.entries.items x.seat.view c.append-index.new.host.view noted.0 c.in-Some.first c.append-index.result
-    c.hand_run.new.seat.view c.hand_run.result.view c.hand_run.ensures.left c.hand_run.ensures.given c.append-index.ensures.index c.hand_run.ensures.parted c.self.invariant.2 c.requires.count.0 lowest made c.aware.ensures.aware in (
+    c.hand_run.new.seat.view c.hand_run.result.view c.hand_run.ensures.left c.hand_run.ensures.given c.append-index.ensures.index
+    c.hand_run.ensures.parted c.self.invariant.2 c.requires.count.0 lowest made c.aware.ensures.aware in (
       c.hand_run.ensures.regions.1 ∙ (c.append-index.ensures.regions.1 ∙ c.self.invariant.0),
       record { run = ends.1.0; only = ends.1.1; list = ends.2 },
     )
@@ -111,7 +114,8 @@ returns-in-None-clause-refused g c =
       spare = min (vec_capacity c.append-index.new.entries) 2147483647 - length c.append-index.new.entries.items;
     } in
     let same = subst (λ y. IsAsBefore c.args.self.now y) (sym {A = PoolValue} c.self.view_is) c.room.ensures.same in
-    taken_so c.args.line c.args.partition c.args.count None c.append-index.result c.args.seat.now c.append-index.new.lender c.append-index.new.host c.args.self.now was now same c.append-index.ensures.index lowest
+    taken_so c.args.line c.args.partition c.args.count None c.append-index.result c.args.seat.now c.append-index.new.lender
+    c.append-index.new.host c.args.self.now was now same c.append-index.ensures.index lowest
     noted.0 noted.1 (subst (λ f. c.append-index.new.entries.items ≡ x.entries.items ++ entry f ∷ []) c.in-None.is c.append-index.ensures.entries)
     (ap (λ (s : PoolState). s.supers) c.in-None.ensures.after) refl
 
@@ -120,5 +124,6 @@ returns-in-Some-clause-seen g c =
     let x = c.self.inside in
     let entry = take_entry c.args.line c.args.partition c.args.count in
     let noted = subst (λ f. MakesEntry 4 (pool_numbers (entry f)) c.args.seat.now c.append-index.new.lender x.seat c.append-index.new.host) c.in-Some.is c.append-index.ensures.noted in
-    taken_seen c.args.line c.args.partition c.args.count c.in-Some.first c.append-index.result x.plan.supers _ x.entries.items _ c.append-index.new.lender.view x.seat.view c.append-index.new.host.view noted.0
+    taken_seen c.args.line c.args.partition c.args.count c.in-Some.first c.append-index.result x.plan.supers _ x.entries.items _
+    c.append-index.new.lender.view x.seat.view c.append-index.new.host.view noted.0
     c.self.invariant.2 noted.1 c.append-index.ensures.index

@@ -13,8 +13,11 @@ use Rattle.pa_region.proofs.region.Region.count_step.Goals as goal
 
 pub count_index-word-requires : goal.count_index-word-requires
 count_index-word-requires c =
-    let can = subst (λ (h : Share). CanCount c.args.step c.args.title h.view) (sym c.seat.view_is) c.requires.able in
-    (byte_word_count c.seat.inside.seat.table_id, c.seat.invariant.1.well c.args.title (held_title c.seat.inside.seat.me.0 c.args.title (handle_held c.args.step c.args.title c.seat.inside.seat.me.0 can.0)))
+    let can = subst (λ (h : Share). CanCount c.args.step c.args.title h.view) (sym c.seat.view_is) c.requires.able in (
+      byte_word_count c.seat.inside.seat.table_id,
+      c.seat.invariant.1.well c.args.title
+          (held_title c.seat.inside.seat.me.0 c.args.title (handle_held c.args.step c.args.title c.seat.inside.seat.me.0 can.0)),
+    )
 
 pub add_as-requires-clause-region : goal.add_as-requires-clause-region
 add_as-requires-clause-region c =
@@ -26,7 +29,8 @@ add_as-requires-clause-region c =
 pub add_as-requires-clause-allowed : goal.add_as-requires-clause-allowed
 add_as-requires-clause-allowed c =
     let can = subst (λ (h : Share). CanCount c.args.step c.args.title h.view) (sym c.seat.view_is) c.requires.able in
-    count_allowed_by c.args.step c.args.title c.self.inside.table.shared.table_id.slots c.seat.inside.seat.id c.count_index-word.result c.added.result c.seat.inside.seat.me c.count_index-word.ensures c.added.ensures can
+    count_allowed_by c.args.step c.args.title c.self.inside.table.shared.table_id.slots c.seat.inside.seat.id c.count_index-word.result
+    c.added.result c.seat.inside.seat.me c.count_index-word.ensures c.added.ensures can
 
 pub invariant_of-seat : goal.invariant_of-seat
 invariant_of-seat c =
@@ -36,8 +40,11 @@ invariant_of-seat c =
     let region = c.add_as.ensures.seat.0 in (
       told.1 ∙ c.seat.invariant.0,
       subst (λ (z : TableId). IsSeatSound z c.add_as.new.seat.me.0) (sym region)
-          (subst (λ (w : View). IsSeatSound c.seat.inside.seat.table_id w) (sym told.0) (count_sound c.seat.inside.seat.table_id c.args.step c.args.title c.add_as.result before can c.seat.invariant.1)),
-      stakes_kept c.seat.inside.stakes before c.add_as.new.seat.me.0 (λ k. ap (λ (w : View). stake_of w k) told.0 ∙ count_stakes c.args.step c.args.title c.add_as.result before can.1 k) c.seat.invariant.2,
+          (subst (λ (w : View). IsSeatSound c.seat.inside.seat.table_id w) (sym told.0)
+          (count_sound c.seat.inside.seat.table_id c.args.step c.args.title c.add_as.result before can c.seat.invariant.1)),
+      stakes_kept c.seat.inside.stakes before c.add_as.new.seat.me.0
+          (λ k. ap (λ (w : View). stake_of w k) told.0 ∙ count_stakes c.args.step c.args.title c.add_as.result before can.1 k)
+          c.seat.invariant.2,
       c.add_as.ensures.aware,
     )
 

@@ -54,7 +54,8 @@ invariant_of-seat c =
       told.1 ∙ c.seat-2.invariant.0,
       subst (λ (z : TableId). IsSeatSound z c.title_as.new.seat.me.0) (sym c.title_as.ensures.seat.0)
           (subst (λ (u : View). IsSeatSound c.seat-2.inside.seat.table_id u) (sym told.0) (titled_sound c.seat-2.inside.seat.table_id t c.seat-2.inside.seat.me.0 c.seat-2.invariant.1 can)),
-      stakes_kept c.seat-2.inside.stakes c.seat-2.inside.seat.me.0 c.title_as.new.seat.me.0 (stakes_equal c.seat-2.inside.seat.me.0 c.title_as.new.seat.me.0 (ap (λ (u : View). u.stakes) told.0)) c.seat-2.invariant.2,
+      stakes_kept c.seat-2.inside.stakes c.seat-2.inside.seat.me.0 c.title_as.new.seat.me.0
+          (stakes_equal c.seat-2.inside.seat.me.0 c.title_as.new.seat.me.0 (ap (λ (u : View). u.stakes) told.0)) c.seat-2.invariant.2,
       c.title_as.ensures.aware,
     )
 

@@ -10,8 +10,11 @@ use Rattle.pa_region.proofs.region.Region.poison_next.Goals as goal
 pub poison_as-requires-clause-region : goal.poison_as-requires-clause-region
 poison_as-requires-clause-region c =
     let can = subst (λ (h : Share). CanPoison c.args.title c.args.word h.view) (sym c.seat.view_is) c.requires.able in
-    let same = ap (λ (h : Share). h.region) c.seat.view_is ∙ (c.requires.region ∙ sym c.self.view_is) in
-    (same, poison_inside c.seat.inside.seat.table_id c.self.inside.table.shared.table_id c.args.title c.args.word c.content_index-place.result c.seat.inside.seat.me.0 same c.seat.invariant.1 can c.content_index-place.ensures)
+    let same = ap (λ (h : Share). h.region) c.seat.view_is ∙ (c.requires.region ∙ sym c.self.view_is) in (
+      same,
+      poison_inside c.seat.inside.seat.table_id c.self.inside.table.shared.table_id c.args.title c.args.word
+          c.content_index-place.result c.seat.inside.seat.me.0 same c.seat.invariant.1 can c.content_index-place.ensures,
+    )
 
 pub poison_as-requires-clause-allowed : goal.poison_as-requires-clause-allowed
 poison_as-requires-clause-allowed c =
@@ -24,7 +27,8 @@ invariant_of-seat c =
       told.1 ∙ c.seat.invariant.0,
       subst (λ (z : TableId). IsSeatSound z c.poison_as.new.seat.me.0) (sym c.poison_as.ensures.seat.0)
           (subst (λ (w : View). IsSeatSound c.seat.inside.seat.table_id w) (sym told.0) (poison_sound c.seat.inside.seat.table_id c.args.title c.args.word c.seat.inside.seat.me.0 c.seat.invariant.1)),
-      stakes_kept c.seat.inside.stakes c.seat.inside.seat.me.0 c.poison_as.new.seat.me.0 (stakes_equal c.seat.inside.seat.me.0 c.poison_as.new.seat.me.0 (ap (λ (w : View). w.stakes) told.0)) c.seat.invariant.2,
+      stakes_kept c.seat.inside.stakes c.seat.inside.seat.me.0 c.poison_as.new.seat.me.0
+          (stakes_equal c.seat.inside.seat.me.0 c.poison_as.new.seat.me.0 (ap (λ (w : View). w.stakes) told.0)) c.seat.invariant.2,
       c.poison_as.ensures.aware,
     )
 

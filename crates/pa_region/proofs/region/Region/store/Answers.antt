@@ -24,7 +24,8 @@ invariant_of-seat c =
       told.1 ∙ c.seat.invariant.0,
       subst (λ (z : TableId). IsSeatSound z c.store_as.new.seat.me.0) (sym c.store_as.ensures.seat.0)
           (subst (λ (w : View). IsSeatSound c.seat.inside.seat.table_id w) (sym told.0) (store_sound c.seat.inside.seat.table_id c.args.at c.args.value c.seat.inside.seat.me.0 c.seat.invariant.1)),
-      stakes_kept c.seat.inside.stakes c.seat.inside.seat.me.0 c.store_as.new.seat.me.0 (stakes_equal c.seat.inside.seat.me.0 c.store_as.new.seat.me.0 (ap (λ (w : View). w.stakes) told.0)) c.seat.invariant.2,
+      stakes_kept c.seat.inside.stakes c.seat.inside.seat.me.0 c.store_as.new.seat.me.0
+          (stakes_equal c.seat.inside.seat.me.0 c.store_as.new.seat.me.0 (ap (λ (w : View). w.stakes) told.0)) c.seat.invariant.2,
       c.store_as.ensures.aware,
     )
 

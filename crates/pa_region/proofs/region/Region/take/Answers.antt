@@ -24,7 +24,8 @@ able_inside mine seat other note e f clean able = record {
 pub take_as-requires-clause-allowed : goal.take_as-requires-clause-allowed
 take_as-requires-clause-allowed c =
     take_allowed c.seat.inside.seat.id c.other.inside.seat.id c.seat.inside.seat.me.0 c.other.inside.seat.me.0
-    (able_inside (record { region = c.seat.inside.seat.table_id; view = c.seat.inside.seat.me.0 }) c.args.seat.now (record { region = c.other.inside.seat.table_id; view = c.other.inside.seat.me.0 }) c.args.note
+    (able_inside (record { region = c.seat.inside.seat.table_id; view = c.seat.inside.seat.me.0 }) c.args.seat.now
+    (record { region = c.other.inside.seat.table_id; view = c.other.inside.seat.me.0 }) c.args.note
     c.seat.view_is (c.other.view_is ∙ c.note.view_is) (subst (λ (h : Share). unclean_of h.view ≡ 0) (sym c.other.view_is) c.note.invariant) c.requires.able)
 
 pub invariant_of-seat : goal.invariant_of-seat

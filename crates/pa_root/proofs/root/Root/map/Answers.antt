@@ -251,8 +251,12 @@ invariant_of-self-2 g c =
     let named : root_entry line (Map asked (record { start = c.cut_map-title.result.start; born = asked }) len) ≡ e =
     ap (λ (z : Title). root_entry line (Map asked (record { start = z.start; born = asked }) len)) is in
     let (m, noted_then) = c.append.ensures.noted in
-    let noted : IsNoted (least_stake a.stakes) p (root_numbers (root_entry line (Map asked (record { start = c.cut_map-title.result.start; born = asked }) len))) a c.append.new.lender.view c.hand-note.new.seat.view now m =
-    subst (λ (z : View). IsNoted (least_stake z.stakes) p (root_numbers (root_entry line (Map asked (record { start = c.cut_map-title.result.start; born = asked }) len))) z c.append.new.lender.view c.hand-note.new.seat.view now m)
+    let noted : IsNoted (least_stake a.stakes) p (root_numbers
+    (root_entry line (Map asked (record { start = c.cut_map-title.result.start; born = asked }) len))) a c.append.new.lender.view
+    c.hand-note.new.seat.view now m =
+    subst (λ (z : View). IsNoted (least_stake z.stakes) p (root_numbers
+    (root_entry line (Map asked (record { start = c.cut_map-title.result.start; born = asked }) len))) z c.append.new.lender.view
+    c.hand-note.new.seat.view now m)
     (search rules) noted_then in
     let noted' : IsNoted (least_stake a.stakes) p (root_numbers e) a c.append.new.lender.view y now m =
     subst (λ h. IsNoted (least_stake a.stakes) p (root_numbers e) a c.append.new.lender.view h now m) left
@@ -260,7 +264,8 @@ invariant_of-self-2 g c =
     let sound =
     mapped_sound p line len asked first s r v a w note x has now m c.append.ensures.aware.1 (subst IsAware left c.aware-6.ensures.aware) noted'.hosts noted'.list noted'.says in
     let grown : c.append.new.journal.items ≡ js ++ e ∷ [] =
-    c.append.ensures.journal ∙ (ap (λ (l : Vec RootEntry Global). l.items ++ root_entry line (Map asked (record { start = c.cut_map-title.result.start; born = asked }) len) ∷ []) c.in-Ok.ensures.journal
+    c.append.ensures.journal ∙ (ap (λ (l : Vec RootEntry Global). l.items ++ root_entry line
+    (Map asked (record { start = c.cut_map-title.result.start; born = asked }) len) ∷ []) c.in-Ok.ensures.journal
     ∙ ap (λ z. js ++ z ∷ []) named) in
     let more = length-append js (e ∷ []) in
     let size : length c.append.new.journal.items ≡ length js + 1 = ap length grown ∙ more in
@@ -322,14 +327,19 @@ returns-clause-gave g c =
     let named : root_entry line (Map asked (record { start = c.cut_map-title.result.start; born = asked }) len) ≡ e =
     ap (λ (z : Title). root_entry line (Map asked (record { start = z.start; born = asked }) len)) is in
     let (m, noted_then) = c.append.ensures.noted in
-    let noted : IsNoted (least_stake a.stakes) p (root_numbers (root_entry line (Map asked (record { start = c.cut_map-title.result.start; born = asked }) len))) a after c.hand-note.new.seat.view now m =
-    subst (λ (z : View). IsNoted (least_stake z.stakes) p (root_numbers (root_entry line (Map asked (record { start = c.cut_map-title.result.start; born = asked }) len))) z after c.hand-note.new.seat.view now m)
+    let noted : IsNoted (least_stake a.stakes) p (root_numbers
+    (root_entry line (Map asked (record { start = c.cut_map-title.result.start; born = asked }) len))) a after
+    c.hand-note.new.seat.view now m =
+    subst (λ (z : View). IsNoted (least_stake z.stakes) p (root_numbers
+    (root_entry line (Map asked (record { start = c.cut_map-title.result.start; born = asked }) len))) z after
+    c.hand-note.new.seat.view now m)
     (search rules) noted_then in
     let noted' : IsNoted (least_stake a.stakes) p (root_numbers e) a after y now m =
     subst (λ h. IsNoted (least_stake a.stakes) p (root_numbers e) a after h now m) left
     (subst (λ z. IsNoted (least_stake a.stakes) p (root_numbers z) a after c.hand-note.new.seat.view now m) named noted) in
     let grown : c.append.new.journal.items ≡ js ++ e ∷ [] =
-    c.append.ensures.journal ∙ (ap (λ (l : Vec RootEntry Global). l.items ++ root_entry line (Map asked (record { start = c.cut_map-title.result.start; born = asked }) len) ∷ []) c.in-Ok.ensures.journal
+    c.append.ensures.journal ∙ (ap (λ (l : Vec RootEntry Global). l.items ++ root_entry line
+    (Map asked (record { start = c.cut_map-title.result.start; born = asked }) len) ∷ []) c.in-Ok.ensures.journal
     ∙ ap (λ z. js ++ z ∷ []) named) in
     let s_now = state_of now c.append.new.journal.items in
     let told : MapTells r p line len v after c.hand-note.result.view t s s_now =

@@ -126,7 +126,8 @@ invariant_of-self-2 g c =
     let left : IsAware (left_after (run_parcel (super_page_at t.start) (supers_for t.len) t.born) k.new.root.view) = subst IsAware h.ensures.left h.ensures.aware in
     let noted : IsNoted (least_stake v2.stakes) g.row.P (root_numbers e) v2 c.append.new.lender.view y2 x m =
     subst (λ (z : View). IsNoted (least_stake z.stakes) g.row.P (root_numbers e) z c.append.new.lender.view y2 x m) (search rules) noted_then in
-    let sound = sound_after g.row.P r k.result s t v k.new.seat.view k.new.root.view w b c.args.line a.result q (least_stake v2.stakes) v2 c.append.new.lender.view y2 x m given noted left c.append.ensures.aware.1 in
+    let sound = sound_after g.row.P r k.result s t v k.new.seat.view k.new.root.view w b c.args.line a.result q (least_stake v2.stakes) v2
+    c.append.new.lender.view y2 x m given noted left c.append.ensures.aware.1 in
     let same = c.make_room.ensures.same in
     let grown : c.append.new.journal.items ≡ s.journal ++ e ∷ [] = c.append.ensures.journal ∙ ap (λ js. js ++ e ∷ []) same in
     let more = length-append s.journal (e ∷ []) in

@@ -22,7 +22,8 @@ next_phase-requires-clause-going g c κs within = (c.loop-line.line-index, going
 pub index_mut-requires : goal.index_mut-requires
 index_mut-requires g c =
     let long = c.loop-line.queues.ok.0 in
-    let there = line_there c.args.self.now.trace.now c.loop-line.line-index c.loop-line.phase c.loop-line.workers c.loop-line.queues.items c.loop-line.seat.view c.loop-line.report.items c.requires.limits
+    let there = line_there c.args.self.now.trace.now c.loop-line.line-index c.loop-line.phase c.loop-line.workers c.loop-line.queues.items
+    c.loop-line.seat.view c.loop-line.report.items c.requires.limits
     c.loop-line.invariant.going c.as_slice-line-items.result.now _ c.in-Do.thread c.in-Do.op c.as_slice-line-items.ensures c.loop-line-test.true c.in-Do.is in
     omega arith
 
@@ -55,7 +56,8 @@ loop-line-preserved g c =
             small = omega arith;
             going =
                 going_as
-                (line_pushed c.args.self.now.trace.now i c.loop-line.phase c.loop-line.workers c.loop-line.queues.items c.loop-line.seat.view c.loop-line.report.items c.requires.limits so.going
+                (line_pushed c.args.self.now.trace.now i c.loop-line.phase c.loop-line.workers c.loop-line.queues.items
+                c.loop-line.seat.view c.loop-line.report.items c.requires.limits so.going
                 c.as_slice-line-items.result.now _ w.in-Do.thread w.in-Do.op c.as_slice-line-items.ensures c.loop-line-test.true w.in-Do.is
                 c.loop-line.number w.index_mut.result.now w.push.new.self so.number_is w.index_mut.ensures.value w.in_ok-push-in-Do.ensures.pushed)
                 w.phase-is w.workers-is (ap (λ v. v.items) w.queues-is) (ap (λ s. s.view) w.seat-is) (ap (λ v. v.items) w.report-is);
@@ -64,22 +66,26 @@ loop-line-preserved g c =
 
 pub pass_phase-requires-clause-many : goal.pass_phase-requires-clause-many
 pass_phase-requires-clause-many g c κs within =
-    many_here c.args.self.now.trace.now c.loop-line.line-index c.loop-line.phase c.loop-line.workers c.loop-line.queues.items c.loop-line.seat.view c.loop-line.report.items c.requires.limits
+    many_here c.args.self.now.trace.now c.loop-line.line-index c.loop-line.phase c.loop-line.workers c.loop-line.queues.items
+    c.loop-line.seat.view c.loop-line.report.items c.requires.limits
     c.loop-line.invariant.going
 
 pub pass_phase-requires-clause-ready : goal.pass_phase-requires-clause-ready
 pass_phase-requires-clause-ready g c κs within =
-    ready_here c.args.self.now.trace.now c.loop-line.line-index c.loop-line.phase c.loop-line.workers c.deref.result.now c.loop-line.seat.view c.loop-line.report.items c.requires.limits
+    ready_here c.args.self.now.trace.now c.loop-line.line-index c.loop-line.phase c.loop-line.workers c.deref.result.now
+    c.loop-line.seat.view c.loop-line.report.items c.requires.limits
     (going_as c.loop-line.invariant.going refl refl c.deref.ensures.value refl refl)
 
 pub pass_phase-requires-clause-main : goal.pass_phase-requires-clause-main
 pass_phase-requires-clause-main g c κs within =
-    main_here c.args.self.now.trace.now c.loop-line.line-index c.loop-line.phase c.loop-line.workers c.loop-line.queues.items c.loop-line.seat.view c.loop-line.report.items c.requires.limits
+    main_here c.args.self.now.trace.now c.loop-line.line-index c.loop-line.phase c.loop-line.workers c.loop-line.queues.items
+    c.loop-line.seat.view c.loop-line.report.items c.requires.limits
     c.loop-line.invariant.going
 
 pub pass_phase-requires-clause-few : goal.pass_phase-requires-clause-few
 pass_phase-requires-clause-few g c κs within =
-    few_here c.args.self.now.trace.now c.loop-line.line-index c.loop-line.phase c.loop-line.workers c.loop-line.queues.items c.loop-line.seat.view c.loop-line.report.items c.requires.limits
+    few_here c.args.self.now.trace.now c.loop-line.line-index c.loop-line.phase c.loop-line.workers c.loop-line.queues.items
+    c.loop-line.seat.view c.loop-line.report.items c.requires.limits
     c.loop-line.invariant.going
 
 pub returns-clause-played : goal.returns-clause-played

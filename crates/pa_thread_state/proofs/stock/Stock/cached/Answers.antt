@@ -1,35 +1,29 @@
-use Rattle.std.proofs.Common.{◌≡◌, ◌≤◌, length, ◌∙◌, ap, arith}
-use Rattle.pa_buckets.specs.Table.{slot_of}
-use Rattle.pa_buckets.proofs.Facts.{IsRow_1-of}
-use Rattle.pa_op_specs.specs.Stocks.{listed_in}
-use Rattle.pa_thread_state.proofs.Adding.{added_all, added_more}
-use Rattle.pa_thread_state.proofs.Purging.{listed_sparse}
+use Rattle.std.proofs.Common.{◌∙◌, length, ap, arith}
+use Rattle.std.proofs.lemmas.List.{length-map}
+use Rattle.pa_root.specs.Handing.{at_number_seen}
+use Rattle.pa_rules.specs.Caches.{listed_slots}
+use Rattle.pa_rules.specs.Report.{listed_bytes}
+use Rattle.pa_op_specs.specs.Stocks.{StockValue, listed_in, titles_in}
+use Rattle.pa_thread_state.specs.Lists.{lists_in, numbered_in}
+use Rattle.pa_thread_state.proofs.Summing.{most_slots}
+use Rattle.pa_thread_state.proofs.Fronting.{list_few}
+use Rattle.pa_thread_state.proofs.Staying.{stock_of}
 use Rattle.pa_thread_state.proofs.stock.Stock.cached.Goals as goal
-
-pub listed-slots-requires-clause-small : goal.listed-slots-requires-clause-small
-listed-slots-requires-clause-small g c =
-    let class : c.unwrap-class.result ≡ c.loop-number.number = grind (arith, c.unwrap-class.ensures, c.of.ensures.class) in
-    omega (arith, class, c.loop-number-test.true)
-
-pub loop-number-preserved : goal.loop-number-preserved
-loop-number-preserved g c =
-    let class : c.unwrap-class.result ≡ c.loop-number.number = grind (arith, c.unwrap-class.ensures, c.of.ensures.class) in
-    let lists = listed_in c.args.self.now c.args.partition in
-    let few : c.listed-slots.result ≤ 64 =
-    let a = c.listed-slots.ensures.few in
-    let b = (IsRow_1-of c.unwrap-class.result c.listed-slots.ensures.small).few_kept in
-    omega arith in
-    let slots : c.from-in-loop-number-2.result ≡ c.from.result = omega (arith, c.from.ensures, c.from-in-loop-number-2.ensures) in
-    rw slots
-    (added_more lists c.loop-number.number c.listed-slots.result c.from.result c.from-in-loop-number.result c.loop-number.tally c.loop-number-test.true
-    (c.listed-slots.ensures.slots ∙ ap (λ k. length (lists k)) class) few c.from.ensures (c.from-in-loop-number.ensures ∙ (c.slot_size.ensures.size ∙ ap slot_of class)) c.loop-number.invariant)
 
 pub returns-clause-slots : goal.returns-clause-slots
 returns-clause-slots g c =
-    (added_all (listed_in c.args.self.now c.args.partition) c.loop-number.number c.loop-number.tally (listed_sparse c.args.self.now c.args.partition)
-    (let a = c.loop-number-test.false in let b = c.loop-number.auto.number-end in omega arith) c.loop-number.invariant).0
+    (c.sum.ensures c.self.inside.seat.view).slots ∙ ap (λ (z : StockValue). listed_slots (listed_in z c.args.partition) 0 170) c.self.view_is
 
 pub returns-clause-bytes : goal.returns-clause-bytes
 returns-clause-bytes g c =
-    (added_all (listed_in c.args.self.now c.args.partition) c.loop-number.number c.loop-number.tally (listed_sparse c.args.self.now c.args.partition)
-    (let a = c.loop-number-test.false in let b = c.loop-number.auto.number-end in omega arith) c.loop-number.invariant).1
+    (c.sum.ensures c.self.inside.seat.view).bytes
+    ∙ ap (λ (z : StockValue). listed_bytes (λ class. length (listed_in z c.args.partition class)) 0 170) c.self.view_is
+
+pub returns-clause-few : goal.returns-clause-few
+returns-clause-few g c =
+    let v = c.self.inside.seat.view in let cs = c.self.inside.caches in let p = c.args.partition in
+    most_slots (numbered_in v cs p) 64 c.sum.result
+    (λ class.
+    let long = length-map (titles_in (lists_in v cs) p class) (at_number_seen v) in
+    let few = list_few (stock_of c.self.inside.thread c.self.inside.partitions v c.self.inside.registers cs) p class c.self.invariant.1 in
+    omega (arith, long, few)) (c.sum.ensures v)

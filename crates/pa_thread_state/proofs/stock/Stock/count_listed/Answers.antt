@@ -1,22 +1,27 @@
-use Rattle.std.proofs.Common.{◌≡◌, ◌<◌, ◌∙◌, length, sym, ap, arith}
-use Rattle.std.specs.Prelude.{map}
-use Rattle.std.proofs.lemmas.List.{get_or-map, length-map}
-use Rattle.pa_cache.specs.Chained.{list_in}
+use Rattle.std.proofs.Common.{◌∙◌, length, sym, subst, ap, arith}
+use Rattle.pa_rules.specs.Sizes.{HasClass}
+use Rattle.pa_rules.proofs.Versions.{real_in}
 use Rattle.pa_op_specs.specs.Stocks.{StockValue, titles_in}
-use Rattle.pa_thread_state.proofs.Fronting.{cache_of}
+use Rattle.pa_thread_state.proofs.Chained.{as_many, titles_of_list}
 use Rattle.pa_thread_state.proofs.stock.Stock.count_listed.Goals as goal
+
+pub len-requires-clause-class : goal.len-requires-clause-class
+len-requires-clause-class g c = subst (λ (z : StockValue). HasClass z.caches.version c.args.class) (sym c.self.view_is) c.requires.class
+
+pub returns-clause-count : goal.returns-clause-count
+returns-clause-count g c =
+    let v = c.self.inside.seat.view in let cs = c.self.inside.caches in let p = c.args.partition in let class = c.args.class in
+    let real = subst (λ (z : StockValue). HasClass z.caches.version class) (sym c.self.view_is) c.requires.class in
+    c.len.ensures.count v
+    ∙ (sym (ap length (titles_of_list v cs p class c.requires.partition real (as_many v cs c.self.invariant.1.lists.count)))
+    ∙ ap (λ (z : StockValue). length (titles_in z.caches p class)) c.self.view_is)
 
 pub returns-clause-few : goal.returns-clause-few
 returns-clause-few g c =
-    let v = c.self.inside.seat.view in let cs = c.self.inside.caches.items in let x = c.index.result.now in
-    let p = c.args.partition in let class = c.args.class in let place = c.place_of-place.result in
-    let i : StockValue = record { thread = c.self.inside.thread; partitions = c.self.inside.partitions; view = v; registers = c.self.inside.registers; caches = map (list_in v) cs } in
-    let within : place < length cs =
-    let n = c.self.invariant.1.lists.count in let k = c.place_of-place.ensures.among in omega (arith, length-map cs (list_in v)) in
-    let at = cache_of i p class place (list_in v x) c.self.invariant.1 c.requires.partition c.place_of-place.ensures.small
-    c.place_of-place.ensures.place (ap (list_in v) c.index.ensures ∙ sym (get_or-map (list_in v) cs place x (list_in v x) within)) in
-    let len = c.len.ensures v in
-    let long : length (list_in v x).titles ≡ length (titles_in i.caches p class) = ap length at.titles_are in
+    let v = c.self.inside.seat.view in let cs = c.self.inside.caches in let p = c.args.partition in let class = c.args.class in
+    let real = subst (λ (z : StockValue). HasClass z.caches.version class) (sym c.self.view_is) c.requires.class in
+    let counted = c.len.ensures.count v in
+    let long = ap length (titles_of_list v cs p class c.requires.partition real (as_many v cs c.self.invariant.1.lists.count)) in
     let few = c.self.invariant.1.lists.few p class in
-    let kept = (c.rows_have_bounds.ensures.bounds class (omega (arith, c.place_of-place.ensures.small))).few_kept in
-    omega arith
+    let kept = (c.rows_have_bounds.ensures.bounds class (real_in cs.version class real)).few_kept in
+    omega (arith, counted, long, few, kept)

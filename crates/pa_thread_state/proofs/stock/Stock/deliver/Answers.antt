@@ -10,16 +10,16 @@ use Rattle.pa_thread_state.proofs.stock.Stock.deliver.Goals as goal
 
 pub to_root-requires-clause-lender : goal.to_root-requires-clause-lender
 to_root-requires-clause-lender g c =
-    let i = stock_of c.self.inside.thread c.self.inside.partitions c.self.inside.seat.view c.self.inside.registers c.self.inside.caches.items in
+    let i = stock_of c.self.inside.thread c.self.inside.partitions c.self.inside.seat.view c.self.inside.registers c.self.inside.caches in
     let stake = subst (λ (z : StockValue). HasItsStake z) (sym c.self.view_is) c.requires.stake in
     ((least_is i.thread i.view c.self.invariant.1.stake stake).1, c.self.invariant.1.handles.clean)
 
 pub invariant_of-self : goal.invariant_of-self
 invariant_of-self g c =
-    let i = stock_of c.self.inside.thread c.self.inside.partitions c.self.inside.seat.view c.self.inside.registers c.self.inside.caches.items in
+    let i = stock_of c.self.inside.thread c.self.inside.partitions c.self.inside.seat.view c.self.inside.registers c.self.inside.caches in
     let h = c.args.handle.now in
     let w = c.to_root.new.seat.view in
-    let cs = c.self.inside.caches.items in
+    let cs = c.self.inside.caches in
     let same = same_view c.to_root.result c.to_root.new.seat c.self.inside.seat c.to_root.ensures.same in
     let them = delivered_has c.slots_stay_seen.ensures i cs w c.args.note.view h.class _ h.partition c.args.line h.title c.to_root.result refl c.self.invariant.1
     c.self.invariant.2 c.to_root.ensures.comes same in
@@ -27,10 +27,10 @@ invariant_of-self g c =
 
 pub returns-clause-alone : goal.returns-clause-alone
 returns-clause-alone g c =
-    let i = stock_of c.self.inside.thread c.self.inside.partitions c.self.inside.seat.view c.self.inside.registers c.self.inside.caches.items in
+    let i = stock_of c.self.inside.thread c.self.inside.partitions c.self.inside.seat.view c.self.inside.registers c.self.inside.caches in
     let h = c.args.handle.now in
     let w = c.to_root.new.seat.view in
-    let cs = c.self.inside.caches.items in
+    let cs = c.self.inside.caches in
     let same = same_view c.to_root.result c.to_root.new.seat c.self.inside.seat c.to_root.ensures.same in
     let them = delivered_has c.slots_stay_seen.ensures i cs w c.args.note.view h.class _ h.partition c.args.line h.title c.to_root.result refl c.self.invariant.1
     c.self.invariant.2 c.to_root.ensures.comes same in
@@ -38,10 +38,10 @@ returns-clause-alone g c =
 
 pub returns-clause-same : goal.returns-clause-same
 returns-clause-same g c =
-    let i = stock_of c.self.inside.thread c.self.inside.partitions c.self.inside.seat.view c.self.inside.registers c.self.inside.caches.items in
+    let i = stock_of c.self.inside.thread c.self.inside.partitions c.self.inside.seat.view c.self.inside.registers c.self.inside.caches in
     let h = c.args.handle.now in
     let w = c.to_root.new.seat.view in
-    let cs = c.self.inside.caches.items in
+    let cs = c.self.inside.caches in
     let same = same_view c.to_root.result c.to_root.new.seat c.self.inside.seat c.to_root.ensures.same in
     let them = delivered_has c.slots_stay_seen.ensures i cs w c.args.note.view h.class _ h.partition c.args.line h.title c.to_root.result refl c.self.invariant.1
     c.self.invariant.2 c.to_root.ensures.comes same in
@@ -50,7 +50,7 @@ returns-clause-same g c =
 
 pub returns-clause-comes : goal.returns-clause-comes
 returns-clause-comes g c =
-    let i = stock_of c.self.inside.thread c.self.inside.partitions c.self.inside.seat.view c.self.inside.registers c.self.inside.caches.items in
+    let i = stock_of c.self.inside.thread c.self.inside.partitions c.self.inside.seat.view c.self.inside.registers c.self.inside.caches in
     let h = c.args.handle.now in
     let w = c.to_root.new.seat.view in
     let stake = subst (λ (z : StockValue). HasItsStake z) (sym c.self.view_is) c.requires.stake in

@@ -19,7 +19,7 @@ use Rattle.pa_thread_state.proofs.stock.Stock.give_batch.Goals as goal
 
 pub give_titles-requires-clause-lender : goal.give_titles-requires-clause-lender
 give_titles-requires-clause-lender g c =
-    let i = stock_of c.self.inside.thread c.self.inside.partitions c.self.inside.seat.view c.self.inside.registers c.self.inside.caches.items in
+    let i = stock_of c.self.inside.thread c.self.inside.partitions c.self.inside.seat.view c.self.inside.registers c.self.inside.caches in
     let s = c.args.self.now in let b = c.take_batch-titles.new.self in let p = c.args.partition in let class = c.args.class in let keep = c.args.keep in
     let is = c.kept.ensures.stock in let takes = c.take_batch-titles.ensures.rest in
     let stake = subst (λ (z : StockValue). HasItsStake z) (sym c.self.view_is) (taken_stake s b p class keep is takes c.requires.stake) in
@@ -50,15 +50,15 @@ give_titles-requires-clause-named g c t among =
 
 pub invariant_of-self-2 : goal.invariant_of-self-2
 invariant_of-self-2 g c =
-    let i = stock_of c.self.inside.thread c.self.inside.partitions c.self.inside.seat.view c.self.inside.registers c.self.inside.caches.items in
+    let i = stock_of c.self.inside.thread c.self.inside.partitions c.self.inside.seat.view c.self.inside.registers c.self.inside.caches in
     let s = c.args.self.now in let b = c.take_batch-titles.new.self in let p = c.args.partition in let class = c.args.class in let keep = c.args.keep in
     let is = c.kept.ensures.stock in let takes = c.take_batch-titles.ensures.rest in
-    let w = c.give_titles.new.seat.view in let cs = c.self.inside.caches.items in let line = c.args.line in let titles = c.take_batch-titles.result.items in
+    let w = c.give_titles.new.seat.view in let cs = c.self.inside.caches in let line = c.args.line in let titles = c.take_batch-titles.result.items in
     let stake = subst (λ (z : StockValue). HasItsStake z) (sym c.self.view_is) (taken_stake s b p class keep is takes c.requires.stake) in
     let least = (least_is i.thread i.view c.self.invariant.1.stake stake).0 in
     let hands = subst (λ r. HandsBack r line p titles i.view w) least c.in_ok-give_titles.ensures.gave in
     let done = batch_done s b p class keep is takes c.kept_numbers_stay.ensures c.slots_stay_seen.ensures w titles line c.kept-2.ensures.stock c.kept-2.ensures.aware
-    c.aware.ensures.aware c.requires.partition c.requires.small c.take_batch-titles.ensures.titles c.take_batch-titles.ensures.different
+    c.aware.ensures.aware c.requires.partition c.requires.class c.take_batch-titles.ensures.titles c.take_batch-titles.ensures.different
     (subst (λ (z : StockValue). HandsBack z.thread line p titles z.view w) c.self.view_is hands) in
     let now = subst (λ (z : StockValue). IsStock (record z { view = w })) (sym c.self.view_is) done.0 in
     let them = has_still i w i.registers cs refl c.self.invariant.1 c.self.invariant.2 now
@@ -67,15 +67,15 @@ invariant_of-self-2 g c =
 
 pub returns-clause-gives : goal.returns-clause-gives
 returns-clause-gives g c =
-    let i = stock_of c.self.inside.thread c.self.inside.partitions c.self.inside.seat.view c.self.inside.registers c.self.inside.caches.items in
+    let i = stock_of c.self.inside.thread c.self.inside.partitions c.self.inside.seat.view c.self.inside.registers c.self.inside.caches in
     let s = c.args.self.now in let b = c.take_batch-titles.new.self in let p = c.args.partition in let class = c.args.class in let keep = c.args.keep in
     let is = c.kept.ensures.stock in let takes = c.take_batch-titles.ensures.rest in
-    let w = c.give_titles.new.seat.view in let cs = c.self.inside.caches.items in let line = c.args.line in let titles = c.take_batch-titles.result.items in
+    let w = c.give_titles.new.seat.view in let cs = c.self.inside.caches in let line = c.args.line in let titles = c.take_batch-titles.result.items in
     let stake = subst (λ (z : StockValue). HasItsStake z) (sym c.self.view_is) (taken_stake s b p class keep is takes c.requires.stake) in
     let least = (least_is i.thread i.view c.self.invariant.1.stake stake).0 in
     let hands = subst (λ r. HandsBack r line p titles i.view w) least c.in_ok-give_titles.ensures.gave in
     let done = batch_done s b p class keep is takes c.kept_numbers_stay.ensures c.slots_stay_seen.ensures w titles line c.kept-2.ensures.stock c.kept-2.ensures.aware
-    c.aware.ensures.aware c.requires.partition c.requires.small c.take_batch-titles.ensures.titles c.take_batch-titles.ensures.different
+    c.aware.ensures.aware c.requires.partition c.requires.class c.take_batch-titles.ensures.titles c.take_batch-titles.ensures.different
     (subst (λ (z : StockValue). HandsBack z.thread line p titles z.view w) c.self.view_is hands) in
     let now = subst (λ (z : StockValue). IsStock (record z { view = w })) (sym c.self.view_is) done.0 in
     let them = has_still i w i.registers cs refl c.self.invariant.1 c.self.invariant.2 now
@@ -85,9 +85,9 @@ returns-clause-gives g c =
 
 pub invariant_of-self : goal.invariant_of-self
 invariant_of-self g c =
-    let i = stock_of c.self.inside.thread c.self.inside.partitions c.self.inside.seat.view c.self.inside.registers c.self.inside.caches.items in
+    let i = stock_of c.self.inside.thread c.self.inside.partitions c.self.inside.seat.view c.self.inside.registers c.self.inside.caches in
     let w = c.give_titles.new.seat.view in let back = c.in_err-give_titles.ensures.back in
-    let them = has_still i w i.registers c.self.inside.caches.items refl c.self.invariant.1 c.self.invariant.2
+    let them = has_still i w i.registers c.self.inside.caches refl c.self.invariant.1 c.self.invariant.2
     (back_stock c.slots_stay_seen.ensures i w c.self.invariant.1 back) (λ p class t among. back.words (t.start / 8)) in
     (c.give_titles.ensures.region, them.stock, them.holds)
 
@@ -109,10 +109,10 @@ returns-in_err-give_titles-clause-stake g c =
 
 pub returns-in_err-give_titles-clause-refused : goal.returns-in_err-give_titles-clause-refused
 returns-in_err-give_titles-clause-refused g c =
-    let i = stock_of c.self.inside.thread c.self.inside.partitions c.self.inside.seat.view c.self.inside.registers c.self.inside.caches.items in
+    let i = stock_of c.self.inside.thread c.self.inside.partitions c.self.inside.seat.view c.self.inside.registers c.self.inside.caches in
     let w = c.give_titles.new.seat.view in let back = c.in_err-give_titles.ensures.back in
-    let them = has_still i w i.registers c.self.inside.caches.items refl c.self.invariant.1 c.self.invariant.2
+    let them = has_still i w i.registers c.self.inside.caches refl c.self.invariant.1 c.self.invariant.2
     (back_stock c.slots_stay_seen.ensures i w c.self.invariant.1 back) (λ p class t among. back.words (t.start / 8)) in
     any_err c.from_residual.result _ (refused c.args.self.now c.take_batch-titles.new.self _ w c.args.partition c.args.class c.args.keep c.kept.ensures.stock
-    c.requires.partition c.requires.small c.take_batch-titles.ensures.rest (subst (λ (z : StockValue). TakesBack z.view w) c.self.view_is back)
-    (after_as i w w i.registers c.self.inside.caches.items refl them ∙ ap (λ (z : StockValue). record z { view = w }) c.self.view_is))
+    c.requires.partition c.requires.class c.take_batch-titles.ensures.rest (subst (λ (z : StockValue). TakesBack z.view w) c.self.view_is back)
+    (after_as i w w i.registers c.self.inside.caches refl them ∙ ap (λ (z : StockValue). record z { view = w }) c.self.view_is))

@@ -1,4 +1,5 @@
-use Rattle.std.proofs.Common.{◌*◌, ◌+◌, ◌≤◌, length, refl, ◌∙◌, arith}
+use Rattle.std.proofs.Common.{◌*◌, ◌+◌, ◌≤◌, length, refl, sym, ◌∙◌, subst, arith}
+use Rattle.pa_rules.specs.Sizes.{HasClass}
 use Rattle.pa_slot.proofs.Outcomes.{any_err}
 use Rattle.pa_op_specs.specs.Stocks.{titles_in}
 use Rattle.pa_thread_state.proofs.Tails.{some_none, some_left, some_stake, some_thread, some_more, some_all}
@@ -15,6 +16,9 @@ pub give_batch-requires-clause-some : goal.give_batch-requires-clause-some
 give_batch-requires-clause-some g c =
     some_left c.args.line c.args.partition c.args.class c.args.keep c.loop-done.done c.args.self.now c.loop-done.self c.loop-done.invariant.some
     (c.batches_behind-batches.ensures.no_more c.loop-done.done c.loop-done-test.true)
+
+pub give_batch-requires-clause-class : goal.give_batch-requires-clause-class
+give_batch-requires-clause-class g c = subst (λ v. HasClass v c.args.class) (sym c.loop-done.invariant.some.given.version) c.requires.class
 
 pub loop-done-preserved : goal.loop-done-preserved
 loop-done-preserved g c = record {

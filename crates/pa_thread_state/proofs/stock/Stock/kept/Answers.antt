@@ -8,4 +8,4 @@ use Rattle.pa_thread_state.proofs.stock.Stock.kept.Goals as goal
 pub returns-clause-links : goal.returns-clause-links
 returns-clause-links g c p class =
     subst (λ (s : StockValue). AreLinked s.view.words (slot_names (titles_in s.caches p class))) c.self.view_is
-    (linked_all c.self.inside.seat.view c.self.inside.caches.items p class c.self.invariant.2)
+    (linked_all c.self.inside.seat.view c.self.inside.caches p class c.self.invariant.2)

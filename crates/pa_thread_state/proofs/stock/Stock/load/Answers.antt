@@ -1,95 +1,111 @@
-use Rattle.std.proofs.Common.{◌≡◌, ◌<◌, ◌∙◌, length, sym, subst, ap, arith}
-use Rattle.std.specs.Prelude.{map}
-use Rattle.std.proofs.lemmas.List.{get_or-map, length-map}
+use Rattle.std.proofs.Common.{◌∙◌, sym, subst, ap}
 use Rattle.std.proofs.lemmas.List.Elements.{All-contains}
 use Rattle.pa_slot.specs.Titles.{IsWellFormed}
 use Rattle.pa_buckets.specs.Table.{slot_of}
 use Rattle.pa_region.specs.Aware.{IsAware}
+use Rattle.pa_rules.specs.Sizes.{HasClass}
 use Rattle.pa_link.specs.Chains.{Relinked}
 use Rattle.pa_cache.specs.Caches.{CacheList, IsCache}
 use Rattle.pa_cache.specs.Chained.{list_in}
 use Rattle.pa_op_specs.specs.Stocks.{StockValue, IsStock}
 use Rattle.pa_thread_state.specs.Allocating.{CanLoad, with_listed}
-use Rattle.pa_thread_state.proofs.Fronting.{cache_of}
-use Rattle.pa_thread_state.proofs.Chained.{relisted, stock_relinked}
+use Rattle.pa_thread_state.proofs.Chained.{as_many, relisted, stock_relinked}
+use Rattle.pa_thread_state.proofs.Fronting.{part_at}
 use Rattle.pa_thread_state.proofs.Receiving.{loaded_stock, loads_free}
+use Rattle.pa_thread_state.proofs.Staying.{stock_of}
 use Rattle.pa_thread_state.proofs.stock.Stock.load.Goals as goal
 
 pub all_placed-requires : goal.all_placed-requires
 all_placed-requires g c =
-    let i : StockValue = record { thread = c.self.inside.thread; partitions = c.self.inside.partitions; view = c.self.inside.seat.view; registers = c.self.inside.registers; caches = map (list_in c.self.inside.seat.view) c.self.inside.caches.items } in
-    loads_free i c.args.partition c.args.class c.args.titles.now (subst (λ (z : StockValue). CanLoad c.args.partition c.args.class c.args.titles.now z) (sym c.self.view_is) c.requires.can)
+    let v = c.self.inside.seat.view in let cs = c.self.inside.caches in
+    let i = stock_of c.self.inside.thread c.self.inside.partitions v c.self.inside.registers cs in
+    let long = as_many v cs c.self.invariant.1.lists.count in
+    loads_free i c.args.partition c.args.class c.args.titles.now
+    (subst (λ (z : StockValue). CanLoad c.args.partition c.args.class c.args.titles.now z) (sym c.self.view_is) c.requires.can)
+
+pub load-requires-clause-partition : goal.load-requires-clause-partition
+load-requires-clause-partition g c = c.requires.can.partition
+
+pub load-requires-clause-class : goal.load-requires-clause-class
+load-requires-clause-class g c = subst (λ (z : StockValue). HasClass z.caches.version c.args.class) (sym c.self.view_is) c.requires.class
 
 pub load-requires-clause-empty : goal.load-requires-clause-empty
 load-requires-clause-empty g c =
-    let i : StockValue = record { thread = c.self.inside.thread; partitions = c.self.inside.partitions; view = c.self.inside.seat.view; registers = c.self.inside.registers; caches = map (list_in c.self.inside.seat.view) c.self.inside.caches.items } in
-    let can = subst (λ (z : StockValue). CanLoad c.args.partition c.args.class c.args.titles.now z) (sym c.self.view_is) c.requires.can in
-    let v = c.self.inside.seat.view in let cs = c.self.inside.caches.items in let x = c.index_mut-cache.result.now in
-    let within : c.place_of-place.result < length cs =
-    let n = c.self.invariant.1.lists.count in let k = c.place_of-place.ensures.among in omega (arith, length-map cs (list_in v)) in
-    let at = cache_of i c.args.partition c.args.class c.place_of-place.result (list_in v x) c.self.invariant.1 can.partition
-    c.place_of-place.ensures.small c.place_of-place.ensures.place
-    (ap (list_in v) c.index_mut-cache.ensures.value ∙ sym (get_or-map (list_in v) cs c.place_of-place.result x (list_in v x) within)) in
-    at.titles_are ∙ can.empty
+    let v = c.self.inside.seat.view in let cs = c.self.inside.caches in
+    let i = stock_of c.self.inside.thread c.self.inside.partitions v c.self.inside.registers cs in
+    let long = as_many v cs c.self.invariant.1.lists.count in
+    let p = c.args.partition in let class = c.args.class in
+    let can = subst (λ (z : StockValue). CanLoad p class c.args.titles.now z) (sym c.self.view_is) c.requires.can in
+    let real = subst (λ (z : StockValue). HasClass z.caches.version class) (sym c.self.view_is) c.requires.class in
+    (part_at i cs p class c.self.invariant.1 can.partition real).titles_are ∙ can.empty
+
+pub load-requires-clause-few : goal.load-requires-clause-few
+load-requires-clause-few g c = c.requires.can.batch
 
 pub load-requires-clause-free : goal.load-requires-clause-free
 load-requires-clause-free g c =
-    let i : StockValue = record { thread = c.self.inside.thread; partitions = c.self.inside.partitions; view = c.self.inside.seat.view; registers = c.self.inside.registers; caches = map (list_in c.self.inside.seat.view) c.self.inside.caches.items } in
-    loads_free i c.args.partition c.args.class c.args.titles.now (subst (λ (z : StockValue). CanLoad c.args.partition c.args.class c.args.titles.now z) (sym c.self.view_is) c.requires.can)
+    let v = c.self.inside.seat.view in let cs = c.self.inside.caches in
+    let i = stock_of c.self.inside.thread c.self.inside.partitions v c.self.inside.registers cs in
+    let long = as_many v cs c.self.invariant.1.lists.count in
+    loads_free i c.args.partition c.args.class c.args.titles.now
+    (subst (λ (z : StockValue). CanLoad c.args.partition c.args.class c.args.titles.now z) (sym c.self.view_is) c.requires.can)
 
 pub load-requires-clause-size : goal.load-requires-clause-size
 load-requires-clause-size g c =
-    let i : StockValue = record { thread = c.self.inside.thread; partitions = c.self.inside.partitions; view = c.self.inside.seat.view; registers = c.self.inside.registers; caches = map (list_in c.self.inside.seat.view) c.self.inside.caches.items } in
-    let can = subst (λ (z : StockValue). CanLoad c.args.partition c.args.class c.args.titles.now z) (sym c.self.view_is) c.requires.can in
-    let v = c.self.inside.seat.view in let cs = c.self.inside.caches.items in let x = c.index_mut-cache.result.now in
-    let within : c.place_of-place.result < length cs =
-    let n = c.self.invariant.1.lists.count in let k = c.place_of-place.ensures.among in omega (arith, length-map cs (list_in v)) in
-    let at = cache_of i c.args.partition c.args.class c.place_of-place.result (list_in v x) c.self.invariant.1 can.partition
-    c.place_of-place.ensures.small c.place_of-place.ensures.place
-    (ap (list_in v) c.index_mut-cache.ensures.value ∙ sym (get_or-map (list_in v) cs c.place_of-place.result x (list_in v x) within)) in
+    let v = c.self.inside.seat.view in let cs = c.self.inside.caches in
+    let i = stock_of c.self.inside.thread c.self.inside.partitions v c.self.inside.registers cs in
+    let long = as_many v cs c.self.invariant.1.lists.count in
+    let p = c.args.partition in let class = c.args.class in
+    let can = subst (λ (z : StockValue). CanLoad p class c.args.titles.now z) (sym c.self.view_is) c.requires.can in
+    let real = subst (λ (z : StockValue). HasClass z.caches.version class) (sym c.self.view_is) c.requires.class in
+    let at = part_at i cs p class c.self.invariant.1 can.partition real in
     λ k d less. can.sized k d less ∙ ap slot_of (sym at.class_is)
+
+pub load-requires-clause-different : goal.load-requires-clause-different
+load-requires-clause-different g c = c.requires.can.differ
 
 pub invariant_of-self : goal.invariant_of-self
 invariant_of-self g c =
-    let v = c.self.inside.seat.view in let cs = c.self.inside.caches.items in let x = c.index_mut-cache.result.now in
-    let w = c.load.new.seat.view in let y = c.load.new.self in let place = c.place_of-place.result in
+    let v = c.self.inside.seat.view in let cs = c.self.inside.caches in
+    let i = stock_of c.self.inside.thread c.self.inside.partitions v c.self.inside.registers cs in
+    let long = as_many v cs c.self.invariant.1.lists.count in
     let p = c.args.partition in let class = c.args.class in let ts = c.args.titles.now in
-    let i : StockValue = record { thread = c.self.inside.thread; partitions = c.self.inside.partitions; view = v; registers = c.self.inside.registers; caches = map (list_in v) cs } in
+    let w = c.load.new.seat.view in let after = c.load.new.self in
     let can = subst (λ (z : StockValue). CanLoad p class ts z) (sym c.self.view_is) c.requires.can in
+    let real = subst (λ (z : StockValue). HasClass z.caches.version class) (sym c.self.view_is) c.requires.class in
     let aware = subst (λ (z : StockValue). IsAware z.view) (sym c.self.view_is) c.kept.ensures.aware in
-    let long : length cs ≡ 236 = sym (length-map cs (list_in v)) ∙ c.self.invariant.1.lists.count in
-    let within : place < length cs = let k = c.place_of-place.ensures.among in omega arith in
-    let at = cache_of i p class place (list_in v x) c.self.invariant.1 can.partition c.place_of-place.ensures.small
-    c.place_of-place.ensures.place (ap (list_in v) c.index_mut-cache.ensures.value ∙ sym (get_or-map (list_in v) cs place x (list_in v x) within)) in
-    let both = relisted c.other_lists_stay.ensures v w cs p class place y ts long c.place_of-place.ensures.place aware c.self.invariant.2
-    c.load.ensures.list (c.load.ensures.class ∙ at.class_is) c.load.ensures.titles c.load.ensures.relinked c.load.ensures.beside
+    let at = part_at i cs p class c.self.invariant.1 can.partition real in
+    let re = c.load.ensures.loaded in
+    let both = relisted c.other_lists_stay.ensures v w cs after p class ts can.partition real long aware c.self.invariant.2 re at.class_is
     (λ t inside. (_, All-contains (IsWellFormed _) ts t c.all_placed.ensures inside)) (λ t inside q other there. absurd (can.new q other t there inside)) in
-    let sound = subst (λ (l : CacheList). IsCache l) (ap (λ n. record { class = n; titles = (list_in w y).titles }) (c.load.ensures.class ∙ at.class_is)
-    ∙ ap (λ us. record { class = class; titles = us }) c.load.ensures.titles) c.load.ensures.list.is in (
+    let now = re.becomes in
+    let sound = subst (λ (l : CacheList). IsCache l) (ap (λ n. record { class = n; titles = (list_in w now.new).titles }) (now.class_is ∙ at.class_is)
+    ∙ ap (λ us. record { class = class; titles = us }) now.titles_are) now.list.is in (
       c.load.ensures.region ∙ c.self.invariant.0,
       subst (λ ls. IsStock (record i { view = w; caches = ls })) (sym both.1)
-          (stock_relinked (record i { caches = with_listed p class ts i.caches }) w c.load.ensures.relinked
-          (loaded_stock i p class ts _ c.self.invariant.1 can c.place_of-place.ensures.small sound c.all_placed.ensures)),
+          (stock_relinked (record i { caches = with_listed p class ts i.caches }) w re.relinked
+          (loaded_stock i p class ts _ c.self.invariant.1 can real sound c.all_placed.ensures)),
       both.0,
     )
 
-pub returns-clause-loaded : goal.returns-clause-loaded
-returns-clause-loaded g c =
-    let v = c.self.inside.seat.view in let cs = c.self.inside.caches.items in let x = c.index_mut-cache.result.now in
-    let w = c.load.new.seat.view in let y = c.load.new.self in let place = c.place_of-place.result in
+pub returns : goal.returns
+returns g c =
+    let v = c.self.inside.seat.view in let cs = c.self.inside.caches in
+    let i = stock_of c.self.inside.thread c.self.inside.partitions v c.self.inside.registers cs in
+    let long = as_many v cs c.self.invariant.1.lists.count in
     let p = c.args.partition in let class = c.args.class in let ts = c.args.titles.now in
-    let i : StockValue = record { thread = c.self.inside.thread; partitions = c.self.inside.partitions; view = v; registers = c.self.inside.registers; caches = map (list_in v) cs } in
+    let w = c.load.new.seat.view in let after = c.load.new.self in
     let can = subst (λ (z : StockValue). CanLoad p class ts z) (sym c.self.view_is) c.requires.can in
+    let real = subst (λ (z : StockValue). HasClass z.caches.version class) (sym c.self.view_is) c.requires.class in
     let aware = subst (λ (z : StockValue). IsAware z.view) (sym c.self.view_is) c.kept.ensures.aware in
-    let long : length cs ≡ 236 = sym (length-map cs (list_in v)) ∙ c.self.invariant.1.lists.count in
-    let within : place < length cs = let k = c.place_of-place.ensures.among in omega arith in
-    let at = cache_of i p class place (list_in v x) c.self.invariant.1 can.partition c.place_of-place.ensures.small
-    c.place_of-place.ensures.place (ap (list_in v) c.index_mut-cache.ensures.value ∙ sym (get_or-map (list_in v) cs place x (list_in v x) within)) in
-    let both = relisted c.other_lists_stay.ensures v w cs p class place y ts long c.place_of-place.ensures.place aware c.self.invariant.2
-    c.load.ensures.list (c.load.ensures.class ∙ at.class_is) c.load.ensures.titles c.load.ensures.relinked c.load.ensures.beside
+    let at = part_at i cs p class c.self.invariant.1 can.partition real in
+    let re = c.load.ensures.loaded in
+    let both = relisted c.other_lists_stay.ensures v w cs after p class ts can.partition real long aware c.self.invariant.2 re at.class_is
     (λ t inside. (_, All-contains (IsWellFormed _) ts t c.all_placed.ensures inside)) (λ t inside q other there. absurd (can.new q other t there inside)) in
     record {
-      after_is = ap (λ ls. record i { view = w; caches = ls }) both.1
-          ∙ ap (λ (z : StockValue). record z { view = w; caches = with_listed p class ts z.caches }) c.self.view_is;
-      relinked = subst (λ (z : StockValue). Relinked z.view w) c.self.view_is c.load.ensures.relinked;
+      loaded = record {
+        after_is = ap (λ ls. record i { view = w; caches = ls }) both.1
+            ∙ ap (λ (z : StockValue). record z { view = w; caches = with_listed p class ts z.caches }) c.self.view_is;
+        relinked = subst (λ (z : StockValue). Relinked z.view w) c.self.view_is re.relinked;
+      };
     }

@@ -1,6 +1,7 @@
-use Rattle.std.proofs.Common.{◌≡◌, ◌-◌, ◌/◌, subst, arith}
+use Rattle.std.proofs.Common.{◌≡◌, ◌-◌, ◌/◌, sym, subst, arith}
 use Rattle.pa_slot.proofs.Outcomes.{any_err}
 use Rattle.pa_buckets.specs.Bands.{limit_of}
+use Rattle.pa_rules.specs.Sizes.{HasClass}
 use Rattle.pa_thread_state.specs.Stopping.{StopsTail}
 use Rattle.pa_thread_state.proofs.Fronts.{can_spill}
 use Rattle.pa_thread_state.proofs.Refused.{stopped_is_back}
@@ -13,6 +14,10 @@ list-requires-clause-can g c =
     let keep = c.saturating_sub-keep.ensures in
     can_spill c.slots_stay_seen.ensures c.args.line c.args.handle.now c.args.class c.saturating_sub-keep.result _ c.args.self.now c.give_tail.new.self c.requires.back c.requires.class
     (omega arith) c.in_ok-give_tail.ensures.gives c.placed.ensures.well
+
+pub list-requires-clause-class : goal.list-requires-clause-class
+list-requires-clause-class g c =
+    subst (λ v. HasClass v c.args.class) (sym c.in_ok-give_tail.ensures.gives.version) c.requires.real
 
 pub returns-in_err-give_tail-clause-stops : goal.returns-in_err-give_tail-clause-stops
 returns-in_err-give_tail-clause-stops g c =

@@ -12,11 +12,12 @@ use Rattle.pa_thread_state.proofs.stock.Stock.take_back.Goals as goal
 
 pub invariant_of-self : goal.invariant_of-self
 invariant_of-self g c =
-    let i = stock_of c.self.inside.thread c.self.inside.partitions c.self.inside.seat.view c.self.inside.registers c.self.inside.caches.items in
+    let i = stock_of c.self.inside.thread c.self.inside.partitions c.self.inside.seat.view c.self.inside.registers c.self.inside.caches in
     let n = c.args.note.view in
     let long = ap (λ (z : StockValue). length z.view.words) c.self.view_is ∙ (c.kept.ensures.long ∙ (ap byte_word_count (sym c.requires.note) ∙ sym c.aware.ensures.long)) in
-    let them = has_as i c.take.new.seat.view (united i.view n) i.registers c.self.inside.caches.items c.take.ensures.view refl c.self.invariant.1 c.self.invariant.2
-    (back_stock c.beginnings_join.ensures c.slots_stay_seen.ensures i n c.requires.has.0 c.self.invariant.1 c.requires.has.1 (subst (λ (v : View). IsAware v) c.take.ensures.view c.aware-2.ensures.aware))
+    let them = has_as i c.take.new.seat.view (united i.view n) i.registers c.self.inside.caches c.take.ensures.view refl c.self.invariant.1 c.self.invariant.2
+    (back_stock c.beginnings_join.ensures c.slots_stay_seen.ensures i n c.requires.has.0 c.self.invariant.1 c.requires.has.1
+    (subst (λ (v : View). IsAware v) c.take.ensures.view c.aware-2.ensures.aware))
     (firsts_join i n c.self.invariant.1 long) in
     (c.take.ensures.region ∙ c.self.invariant.0, them.stock, them.holds)
 
@@ -30,14 +31,14 @@ returns-clause-stake g c =
 
 pub returns-clause-joined : goal.returns-clause-joined
 returns-clause-joined g c =
-    let i = stock_of c.self.inside.thread c.self.inside.partitions c.self.inside.seat.view c.self.inside.registers c.self.inside.caches.items in
+    let i = stock_of c.self.inside.thread c.self.inside.partitions c.self.inside.seat.view c.self.inside.registers c.self.inside.caches in
     let n = c.args.note.view in
     let long = ap (λ (z : StockValue). length z.view.words) c.self.view_is ∙ (c.kept.ensures.long ∙ (ap byte_word_count (sym c.requires.note) ∙ sym c.aware.ensures.long)) in
-    let them = has_as i c.take.new.seat.view (united i.view n) i.registers c.self.inside.caches.items c.take.ensures.view refl c.self.invariant.1 c.self.invariant.2
+    let them = has_as i c.take.new.seat.view (united i.view n) i.registers c.self.inside.caches c.take.ensures.view refl c.self.invariant.1 c.self.invariant.2
     (back_stock c.beginnings_join.ensures c.slots_stay_seen.ensures i n c.requires.has.0 c.self.invariant.1 c.requires.has.1
     (subst (λ (v : View). IsAware v) c.take.ensures.view c.aware-2.ensures.aware))
     (firsts_join i n c.self.invariant.1 long) in
-    after_as i c.take.new.seat.view (united i.view n) i.registers c.self.inside.caches.items c.take.ensures.view them
+    after_as i c.take.new.seat.view (united i.view n) i.registers c.self.inside.caches c.take.ensures.view them
     ∙ ap (λ (z : StockValue). record z { view = united z.view n }) c.self.view_is
 
 pub returns-clause-parted : goal.returns-clause-parted

@@ -18,17 +18,18 @@ take-requires-clause-able g c k t has = none_poisoned c.self.inside.seat.view t 
 
 pub invariant_of-self : goal.invariant_of-self
 invariant_of-self g c =
-    let i = stock_of c.self.inside.thread c.self.inside.partitions c.self.inside.seat.view c.self.inside.registers c.self.inside.caches.items in
+    let i = stock_of c.self.inside.thread c.self.inside.partitions c.self.inside.seat.view c.self.inside.registers c.self.inside.caches in
     let p : ParkedHandle = c.args.parked in
     let view = c.take.ensures.view ∙ ap (λ (n : Share). united i.view n.view) c.parts-handle.ensures.note in
-    let reg = c.register_with.ensures ∙ (ap (λ (b : Bool). handle_register b c.parts-handle.result.0) c.parts-handle.ensures.own ∙ ap (λ (h : Handle). handle_register p.own h) c.parts-handle.ensures.handle) in
+    let reg = c.register_with.ensures ∙ (ap (λ (b : Bool). handle_register b c.parts-handle.result.0) c.parts-handle.ensures.own
+    ∙ ap (λ (h : Handle). handle_register p.own h) c.parts-handle.ensures.handle) in
     let both = subst (λ (v : View). IsAware v) view c.aware-2.ensures.aware in
     let bare = subst (λ (z : StockValue). HasNoHandle (register_in z.registers c.args.reg)) (sym c.self.view_is) c.requires.none in
     let long = ap (λ (z : StockValue). length z.view.words) c.self.view_is ∙ (c.kept.ensures.long
     ∙ (ap byte_word_count (sym (ap (λ (n : Share). n.region) c.parts-handle.ensures.note ∙ c.requires.note)) ∙ (sym c.aware.ensures.long
     ∙ ap (λ (n : Share). length n.view.words) c.parts-handle.ensures.note))) in
     let rs = slice_set i.registers c.args.reg c.register_with.result in
-    let them = has_as i c.take.new.seat.view (united i.view p.note.view) rs c.self.inside.caches.items view refl c.self.invariant.1 c.self.invariant.2
+    let them = has_as i c.take.new.seat.view (united i.view p.note.view) rs c.self.inside.caches view refl c.self.invariant.1 c.self.invariant.2
     (subst (λ (r : StockRegister). IsStock (record i { view = united i.view p.note.view; registers = slice_set i.registers c.args.reg r })) (sym reg)
     (taken_stock c.takers_have_handles.ensures c.beginnings_join.ensures c.slots_stay_seen.ensures i c.args.reg p c.self.invariant.1 c.requires.reg bare c.parts-handle.ensures.parked both))
     (firsts_join i p.note.view c.self.invariant.1 long) in
@@ -36,27 +37,28 @@ invariant_of-self g c =
 
 pub returns : goal.returns
 returns g c =
-    let i = stock_of c.self.inside.thread c.self.inside.partitions c.self.inside.seat.view c.self.inside.registers c.self.inside.caches.items in
+    let i = stock_of c.self.inside.thread c.self.inside.partitions c.self.inside.seat.view c.self.inside.registers c.self.inside.caches in
     let p : ParkedHandle = c.args.parked in
     let view = c.take.ensures.view ∙ ap (λ (n : Share). united i.view n.view) c.parts-handle.ensures.note in
-    let reg = c.register_with.ensures ∙ (ap (λ (b : Bool). handle_register b c.parts-handle.result.0) c.parts-handle.ensures.own ∙ ap (λ (h : Handle). handle_register p.own h) c.parts-handle.ensures.handle) in
+    let reg = c.register_with.ensures ∙ (ap (λ (b : Bool). handle_register b c.parts-handle.result.0) c.parts-handle.ensures.own
+    ∙ ap (λ (h : Handle). handle_register p.own h) c.parts-handle.ensures.handle) in
     let both = subst (λ (v : View). IsAware v) view c.aware-2.ensures.aware in
     let bare = subst (λ (z : StockValue). HasNoHandle (register_in z.registers c.args.reg)) (sym c.self.view_is) c.requires.none in
     let long = ap (λ (z : StockValue). length z.view.words) c.self.view_is ∙ (c.kept.ensures.long
     ∙ (ap byte_word_count (sym (ap (λ (n : Share). n.region) c.parts-handle.ensures.note ∙ c.requires.note)) ∙ (sym c.aware.ensures.long
     ∙ ap (λ (n : Share). length n.view.words) c.parts-handle.ensures.note))) in
     let rs = slice_set i.registers c.args.reg c.register_with.result in
-    let them = has_as i c.take.new.seat.view (united i.view p.note.view) rs c.self.inside.caches.items view refl c.self.invariant.1 c.self.invariant.2
+    let them = has_as i c.take.new.seat.view (united i.view p.note.view) rs c.self.inside.caches view refl c.self.invariant.1 c.self.invariant.2
     (subst (λ (r : StockRegister). IsStock (record i { view = united i.view p.note.view; registers = slice_set i.registers c.args.reg r })) (sym reg)
     (taken_stock c.takers_have_handles.ensures c.beginnings_join.ensures c.slots_stay_seen.ensures i c.args.reg p c.self.invariant.1 c.requires.reg bare c.parts-handle.ensures.parked both))
     (firsts_join i p.note.view c.self.invariant.1 long) in
     record {
-      taken = subst (λ (z : StockValue). TakesHandleIn c.args.reg p z (stock_of i.thread i.partitions c.take.new.seat.view rs c.self.inside.caches.items)) c.self.view_is
+      taken = subst (λ (z : StockValue). TakesHandleIn c.args.reg p z (stock_of i.thread i.partitions c.take.new.seat.view rs c.self.inside.caches)) c.self.view_is
           (record {
             parked = c.parts-handle.ensures.parked;
             aware = subst (λ (n : Share). IsAware n.view) c.parts-handle.ensures.note c.aware.ensures.aware;
             long = long;
-            after_is = after_as i c.take.new.seat.view (united i.view p.note.view) rs c.self.inside.caches.items view them
+            after_is = after_as i c.take.new.seat.view (united i.view p.note.view) rs c.self.inside.caches view them
                 ∙ ap (λ (r : StockRegister). record i { view = united i.view p.note.view; registers = slice_set i.registers c.args.reg r }) reg;
           });
     }
